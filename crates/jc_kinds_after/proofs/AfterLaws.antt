@@ -98,16 +98,8 @@ if_can v true x y p q = p
 if_can v false x y p q = q
 
 placeless : (type : FieldType) → IsPlaceless (kind (held_of type))
-placeless Byte = tt
-placeless Char = tt
-placeless Double = tt
-placeless Float = tt
-placeless Int = tt
-placeless Long = tt
-placeless Short = tt
-placeless Boolean = tt
-placeless (Object name) = tt
 placeless (Array component) = tt
+placeless _ = tt
 
 results_placeless : (returns : Option FieldType) → AllByRecursion IsPlaceless (result_of returns)
 results_placeless None = tt
@@ -154,47 +146,15 @@ still_method v op name type =
 pub still_member : (v op : ℕ) (what : Option What) → IsStill v (member_step op what)
 still_member v op (Some (whats.Field class name desc)) = still_if v (nat_le op opcode.putfield) _ _ (still_field v op (field_type_in desc)) (still_fails v)
 still_member v op (Some (whats.Method class name desc)) = still_if v (nat_le op opcode.putfield) _ _ (still_fails v) (still_method v op name (method_type_in desc))
-still_member v op (Some (whats.Call name desc)) = still_fails v
-still_member v op (Some (whats.Class name)) = still_fails v
-still_member v op (Some (whats.Int value)) = still_fails v
-still_member v op (Some (whats.Long value)) = still_fails v
-still_member v op (Some whats.Float) = still_fails v
-still_member v op (Some whats.Double) = still_fails v
-still_member v op (Some whats.Text) = still_fails v
-still_member v op (Some whats.Handle) = still_fails v
-still_member v op (Some whats.MethodKind) = still_fails v
-still_member v op (Some (whats.Computed desc)) = still_fails v
-still_member v op None = still_fails v
+still_member v op _ = still_fails v
 
 pub still_interface : (v : ℕ) (what : Option What) → IsStill v (interface_step what)
 still_interface v (Some (whats.Method class name desc)) = still_object v (method_type_in desc)
-still_interface v (Some (whats.Field class name desc)) = still_fails v
-still_interface v (Some (whats.Call name desc)) = still_fails v
-still_interface v (Some (whats.Class name)) = still_fails v
-still_interface v (Some (whats.Int value)) = still_fails v
-still_interface v (Some (whats.Long value)) = still_fails v
-still_interface v (Some whats.Float) = still_fails v
-still_interface v (Some whats.Double) = still_fails v
-still_interface v (Some whats.Text) = still_fails v
-still_interface v (Some whats.Handle) = still_fails v
-still_interface v (Some whats.MethodKind) = still_fails v
-still_interface v (Some (whats.Computed desc)) = still_fails v
-still_interface v None = still_fails v
+still_interface v _ = still_fails v
 
 pub still_dynamic : (v : ℕ) (what : Option What) → IsStill v (dynamic_step what)
 still_dynamic v (Some (whats.Call name desc)) = still_static v (method_type_in desc)
-still_dynamic v (Some (whats.Field class name desc)) = still_fails v
-still_dynamic v (Some (whats.Method class name desc)) = still_fails v
-still_dynamic v (Some (whats.Class name)) = still_fails v
-still_dynamic v (Some (whats.Int value)) = still_fails v
-still_dynamic v (Some (whats.Long value)) = still_fails v
-still_dynamic v (Some whats.Float) = still_fails v
-still_dynamic v (Some whats.Double) = still_fails v
-still_dynamic v (Some whats.Text) = still_fails v
-still_dynamic v (Some whats.Handle) = still_fails v
-still_dynamic v (Some whats.MethodKind) = still_fails v
-still_dynamic v (Some (whats.Computed desc)) = still_fails v
-still_dynamic v None = still_fails v
+still_dynamic v _ = still_fails v
 
 still_plain : (v : ℕ) (h : VerificationType) (wanted : List Want) → IsPlaceless (kind h) → IsStill v (moves (record { wanted = wanted; given = kind h ∷ [] } ∷ []))
 still_plain v h wanted p = still_moves v _ ((p, tt), tt)
@@ -204,19 +164,12 @@ still_computed v None = still_fails v
 still_computed v (Some type) = still_gives v type []
 
 pub still_constant : (v : ℕ) (what : Option What) → IsStill v (constant_step what)
-still_constant v (Some (whats.Int value)) = still_plain v _ [] tt
-still_constant v (Some (whats.Long value)) = still_plain v _ [] tt
-still_constant v (Some whats.Float) = still_plain v _ [] tt
-still_constant v (Some whats.Double) = still_plain v _ [] tt
-still_constant v (Some whats.Text) = still_plain v _ [] tt
-still_constant v (Some (whats.Class name)) = still_plain v _ [] tt
-still_constant v (Some whats.MethodKind) = still_plain v _ [] tt
-still_constant v (Some whats.Handle) = still_plain v _ [] tt
 still_constant v (Some (whats.Computed desc)) = still_computed v (field_type_in desc)
 still_constant v (Some (whats.Field class name desc)) = still_fails v
 still_constant v (Some (whats.Method class name desc)) = still_fails v
 still_constant v (Some (whats.Call name desc)) = still_fails v
 still_constant v None = still_fails v
+still_constant v _ = still_plain v _ [] tt
 
 still_array : (v : ℕ) (name : List ℕ) → IsStill v (array_step name)
 still_array v name = still_if v (nat_le (length (array_of name)) 65535) _ _ (still_plain v _ (wants.Int ∷ []) tt) (still_fails v)
@@ -226,33 +179,12 @@ still_class v op (Some (whats.Class name)) =
     still_if v (nat_eq op opcode.new) _ _ (record { stays = refl; can = tt })
     (still_if v (nat_eq op opcode.anewarray) _ _ (still_array v name)
     (still_if v (nat_eq op opcode.checkcast) _ _ (still_plain v _ (wants.Reference ∷ []) tt) (still_plain v _ (wants.Reference ∷ []) tt)))
-still_class v op (Some (whats.Int value)) = still_fails v
-still_class v op (Some (whats.Long value)) = still_fails v
-still_class v op (Some whats.Float) = still_fails v
-still_class v op (Some whats.Double) = still_fails v
-still_class v op (Some whats.Text) = still_fails v
-still_class v op (Some whats.Handle) = still_fails v
-still_class v op (Some whats.MethodKind) = still_fails v
-still_class v op (Some (whats.Computed desc)) = still_fails v
-still_class v op (Some (whats.Field class name desc)) = still_fails v
-still_class v op (Some (whats.Method class name desc)) = still_fails v
-still_class v op (Some (whats.Call name desc)) = still_fails v
 still_class v op None = still_fails v
+still_class v op _ = still_fails v
 
 pub still_multi : (v dims : ℕ) (what : Option What) → IsStill v (multi_step what dims)
 still_multi v dims (Some (whats.Class name)) = still_plain v _ (replicate dims wants.Int) tt
-still_multi v dims (Some (whats.Int value)) = still_fails v
-still_multi v dims (Some (whats.Long value)) = still_fails v
-still_multi v dims (Some whats.Float) = still_fails v
-still_multi v dims (Some whats.Double) = still_fails v
-still_multi v dims (Some whats.Text) = still_fails v
-still_multi v dims (Some whats.Handle) = still_fails v
-still_multi v dims (Some whats.MethodKind) = still_fails v
-still_multi v dims (Some (whats.Computed desc)) = still_fails v
-still_multi v dims (Some (whats.Field class name desc)) = still_fails v
-still_multi v dims (Some (whats.Method class name desc)) = still_fails v
-still_multi v dims (Some (whats.Call name desc)) = still_fails v
-still_multi v dims None = still_fails v
+still_multi v dims _ = still_fails v
 
 -- ---- the table
 
@@ -347,20 +279,15 @@ module _ (v : ℕ) (uses news : List Use) (returns : Option FieldType) where
   led_shifts : (to : ℕ → ℕ) (insn : Insn) → ((place : ℕ) → pool_place insn ≡ Some place → what_used news place ≡ what_used uses place)
       → step_of news returns (with_places to (with_slot v insn)) ≡ shifted_step v (step_of uses returns insn)
   led_shifts to (insns.Simple op) same = sym (still_simple v returns op).stays
-  led_shifts to (insns.Push op value) same = refl
   led_shifts to (insns.Local op slot) same = local_shifts op slot
-  led_shifts to (insns.Inc slot by) same = refl
   led_shifts to (insns.Constant place) same = ap constant_step (same place refl) ∙ sym (still_constant v (what_used uses place)).stays
   led_shifts to (insns.Constant2 place) same = ap constant_step (same place refl) ∙ sym (still_constant v (what_used uses place)).stays
   led_shifts to (insns.Member op place) same = ap (member_step op) (same place refl) ∙ sym (still_member v op (what_used uses place)).stays
   led_shifts to (insns.Interface place count) same = ap interface_step (same place refl) ∙ sym (still_interface v (what_used uses place)).stays
   led_shifts to (insns.Dynamic place) same = ap dynamic_step (same place refl) ∙ sym (still_dynamic v (what_used uses place)).stays
   led_shifts to (insns.OfClass op place) same = ap (class_step op) (same place refl) ∙ sym (still_class v op (what_used uses place)).stays
-  led_shifts to (insns.NewArray elem) same = refl
   led_shifts to (insns.Multi place dims) same = ap (λ (w : Option What). multi_step w dims) (same place refl) ∙ sym (still_multi v dims (what_used uses place)).stays
-  led_shifts to (insns.Jump op place) same = refl
-  led_shifts to (insns.Table low default arms) same = refl
-  led_shifts to (insns.Lookup default arms) same = refl
+  led_shifts to _ same = refl
 
   pub image_shifts : (insn other : Insn) → IsImage v insn other → ((place : ℕ) → pool_place insn ≡ Some place → what_used news place ≡ what_used uses place)
       → step_of news returns other ≡ shifted_step v (step_of uses returns insn)
@@ -415,20 +342,7 @@ can_shift v uses returns (insns.Lookup default arms) free = (still_forms v opcod
 new_class_led : (v : ℕ) (uses news : List Use) (to : ℕ → ℕ) (insn : Insn) → ((place : ℕ) → pool_place insn ≡ Some place → what_used news place ≡ what_used uses place)
     → new_class news (Some (with_places to (with_slot v insn))) ≡ new_class uses (Some insn)
 new_class_led v uses news to (insns.OfClass op place) same = ap class_in (same place refl)
-new_class_led v uses news to (insns.Simple op) same = refl
-new_class_led v uses news to (insns.Push op value) same = refl
-new_class_led v uses news to (insns.Local op slot) same = refl
-new_class_led v uses news to (insns.Inc slot by) same = refl
-new_class_led v uses news to (insns.Constant place) same = refl
-new_class_led v uses news to (insns.Constant2 place) same = refl
-new_class_led v uses news to (insns.Member op place) same = refl
-new_class_led v uses news to (insns.Interface place count) same = refl
-new_class_led v uses news to (insns.Dynamic place) same = refl
-new_class_led v uses news to (insns.NewArray elem) same = refl
-new_class_led v uses news to (insns.Multi place dims) same = refl
-new_class_led v uses news to (insns.Jump op place) same = refl
-new_class_led v uses news to (insns.Table low default arms) same = refl
-new_class_led v uses news to (insns.Lookup default arms) same = refl
+new_class_led v uses news to _ same = refl
 
 new_class_image : (v : ℕ) (uses news : List Use) (insn other : Insn) → IsImage v insn other → ((place : ℕ) → pool_place insn ≡ Some place → what_used news place ≡ what_used uses place)
     → new_class news (Some other) ≡ new_class uses (Some insn)

@@ -46,11 +46,7 @@ in_range : (count : ℕ) (st : Step) → shifted_step 0 st ≡ st → InRange co
 in_range count (loads k w) e = absurd (moved_up k (let same : slot_of 0 k ≡ k = cc in same))
 in_range count (stores k w) e = absurd (moved_up k (let same : slot_of 0 k ≡ k = cc in same))
 in_range count (counts k) e = absurd (moved_up k (let same : slot_of 0 k ≡ k = cc in same))
-in_range count (moves forms) e = tt
-in_range count picks e = tt
-in_range count makes e = tt
-in_range count (builds f) e = tt
-in_range count fails e = tt
+in_range count _ e = tt
 
 range_there : (uses : List Use) (returns : Option FieldType) (count : ℕ) (insn : Insn) → LocalsWithin count insn → InRange count (step_of uses returns insn)
 range_there uses returns count (insns.Local op slot) within = by (nat_lt op opcode.istore) (first (is_of_two_slots op) within)
@@ -64,33 +60,20 @@ range_there uses returns count (insns.Local op slot) within = by (nat_lt op opco
     by false lt = lt
 range_there uses returns count (insns.Inc slot n) within = within.0
 range_there uses returns count (insns.Simple op) within = in_range count _ (still_simple 0 returns op).stays
-range_there uses returns count (insns.Push op value) within = tt
 range_there uses returns count (insns.Constant place) within = in_range count _ (still_constant 0 (what_used uses place)).stays
 range_there uses returns count (insns.Constant2 place) within = in_range count _ (still_constant 0 (what_used uses place)).stays
 range_there uses returns count (insns.Member op place) within = in_range count _ (still_member 0 op (what_used uses place)).stays
 range_there uses returns count (insns.Interface place n) within = in_range count _ (still_interface 0 (what_used uses place)).stays
 range_there uses returns count (insns.Dynamic place) within = in_range count _ (still_dynamic 0 (what_used uses place)).stays
 range_there uses returns count (insns.OfClass op place) within = in_range count _ (still_class 0 op (what_used uses place)).stays
-range_there uses returns count (insns.NewArray elem) within = tt
 range_there uses returns count (insns.Multi place dims) within = in_range count _ (still_multi 0 dims (what_used uses place)).stays
-range_there uses returns count (insns.Jump op to) within = tt
-range_there uses returns count (insns.Table low default arms) within = tt
-range_there uses returns count (insns.Lookup default arms) within = tt
+range_there uses returns count _ within = tt
 
 kept_range : (count : ℕ) (names : Names) (st : KeptStep) → InRange count (step_in names st) → HasLocal count st
 kept_range count names (steps.Load slot want) lt = lt
 kept_range count names (steps.Store slot want) lt = lt
 kept_range count names (steps.Count slot) lt = lt
-kept_range count names (steps.Opcode op) lt = tt
-kept_range count names (steps.Push k) lt = tt
-kept_range count names (steps.Take want) lt = tt
-kept_range count names (steps.Put want) lt = tt
-kept_range count names (steps.Turn want k) lt = tt
-kept_range count names (steps.Dimensions n k) lt = tt
-kept_range count names (steps.Call wanted result) lt = tt
-kept_range count names steps.Make lt = tt
-kept_range count names (steps.Build wanted result) lt = tt
-kept_range count names steps.Fail lt = tt
+kept_range count names _ lt = tt
 
 -- ---- the instruction
 
@@ -119,20 +102,7 @@ leave_step old e i s x st (Ok o) are n at kept left = λ more.
 
 picking_step : (uses : List Use) (returns : Option FieldType) (x : Insn) → is_picking x ≡ true → step_of uses returns x ≡ picks
 picking_step uses returns (insns.Simple op) e = rw e refl
-picking_step uses returns (insns.Push op value) e = absurd (true≢false (sym e))
-picking_step uses returns (insns.Local op slot) e = absurd (true≢false (sym e))
-picking_step uses returns (insns.Inc slot n) e = absurd (true≢false (sym e))
-picking_step uses returns (insns.Constant place) e = absurd (true≢false (sym e))
-picking_step uses returns (insns.Constant2 place) e = absurd (true≢false (sym e))
-picking_step uses returns (insns.Member op place) e = absurd (true≢false (sym e))
-picking_step uses returns (insns.Interface place n) e = absurd (true≢false (sym e))
-picking_step uses returns (insns.Dynamic place) e = absurd (true≢false (sym e))
-picking_step uses returns (insns.OfClass op place) e = absurd (true≢false (sym e))
-picking_step uses returns (insns.NewArray elem) e = absurd (true≢false (sym e))
-picking_step uses returns (insns.Multi place dims) e = absurd (true≢false (sym e))
-picking_step uses returns (insns.Jump op to) e = absurd (true≢false (sym e))
-picking_step uses returns (insns.Table low default arms) e = absurd (true≢false (sym e))
-picking_step uses returns (insns.Lookup default arms) e = absurd (true≢false (sym e))
+picking_step uses returns _ e = absurd (true≢false (sym e))
 
 pub leave_pick : (old new : Names) (b : Body) (i : ℕ) (s : State) (x : Insn) (r : Result (Option State) Memory) → insn_at b i ≡ Some x → is_picking x ≡ true
     → IfOk r (λ o. (more : Names) → option_map (type_state (new ++ more)) o ≡ picked b.max_stack (type_state old s)) → IfOk r (LeavesAlways old new b i s)

@@ -39,13 +39,7 @@ deepest_is names n ks =
 array_reference : (h : VerificationType) → is_array h ≡ true → is_reference h ≡ true
 array_reference null e = refl
 array_reference (object name) e = refl
-array_reference top e = absurd cc
-array_reference int e = absurd cc
-array_reference float e = absurd cc
-array_reference double e = absurd cc
-array_reference long e = absurd cc
-array_reference uninit_this e = absurd cc
-array_reference (uninit at) e = absurd cc
+array_reference _ e = absurd cc
 
 -- what is said of the value that is there
 pub some_element : {X : Type 0} (o : Option X) (x : X) (P : Type 0) (Q : X → Type 0) → o ≡ Some x → MatchOption o P Q → Q x

@@ -25,13 +25,9 @@ upper_more names ks n lt =
 class_anything : (g : Ground) (h : VerificationType) (name : List ℕ) → class_built g h ≡ Some name → is_anything h ≡ true
 class_anything g (uninit at) name e = refl
 class_anything g uninit_this name e = refl
-class_anything g top name e = absurd cc
-class_anything g int name e = absurd cc
-class_anything g float name e = absurd cc
-class_anything g double name e = absurd cc
-class_anything g long name e = absurd cc
 class_anything g null name e = refl
 class_anything g (object n) name e = refl
+class_anything g _ name e = absurd cc
 
 -- the class that was found, by its name
 pub some_class : (o : Option (List ℕ)) (h : VerificationType) → Some h ≡ option_map object o → (name : List ℕ) × (o ≡ Some name) × (h ≡ object name)

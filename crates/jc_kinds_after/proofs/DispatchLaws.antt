@@ -28,97 +28,33 @@ two_slots_described desc (inl e) = (Long, record { fits = record { named = tt; f
 two_slots_described desc (inr e) = (Double, record { fits = record { named = tt; few = omega arith }; spelled = e })
 
 pub described_constant : (what : What) → IsOneSlotConstant what → IsDescribed what
+described_constant (whats.Computed desc) fits = fits.0
 described_constant (whats.Field class name desc) fits = elim fits [ ]
 described_constant (whats.Method class name desc) fits = elim fits [ ]
 described_constant (whats.Call name desc) fits = elim fits [ ]
-described_constant (whats.Class name) fits = tt
-described_constant (whats.Int n) fits = tt
-described_constant (whats.Long n) fits = elim fits [ ]
-described_constant whats.Float fits = tt
-described_constant whats.Double fits = elim fits [ ]
-described_constant whats.Text fits = tt
-described_constant whats.Handle fits = tt
-described_constant whats.MethodKind fits = tt
-described_constant (whats.Computed desc) fits = fits.0
+described_constant _ fits = tt
 
 pub described_wide : (what : What) → IsTwoSlotConstant what → IsDescribed what
+described_wide (whats.Computed desc) fits = two_slots_described desc fits
 described_wide (whats.Field class name desc) fits = elim fits [ ]
 described_wide (whats.Method class name desc) fits = elim fits [ ]
 described_wide (whats.Call name desc) fits = elim fits [ ]
-described_wide (whats.Class name) fits = tt
-described_wide (whats.Int n) fits = tt
-described_wide (whats.Long n) fits = tt
-described_wide whats.Float fits = tt
-described_wide whats.Double fits = tt
-described_wide whats.Text fits = tt
-described_wide whats.Handle fits = tt
-described_wide whats.MethodKind fits = tt
-described_wide (whats.Computed desc) fits = two_slots_described desc fits
+described_wide _ fits = tt
 
 pub described_method : (what : What) → IsMethod what → IsDescribed what
-described_method (whats.Field class name desc) fits = elim fits [ ]
 described_method (whats.Method class name desc) fits = fits
-described_method (whats.Call name desc) fits = elim fits [ ]
-described_method (whats.Class name) fits = elim fits [ ]
-described_method (whats.Int n) fits = elim fits [ ]
-described_method (whats.Long n) fits = elim fits [ ]
-described_method whats.Float fits = elim fits [ ]
-described_method whats.Double fits = elim fits [ ]
-described_method whats.Text fits = elim fits [ ]
-described_method whats.Handle fits = elim fits [ ]
-described_method whats.MethodKind fits = elim fits [ ]
-described_method (whats.Computed desc) fits = elim fits [ ]
+described_method _ fits = elim fits [ ]
 
 pub described_call : (what : What) → IsCall what → IsDescribed what
-described_call (whats.Field class name desc) fits = elim fits [ ]
-described_call (whats.Method class name desc) fits = elim fits [ ]
 described_call (whats.Call name desc) fits = fits
-described_call (whats.Class name) fits = elim fits [ ]
-described_call (whats.Int n) fits = elim fits [ ]
-described_call (whats.Long n) fits = elim fits [ ]
-described_call whats.Float fits = elim fits [ ]
-described_call whats.Double fits = elim fits [ ]
-described_call whats.Text fits = elim fits [ ]
-described_call whats.Handle fits = elim fits [ ]
-described_call whats.MethodKind fits = elim fits [ ]
-described_call (whats.Computed desc) fits = elim fits [ ]
+described_call _ fits = elim fits [ ]
 
 pub described_class : (what : What) → IsClass what → IsDescribed what
-described_class (whats.Field class name desc) fits = elim fits [ ]
-described_class (whats.Method class name desc) fits = elim fits [ ]
-described_class (whats.Call name desc) fits = elim fits [ ]
 described_class (whats.Class name) fits = tt
-described_class (whats.Int n) fits = elim fits [ ]
-described_class (whats.Long n) fits = elim fits [ ]
-described_class whats.Float fits = elim fits [ ]
-described_class whats.Double fits = elim fits [ ]
-described_class whats.Text fits = elim fits [ ]
-described_class whats.Handle fits = elim fits [ ]
-described_class whats.MethodKind fits = elim fits [ ]
-described_class (whats.Computed desc) fits = elim fits [ ]
+described_class _ fits = elim fits [ ]
 
 pub described_member : (op : ℕ) (what : What) → IsMemberFor op what → IsDescribed what
 described_member op (whats.Field class name desc) (inl h) = h.1
-described_member op (whats.Field class name desc) (inr h) = elim h.1 [ ]
-described_member op (whats.Method class name desc) (inl h) = elim h.1 [ ]
 described_member op (whats.Method class name desc) (inr h) = h.1
-described_member op (whats.Call name desc) (inl h) = elim h.1 [ ]
-described_member op (whats.Call name desc) (inr h) = elim h.1 [ ]
-described_member op (whats.Class name) (inl h) = elim h.1 [ ]
-described_member op (whats.Class name) (inr h) = elim h.1 [ ]
-described_member op (whats.Int n) (inl h) = elim h.1 [ ]
-described_member op (whats.Int n) (inr h) = elim h.1 [ ]
-described_member op (whats.Long n) (inl h) = elim h.1 [ ]
-described_member op (whats.Long n) (inr h) = elim h.1 [ ]
-described_member op whats.Float (inl h) = elim h.1 [ ]
-described_member op whats.Float (inr h) = elim h.1 [ ]
-described_member op whats.Double (inl h) = elim h.1 [ ]
-described_member op whats.Double (inr h) = elim h.1 [ ]
-described_member op whats.Text (inl h) = elim h.1 [ ]
-described_member op whats.Text (inr h) = elim h.1 [ ]
-described_member op whats.Handle (inl h) = elim h.1 [ ]
-described_member op whats.Handle (inr h) = elim h.1 [ ]
-described_member op whats.MethodKind (inl h) = elim h.1 [ ]
-described_member op whats.MethodKind (inr h) = elim h.1 [ ]
-described_member op (whats.Computed desc) (inl h) = elim h.1 [ ]
-described_member op (whats.Computed desc) (inr h) = elim h.1 [ ]
+described_member op _ (inl h) = elim h.1 [ ]
+described_member op _ (inr h) = elim h.1 [ ]

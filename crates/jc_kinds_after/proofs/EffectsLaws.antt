@@ -114,17 +114,8 @@ made_class names e at made place x code effect result are is same read named kep
     by (whats.Class name) fits used =
         classed (object name) _ _ (kept (whats.Class name) (ap (what_used (body_of e).uses) place_is ∙ used) tt)
         ∙ ap (λ (w : Option What). Some (object (class_in w))) (sym used) ∙ ap (λ (o : Option Insn). Some (object (new_class (body_of e).uses o))) (sym is)
-    by (whats.Field class name desc) fits used = elim fits [ ]
-    by (whats.Method class name desc) fits used = elim fits [ ]
-    by (whats.Call name desc) fits used = elim fits [ ]
-    by (whats.Int n) fits used = elim fits [ ]
-    by (whats.Long n) fits used = elim fits [ ]
-    by whats.Float fits used = elim fits [ ]
-    by whats.Double fits used = elim fits [ ]
-    by whats.Text fits used = elim fits [ ]
-    by whats.Handle fits used = elim fits [ ]
-    by whats.MethodKind fits used = elim fits [ ]
     by (whats.Computed desc) fits used = elim fits [ ]
+    by _ fits used = elim fits [ ]
 
 -- ---- the same of a body by itself
 

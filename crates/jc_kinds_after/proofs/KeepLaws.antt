@@ -114,14 +114,7 @@ module _ (P : VerificationType → Type 0) (others : OfOthers P) where
 
   element_all : (h : VerificationType) → P h → P (element_of h)
   element_all (object name) p = others _ tt
-  element_all top p = p
-  element_all int p = p
-  element_all float p = p
-  element_all double p = p
-  element_all long p = p
-  element_all null p = p
-  element_all uninit_this p = p
-  element_all (uninit at) p = p
+  element_all _ p = p
 
   -- what a step keeps: the fact of each value, where it holds of the object that a `new` makes
   pub step_all : (v : ℕ) (g : Ground) (st : Step) (s t : TypeState) → CanShift v st → (st ≡ makes → P (uninit g.place)) → AllOf s → apply g st s ≡ Some t → AllOf t

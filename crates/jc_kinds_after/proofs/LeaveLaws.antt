@@ -50,13 +50,7 @@ makes_nothing st e is = true≢false (sym e ∙ ap plain is)
 no_second : (count : ℕ) (st : Step) → plain st ≡ true → HasSecond count st
 unfolding plain
 no_second count (stores k w) e = absurd (true≢false (sym e))
-no_second count (moves forms) e = tt
-no_second count (loads k w) e = tt
-no_second count (counts k) e = tt
-no_second count picks e = tt
-no_second count makes e = tt
-no_second count (builds f) e = tt
-no_second count fails e = tt
+no_second count _ e = tt
 
 if_plain : (b : Bool) (x y : Step) → plain x ≡ true → plain y ≡ true → plain (if b then x else y) ≡ true
 if_plain true x y p q = p
@@ -134,23 +128,18 @@ module _ (uses : List Use) (returns : Option FieldType) where
   unfolding plain
   new_there (insns.OfClass op place) e = (place, ap (λ (o : ℕ). insns.OfClass o place) (class_new op place (what_used uses place) e))
   new_there (insns.Simple op) e = absurd (makes_nothing _ (plain_simple returns op) e)
-  new_there (insns.Push op value) e = absurd (makes_nothing _ refl e)
   new_there (insns.Local op slot) e = absurd (by (nat_lt op opcode.istore) e)
     where
       by : (b : Bool) → (if b then loads slot (local_want op) else stores slot (local_want op)) ≡ makes → ⊥
       by true e = cc
       by false e = cc
-  new_there (insns.Inc slot n) e = absurd (makes_nothing _ refl e)
   new_there (insns.Constant place) e = absurd (makes_nothing _ (plain_constant (what_used uses place)) e)
   new_there (insns.Constant2 place) e = absurd (makes_nothing _ (plain_constant (what_used uses place)) e)
   new_there (insns.Member op place) e = absurd (makes_nothing _ (plain_member op (what_used uses place)) e)
   new_there (insns.Interface place count) e = absurd (makes_nothing _ (plain_interface (what_used uses place)) e)
   new_there (insns.Dynamic place) e = absurd (makes_nothing _ (plain_dynamic (what_used uses place)) e)
-  new_there (insns.NewArray elem) e = absurd (makes_nothing _ refl e)
   new_there (insns.Multi place dims) e = absurd (makes_nothing _ (plain_multi (what_used uses place) dims) e)
-  new_there (insns.Jump op to) e = absurd (makes_nothing _ refl e)
-  new_there (insns.Table low default arms) e = absurd (makes_nothing _ refl e)
-  new_there (insns.Lookup default arms) e = absurd (makes_nothing _ refl e)
+  new_there _ e = absurd (makes_nothing _ refl e)
 
   -- what is stored has its second local variable too
   second_there : (count : ℕ) (insn : Insn) → LocalsWithin count insn → HasSecond count (step_of uses returns insn)
@@ -174,18 +163,13 @@ module _ (uses : List Use) (returns : Option FieldType) where
           by false = no_second count _ (plain_rest op name)
       class_second _ = tt
   second_there count (insns.Simple op) within = no_second count _ (plain_simple returns op)
-  second_there count (insns.Push op value) within = tt
-  second_there count (insns.Inc slot n) within = tt
   second_there count (insns.Constant place) within = no_second count _ (plain_constant (what_used uses place))
   second_there count (insns.Constant2 place) within = no_second count _ (plain_constant (what_used uses place))
   second_there count (insns.Member op place) within = no_second count _ (plain_member op (what_used uses place))
   second_there count (insns.Interface place n) within = no_second count _ (plain_interface (what_used uses place))
   second_there count (insns.Dynamic place) within = no_second count _ (plain_dynamic (what_used uses place))
-  second_there count (insns.NewArray elem) within = tt
   second_there count (insns.Multi place dims) within = no_second count _ (plain_multi (what_used uses place) dims)
-  second_there count (insns.Jump op to) within = tt
-  second_there count (insns.Table low default arms) within = tt
-  second_there count (insns.Lookup default arms) within = tt
+  second_there count _ within = tt
 
 -- ---- kinds
 
@@ -196,36 +180,15 @@ HeldKind code h = Unit {0}
 
 others : (code : List Insn) (h : VerificationType) → IsPlaceless (kind h) → HeldKind code h
 others code (uninit at) p = elim p [ ]
-others code top p = tt
-others code int p = tt
-others code float p = tt
-others code double p = tt
-others code long p = tt
-others code null p = tt
-others code uninit_this p = tt
-others code (object name) p = tt
+others code _ p = tt
 
 kind_held : (code : List Insn) (names : Names) (k : Kind) → IsKind code k → HeldKind code (verification_type names k)
 kind_held code names (kinds.Uninit at) p = p
-kind_held code names kinds.Top p = tt
-kind_held code names kinds.Int p = tt
-kind_held code names kinds.Float p = tt
-kind_held code names kinds.Double p = tt
-kind_held code names kinds.Long p = tt
-kind_held code names kinds.Null p = tt
-kind_held code names kinds.UninitThis p = tt
-kind_held code names (kinds.Object n) p = tt
+kind_held code names _ p = tt
 
 held_kind : (code : List Insn) (names : Names) (k : Kind) → HeldKind code (verification_type names k) → IsKind code k
 held_kind code names (kinds.Uninit at) p = p
-held_kind code names kinds.Top p = tt
-held_kind code names kinds.Int p = tt
-held_kind code names kinds.Float p = tt
-held_kind code names kinds.Double p = tt
-held_kind code names kinds.Long p = tt
-held_kind code names kinds.Null p = tt
-held_kind code names kinds.UninitThis p = tt
-held_kind code names (kinds.Object n) p = tt
+held_kind code names _ p = tt
 
 all_held : (code : List Insn) (names : Names) (ks : List Kind) → All (IsKind code) ks → AllByRecursion (HeldKind code) (map (verification_type names) ks)
 all_held code names ks all = each_of_all (HeldKind code) (verification_type names) ks (λ i d lt. kind_held code names (get_or ks i d) (all i d lt))
@@ -257,14 +220,7 @@ object_is a b e = cc
 
 kind_within : (names : Names) (k : Kind) → ((more : Names) → verification_type (names ++ more) k ≡ verification_type names k) → IsNumbered (length names) k
 kind_within names (kinds.Object n) stays = number_within names n (λ more. object_is _ _ (stays more))
-kind_within names kinds.Top stays = tt
-kind_within names kinds.Int stays = tt
-kind_within names kinds.Float stays = tt
-kind_within names kinds.Double stays = tt
-kind_within names kinds.Long stays = tt
-kind_within names kinds.Null stays = tt
-kind_within names kinds.UninitThis stays = tt
-kind_within names (kinds.Uninit at) stays = tt
+kind_within names _ stays = tt
 
 head_is : (x y : VerificationType) (xs ys : List VerificationType) → (x ∷ xs) ≡ (y ∷ ys) → x ≡ y
 head_is x y xs ys e = cc
@@ -293,20 +249,7 @@ leaves old new b i s o always = ap (λ (names : Names). option_map (type_state n
 -- nothing stands before the first local variable
 no_slot : (insn : Insn) → Straddles 0 insn → ⊥
 no_slot (insns.Local op slot) h = absurd (let e = h.1 in omega (arith, e))
-no_slot (insns.Simple op) h = h
-no_slot (insns.Push op value) h = h
-no_slot (insns.Inc slot n) h = h
-no_slot (insns.Constant place) h = h
-no_slot (insns.Constant2 place) h = h
-no_slot (insns.Member op place) h = h
-no_slot (insns.Interface place count) h = h
-no_slot (insns.Dynamic place) h = h
-no_slot (insns.OfClass op place) h = h
-no_slot (insns.NewArray elem) h = h
-no_slot (insns.Multi place dims) h = h
-no_slot (insns.Jump op to) h = h
-no_slot (insns.Table low default arms) h = h
-no_slot (insns.Lookup default arms) h = h
+no_slot _ h = h
 
 kinds_sum : (names : Names) (ks : List Kind) → slots (map (verification_type names) ks) ≡ sum_by kind_slots ks
 kinds_sum names [] = refl

@@ -106,15 +106,8 @@ count_yes names state ks slot most same e fits =
     subst P same (sym (rw (get_held names ks slot, e, fits) refl))
 
 pub no_top : (want : Want) → accepts want top ≡ false
-no_top wants.Int = refl
-no_top wants.Float = refl
-no_top wants.Long = refl
-no_top wants.Double = refl
-no_top wants.Reference = refl
-no_top wants.Target = refl
-no_top wants.Anything = refl
-no_top wants.Single = refl
 no_top wants.Pair = refl
+no_top _ = refl
 
 -- the value on top
 pub last_is : (names : Names) (ks : List Kind) → 0 < length ks → last (map (verification_type names) ks) ≡ verification_type names (get_or ks (length ks - 1) kinds.Top)

@@ -40,15 +40,8 @@ pub all_end : (names : Names) (ws : List Want) (ks : List Kind) (i : ℕ) → le
 all_end names ws ks i le e = let le' : length ks ≤ i = omega arith in rw (drop_all i ws le, drop_all i ks le') refl
 
 pub width_is : (names : Names) (k : Kind) → width (verification_type names k) ≡ kind_slots k
-width_is names kinds.Top = refl
-width_is names kinds.Int = refl
-width_is names kinds.Float = refl
-width_is names kinds.Double = refl
-width_is names kinds.Long = refl
-width_is names kinds.Null = refl
-width_is names kinds.UninitThis = refl
-width_is names (kinds.Object n) = refl
 width_is names (kinds.Uninit at) = refl
+width_is names _ = refl
 
 pub slots_on : (names : Names) (ks : List Kind) (i : ℕ) (k : Kind) → i < length ks →
     slots (map (verification_type names) (drop i ks)) ≡ width (verification_type names (get_or ks i k)) + slots (map (verification_type names) (drop (i + 1) ks))

@@ -13,15 +13,8 @@ use Rattle.jc_kinds_after.proofs.LocalsLaws.{pushed_on}
 
 module _ (names : Names) where
   made_is : (place : ℕ) (k : Kind) → is_made place (verification_type names k) ≡ is_made_by place k
-  made_is place kinds.Top = refl
-  made_is place kinds.Int = refl
-  made_is place kinds.Float = refl
-  made_is place kinds.Double = refl
-  made_is place kinds.Long = refl
-  made_is place kinds.Null = refl
-  made_is place kinds.UninitThis = refl
-  made_is place (kinds.Object n) = refl
   made_is place (kinds.Uninit at) = refl
+  made_is place _ = refl
 
   any_made : (place : ℕ) (ks : List Kind) → list_any (is_made place) (map (verification_type names) ks) ≡ list_any (is_made_by place) ks
   any_made place [] = refl
@@ -52,13 +45,7 @@ module _ (names : Names) where
       this kinds.UninitThis = refl
       this (kinds.Object n) = refl
       this (kinds.Uninit at) = refl
-  one_is kinds.Top k = refl
-  one_is kinds.Int k = refl
-  one_is kinds.Float k = refl
-  one_is kinds.Double k = refl
-  one_is kinds.Long k = refl
-  one_is kinds.Null k = refl
-  one_is (kinds.Object n) k = refl
+  one_is _ k = refl
 
   module _ (old class : Kind) (name : List ℕ) (named : verification_type names class ≡ object name) where
     built_is : (k : Kind) → replaced (verification_type names old) name (verification_type names k) ≡ verification_type names (built_in old class k)

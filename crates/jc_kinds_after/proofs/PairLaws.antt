@@ -25,24 +25,12 @@ Paired ls = (i : ℕ) → is_pair (get_or ls i top) ≡ true → (i + 1 < length
 wide_pair : (names : Names) (k : Kind) → is_pair (verification_type names k) ≡ true → kind_slots k ≡ 2
 wide_pair names kinds.Long e = refl
 wide_pair names kinds.Double e = refl
-wide_pair names kinds.Top e = absurd cc
-wide_pair names kinds.Int e = absurd cc
-wide_pair names kinds.Float e = absurd cc
-wide_pair names kinds.Null e = absurd cc
-wide_pair names kinds.UninitThis e = absurd cc
-wide_pair names (kinds.Object n) e = absurd cc
-wide_pair names (kinds.Uninit at) e = absurd cc
+wide_pair names _ e = absurd cc
 
 pair_wide : (names : Names) (k : Kind) → kind_slots k ≡ 2 → is_pair (verification_type names k) ≡ true
 pair_wide names kinds.Long e = refl
 pair_wide names kinds.Double e = refl
-pair_wide names kinds.Top e = absurd (omega (arith, e))
-pair_wide names kinds.Int e = absurd (omega (arith, e))
-pair_wide names kinds.Float e = absurd (omega (arith, e))
-pair_wide names kinds.Null e = absurd (omega (arith, e))
-pair_wide names kinds.UninitThis e = absurd (omega (arith, e))
-pair_wide names (kinds.Object n) e = absurd (omega (arith, e))
-pair_wide names (kinds.Uninit at) e = absurd (omega (arith, e))
+pair_wide names _ e = absurd (omega (arith, e))
 
 suc_plus : (i : ℕ) → suc i + 1 ≡ suc (i + 1)
 suc_plus i = omega arith
@@ -166,15 +154,8 @@ one_pair true x y single e = absurd (true≢false (sym e ∙ single))
 one_pair false x y single e = e
 
 pub replaced_top : (old : VerificationType) (name : List ℕ) → replaced old name top ≡ top
-replaced_top (uninit at) name = refl
-replaced_top uninit_this name = refl
-replaced_top top name = refl
-replaced_top int name = refl
-replaced_top float name = refl
-replaced_top double name = refl
-replaced_top long name = refl
-replaced_top null name = refl
 replaced_top (object n) name = refl
+replaced_top _ name = refl
 
 -- ---- steps
 

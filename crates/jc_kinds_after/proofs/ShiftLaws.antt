@@ -34,37 +34,16 @@ module _ (f : ℕ → ℕ) where
   accepts-renamed wants.Pair (uninit i) = refl
 
   width-renamed : (h : VerificationType) → width (renamed f h) ≡ width h
-  width-renamed top = refl
-  width-renamed int = refl
-  width-renamed float = refl
-  width-renamed double = refl
-  width-renamed long = refl
-  width-renamed null = refl
-  width-renamed uninit_this = refl
-  width-renamed (object n) = refl
   width-renamed (uninit i) = refl
+  width-renamed _ = refl
 
   pair-renamed : (h : VerificationType) → is_pair (renamed f h) ≡ is_pair h
-  pair-renamed top = refl
-  pair-renamed int = refl
-  pair-renamed float = refl
-  pair-renamed double = refl
-  pair-renamed long = refl
-  pair-renamed null = refl
-  pair-renamed uninit_this = refl
-  pair-renamed (object n) = refl
   pair-renamed (uninit i) = refl
+  pair-renamed _ = refl
 
   element-renamed : (h : VerificationType) → element_of (renamed f h) ≡ renamed f (element_of h)
-  element-renamed top = refl
-  element-renamed int = refl
-  element-renamed float = refl
-  element-renamed double = refl
-  element-renamed long = refl
-  element-renamed null = refl
-  element-renamed uninit_this = refl
-  element-renamed (object n) = refl
   element-renamed (uninit i) = refl
+  element-renamed _ = refl
 
   all-renamed : (ws : List Want) (hs : List VerificationType) → accepts_all ws (map r hs) ≡ accepts_all ws hs
   all-renamed [] [] = refl
@@ -89,16 +68,9 @@ module _ (f : ℕ → ℕ) where
   get-renamed (h ∷ hs) (suc k) = get-renamed hs k
 
   given-renamed : (hs : List VerificationType) (g : Gives) → IsPlaceless g → given_of (map r hs) g ≡ r (given_of hs g)
-  given-renamed hs (kind top) p = refl
-  given-renamed hs (kind int) p = refl
-  given-renamed hs (kind float) p = refl
-  given-renamed hs (kind double) p = refl
-  given-renamed hs (kind long) p = refl
-  given-renamed hs (kind null) p = refl
-  given-renamed hs (kind uninit_this) p = refl
-  given-renamed hs (kind (object n)) p = refl
   given-renamed hs (kind (uninit i)) p = absurd p
   given-renamed hs (item k) p = get-renamed hs k
+  given-renamed hs _ p = refl
 
   gives-renamed : (hs : List VerificationType) (gs : List Gives) → AllByRecursion IsPlaceless gs → map (given_of (map r hs)) gs ≡ map r (map (given_of hs) gs)
   gives-renamed hs [] p = refl
@@ -112,15 +84,8 @@ module _ (f : ℕ → ℕ) where
   has-renamed form hs = ap (accepts_all form.wanted) (upper-renamed (length form.wanted) hs) ∙ all-renamed form.wanted (upper (length form.wanted) hs)
 
   array-renamed : (h : VerificationType) → is_array (renamed f h) ≡ is_array h
-  array-renamed top = refl
-  array-renamed int = refl
-  array-renamed float = refl
-  array-renamed double = refl
-  array-renamed long = refl
-  array-renamed null = refl
-  array-renamed uninit_this = refl
-  array-renamed (object n) = refl
   array-renamed (uninit i) = refl
+  array-renamed _ = refl
 
   choice-map : {A B : Type 0} (g : A → B) (b : Bool) (x : A) → (if b then Some (g x) else None) ≡ option_map g (if b then Some x else None)
   choice-map g true x = refl
@@ -234,15 +199,8 @@ module _ (f : ℕ → ℕ) where
   q = renamed f
 
   cleared-renamed : (h : VerificationType) → cleared (q h) ≡ q (cleared h)
-  cleared-renamed top = refl
-  cleared-renamed int = refl
-  cleared-renamed float = refl
-  cleared-renamed double = refl
-  cleared-renamed long = refl
-  cleared-renamed null = refl
-  cleared-renamed uninit_this = refl
-  cleared-renamed (object n) = refl
   cleared-renamed (uninit i) = refl
+  cleared-renamed _ = refl
 
   clear-renamed : (k : ℕ) (ls : List VerificationType) → clear_before k (map q ls) ≡ map q (clear_before k ls)
   clear-renamed zero ls = refl
@@ -340,15 +298,8 @@ module _ (f : ℕ → ℕ) where
 
   module _ (apart : (i j : ℕ) → nat_eq (f i) (f j) ≡ nat_eq i j) where
     uninit-renamed : (i : ℕ) (h : VerificationType) → is_made (f i) (q h) ≡ is_made i h
-    uninit-renamed i top = refl
-    uninit-renamed i int = refl
-    uninit-renamed i float = refl
-    uninit-renamed i double = refl
-    uninit-renamed i long = refl
-    uninit-renamed i null = refl
-    uninit-renamed i uninit_this = refl
-    uninit-renamed i (object n) = refl
     uninit-renamed i (uninit j) = apart i j
+    uninit-renamed i _ = refl
 
     any-renamed : (i : ℕ) (hs : List VerificationType) → list_any (is_made (f i)) (map q hs) ≡ list_any (is_made i) hs
     any-renamed i [] = refl
@@ -396,15 +347,8 @@ module _ (f : ℕ → ℕ) where
         ap₂ (λ l e. insert l v e) (map-both q (replaced (q old) name) q (replaced old name) (replaced-renamed old name) ls) (stays old)
       where
         stays : (old : VerificationType) → replaced (q old) name probes ≡ probes
-        stays top = refl
-        stays int = refl
-        stays float = refl
-        stays double = refl
-        stays long = refl
-        stays null = refl
-        stays uninit_this = refl
-        stays (object n) = refl
         stays (uninit i) = refl
+        stays _ = refl
 
     pub makes-shifted : (v : ℕ) (g new : Ground) (s : TypeState) → new.place ≡ f g.place → new.most ≡ g.most →
         apply new makes (shifted f v s) ≡ option_map (shifted f v) (apply g makes s)
@@ -413,15 +357,9 @@ module _ (f : ℕ → ℕ) where
         (none-else (shifted f v) (list_any (is_made i) s.stack) (with_stack t (limited g.most (s.stack ++ uninit i ∷ []))))
 
     class-renamed : (g new : Ground) (old : VerificationType) → ((i : ℕ) → new.class_at (f i) ≡ g.class_at i) → new.owner ≡ g.owner → class_built new (q old) ≡ class_built g old
-    class-renamed g new top c o = refl
-    class-renamed g new int c o = refl
-    class-renamed g new float c o = refl
-    class-renamed g new double c o = refl
-    class-renamed g new long c o = refl
-    class-renamed g new null c o = refl
     class-renamed g new uninit_this c o = ap Some o
-    class-renamed g new (object n) c o = refl
     class-renamed g new (uninit i) c o = ap Some (c i)
+    class-renamed g new _ c o = refl
 
     module _ (v most : ℕ) (given : List Gives) (plain : AllByRecursion IsPlaceless given) where
       as-shifted : (old : VerificationType) (rest : List VerificationType) (name : Option (List ℕ)) (s : TypeState) →

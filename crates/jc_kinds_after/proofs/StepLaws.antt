@@ -21,71 +21,29 @@ results_are : (returns : Option FieldType) → results (option_map held_of retur
 results_are None = refl
 results_are (Some type) = refl
 
+computed_is : (type : Option FieldType) → constant_by (value_of type) ≡ computed_step type
+computed_is None = refl
+computed_is (Some type) = refl
+
 pub constant_is : (what : What) → IsOneSlotConstant what → constant_by (does_of what) ≡ constant_step (Some what)
-constant_is (whats.Int n) fits = refl
-constant_is whats.Float fits = refl
-constant_is whats.Text fits = refl
-constant_is whats.Handle fits = refl
-constant_is whats.MethodKind fits = refl
-constant_is (whats.Class name) fits = refl
-constant_is (whats.Computed desc) fits = by (field_type_in desc)
-  where
-    by : (type : Option FieldType) → constant_by (value_of type) ≡ computed_step type
-    by None = refl
-    by (Some type) = refl
+constant_is (whats.Computed desc) fits = computed_is (field_type_in desc)
 constant_is (whats.Field class name desc) fits = elim fits [ ]
-constant_is (whats.Method class name desc) fits = elim fits [ ]
-constant_is (whats.Call name desc) fits = elim fits [ ]
-constant_is (whats.Long n) fits = elim fits [ ]
-constant_is whats.Double fits = elim fits [ ]
+constant_is _ fits = refl
 
 pub wide_constant_is : (what : What) → IsTwoSlotConstant what → constant_by (does_of what) ≡ constant_step (Some what)
-wide_constant_is (whats.Long n) fits = refl
-wide_constant_is whats.Double fits = refl
-wide_constant_is (whats.Computed desc) fits = by (field_type_in desc)
-  where
-    by : (type : Option FieldType) → constant_by (value_of type) ≡ computed_step type
-    by None = refl
-    by (Some type) = refl
-wide_constant_is (whats.Int n) fits = elim fits [ ]
-wide_constant_is whats.Float fits = elim fits [ ]
-wide_constant_is whats.Text fits = elim fits [ ]
-wide_constant_is whats.Handle fits = elim fits [ ]
-wide_constant_is whats.MethodKind fits = elim fits [ ]
-wide_constant_is (whats.Class name) fits = elim fits [ ]
+wide_constant_is (whats.Computed desc) fits = computed_is (field_type_in desc)
 wide_constant_is (whats.Field class name desc) fits = elim fits [ ]
-wide_constant_is (whats.Method class name desc) fits = elim fits [ ]
-wide_constant_is (whats.Call name desc) fits = elim fits [ ]
+wide_constant_is _ fits = refl
 
 pub object_is : (what : What) → IsMethod what → object_by (does_of what) ≡ interface_step (Some what)
 object_is (whats.Method class name desc) fits =
     ap (λ (given : List Gives). moves (form (wants.Reference ∷ map want_of (method_type_in desc).parameters) given ∷ [])) (results_are (method_type_in desc).returns)
-object_is (whats.Field class name desc) fits = elim fits [ ]
-object_is (whats.Call name desc) fits = elim fits [ ]
-object_is (whats.Class name) fits = elim fits [ ]
-object_is (whats.Int n) fits = elim fits [ ]
-object_is (whats.Long n) fits = elim fits [ ]
-object_is whats.Float fits = elim fits [ ]
-object_is whats.Double fits = elim fits [ ]
-object_is whats.Text fits = elim fits [ ]
-object_is whats.Handle fits = elim fits [ ]
-object_is whats.MethodKind fits = elim fits [ ]
-object_is (whats.Computed desc) fits = elim fits [ ]
+object_is _ fits = elim fits [ ]
 
 pub static_is : (what : What) → IsCall what → static_by (does_of what) ≡ dynamic_step (Some what)
 static_is (whats.Call name desc) fits =
     ap (λ (given : List Gives). moves (form (map want_of (method_type_in desc).parameters) given ∷ [])) (results_are (method_type_in desc).returns)
-static_is (whats.Method class name desc) fits = elim fits [ ]
-static_is (whats.Field class name desc) fits = elim fits [ ]
-static_is (whats.Class name) fits = elim fits [ ]
-static_is (whats.Int n) fits = elim fits [ ]
-static_is (whats.Long n) fits = elim fits [ ]
-static_is whats.Float fits = elim fits [ ]
-static_is whats.Double fits = elim fits [ ]
-static_is whats.Text fits = elim fits [ ]
-static_is whats.Handle fits = elim fits [ ]
-static_is whats.MethodKind fits = elim fits [ ]
-static_is (whats.Computed desc) fits = elim fits [ ]
+static_is _ fits = elim fits [ ]
 
 field_is : (op : ℕ) (type : Option FieldType) → member_by op (value_of type) ≡ (if nat_le op opcode.putfield then field_step op type else fails)
 field_is op None = by (nat_le op opcode.putfield)
@@ -107,26 +65,8 @@ pub member_is : (op : ℕ) (what : What) → IsMemberFor op what → member_by o
 unfolding called
 member_is op (whats.Field class name desc) fits = field_is op (field_type_in desc)
 member_is op (whats.Method class name desc) fits = ap (called op (bytes_eq name (codes "<init>")) (map want_of (method_type_in desc).parameters)) (results_are (method_type_in desc).returns)
-member_is op (whats.Call name desc) (inl h) = elim h.1 [ ]
-member_is op (whats.Call name desc) (inr h) = elim h.1 [ ]
-member_is op (whats.Class name) (inl h) = elim h.1 [ ]
-member_is op (whats.Class name) (inr h) = elim h.1 [ ]
-member_is op (whats.Int n) (inl h) = elim h.1 [ ]
-member_is op (whats.Int n) (inr h) = elim h.1 [ ]
-member_is op (whats.Long n) (inl h) = elim h.1 [ ]
-member_is op (whats.Long n) (inr h) = elim h.1 [ ]
-member_is op whats.Float (inl h) = elim h.1 [ ]
-member_is op whats.Float (inr h) = elim h.1 [ ]
-member_is op whats.Double (inl h) = elim h.1 [ ]
-member_is op whats.Double (inr h) = elim h.1 [ ]
-member_is op whats.Text (inl h) = elim h.1 [ ]
-member_is op whats.Text (inr h) = elim h.1 [ ]
-member_is op whats.Handle (inl h) = elim h.1 [ ]
-member_is op whats.Handle (inr h) = elim h.1 [ ]
-member_is op whats.MethodKind (inl h) = elim h.1 [ ]
-member_is op whats.MethodKind (inr h) = elim h.1 [ ]
-member_is op (whats.Computed desc) (inl h) = elim h.1 [ ]
-member_is op (whats.Computed desc) (inr h) = elim h.1 [ ]
+member_is op _ (inl h) = elim h.1 [ ]
+member_is op _ (inr h) = elim h.1 [ ]
 
 array_is : (name : List ℕ) → array_by (arrays_of name) ≡ array_step name
 array_is name = by (nat_le (length (array_of name)) 65535)
@@ -138,28 +78,8 @@ array_is name = by (nat_le (length (array_of name)) 65535)
 pub class_is : (op : ℕ) (what : What) → IsClass what → class_by op (does_of what) ≡ class_step op (Some what)
 class_is op (whats.Class name) fits =
     ap (λ (st : Step). if nat_eq op opcode.new then makes else if nat_eq op opcode.anewarray then st else if nat_eq op opcode.checkcast then moves (turns (wants.Reference ∷ []) (object name)) else moves (turns (wants.Reference ∷ []) int)) (array_is name)
-class_is op (whats.Field class name desc) fits = elim fits [ ]
-class_is op (whats.Method class name desc) fits = elim fits [ ]
-class_is op (whats.Call name desc) fits = elim fits [ ]
-class_is op (whats.Int n) fits = elim fits [ ]
-class_is op (whats.Long n) fits = elim fits [ ]
-class_is op whats.Float fits = elim fits [ ]
-class_is op whats.Double fits = elim fits [ ]
-class_is op whats.Text fits = elim fits [ ]
-class_is op whats.Handle fits = elim fits [ ]
-class_is op whats.MethodKind fits = elim fits [ ]
-class_is op (whats.Computed desc) fits = elim fits [ ]
+class_is op _ fits = elim fits [ ]
 
 pub multi_is : (dims : ℕ) (what : What) → IsClass what → multi_by dims (does_of what) ≡ multi_step (Some what) dims
 multi_is dims (whats.Class name) fits = refl
-multi_is dims (whats.Field class name desc) fits = elim fits [ ]
-multi_is dims (whats.Method class name desc) fits = elim fits [ ]
-multi_is dims (whats.Call name desc) fits = elim fits [ ]
-multi_is dims (whats.Int n) fits = elim fits [ ]
-multi_is dims (whats.Long n) fits = elim fits [ ]
-multi_is dims whats.Float fits = elim fits [ ]
-multi_is dims whats.Double fits = elim fits [ ]
-multi_is dims whats.Text fits = elim fits [ ]
-multi_is dims whats.Handle fits = elim fits [ ]
-multi_is dims whats.MethodKind fits = elim fits [ ]
-multi_is dims (whats.Computed desc) fits = elim fits [ ]
+multi_is dims _ fits = elim fits [ ]

@@ -21,286 +21,95 @@ pub struct StackEffect {
     pub gives: &'static [Give],
 }
 
+/// What is left: the operand with a number, or a value of a type.
+macro_rules! give {
+    ($item:literal) => {
+        Give::Item($item)
+    };
+    ($kind:ident) => {
+        Give::Kind(Kind::$kind)
+    };
+}
+
+/// The operands that are taken, and what is left in their place.
+macro_rules! effect {
+    ($($want:ident)* => $($give:tt)*) => {
+        Some(StackEffect {
+            wants: &[$(Want::$want),*],
+            gives: &[$(give!($give)),*],
+        })
+    };
+}
+
 /// The form of a shape.
 pub fn form_in(shape: Shape) -> Option<StackEffect>
     ensures { (names : Names) → forms_seen names result ≡ forms_of shape }
 {
     match shape {
         Shape::No => None,
-        Shape::Nothing => Some(StackEffect {
-            wants: &[],
-            gives: &[],
-        }),
-        Shape::PushNull => Some(StackEffect {
-            wants: &[],
-            gives: &[Give::Kind(Kind::Null)],
-        }),
-        Shape::PushInt => Some(StackEffect {
-            wants: &[],
-            gives: &[Give::Kind(Kind::Int)],
-        }),
-        Shape::PushLong => Some(StackEffect {
-            wants: &[],
-            gives: &[Give::Kind(Kind::Long)],
-        }),
-        Shape::PushFloat => Some(StackEffect {
-            wants: &[],
-            gives: &[Give::Kind(Kind::Float)],
-        }),
-        Shape::PushDouble => Some(StackEffect {
-            wants: &[],
-            gives: &[Give::Kind(Kind::Double)],
-        }),
-        Shape::ElementInt => Some(StackEffect {
-            wants: &[Want::Reference, Want::Int],
-            gives: &[Give::Kind(Kind::Int)],
-        }),
-        Shape::ElementLong => Some(StackEffect {
-            wants: &[Want::Reference, Want::Int],
-            gives: &[Give::Kind(Kind::Long)],
-        }),
-        Shape::ElementFloat => Some(StackEffect {
-            wants: &[Want::Reference, Want::Int],
-            gives: &[Give::Kind(Kind::Float)],
-        }),
-        Shape::ElementDouble => Some(StackEffect {
-            wants: &[Want::Reference, Want::Int],
-            gives: &[Give::Kind(Kind::Double)],
-        }),
-        Shape::PutInt => Some(StackEffect {
-            wants: &[Want::Reference, Want::Int, Want::Int],
-            gives: &[],
-        }),
-        Shape::PutLong => Some(StackEffect {
-            wants: &[Want::Reference, Want::Int, Want::Long],
-            gives: &[],
-        }),
-        Shape::PutFloat => Some(StackEffect {
-            wants: &[Want::Reference, Want::Int, Want::Float],
-            gives: &[],
-        }),
-        Shape::PutDouble => Some(StackEffect {
-            wants: &[Want::Reference, Want::Int, Want::Double],
-            gives: &[],
-        }),
-        Shape::PutReference => Some(StackEffect {
-            wants: &[Want::Reference, Want::Int, Want::Reference],
-            gives: &[],
-        }),
-        Shape::Pop => Some(StackEffect {
-            wants: &[Want::Single],
-            gives: &[],
-        }),
-        Shape::PopTwo => Some(StackEffect {
-            wants: &[Want::Single, Want::Single],
-            gives: &[],
-        }),
-        Shape::PopPair => Some(StackEffect {
-            wants: &[Want::Pair],
-            gives: &[],
-        }),
-        Shape::Dup => Some(StackEffect {
-            wants: &[Want::Single],
-            gives: &[Give::Item(0), Give::Item(0)],
-        }),
-        Shape::DupUnderOne => Some(StackEffect {
-            wants: &[Want::Single, Want::Single],
-            gives: &[Give::Item(1), Give::Item(0), Give::Item(1)],
-        }),
-        Shape::DupUnderTwo => Some(StackEffect {
-            wants: &[Want::Single, Want::Single, Want::Single],
-            gives: &[Give::Item(2), Give::Item(0), Give::Item(1), Give::Item(2)],
-        }),
-        Shape::DupUnderPair => Some(StackEffect {
-            wants: &[Want::Pair, Want::Single],
-            gives: &[Give::Item(1), Give::Item(0), Give::Item(1)],
-        }),
-        Shape::DupTwo => Some(StackEffect {
-            wants: &[Want::Single, Want::Single],
-            gives: &[Give::Item(0), Give::Item(1), Give::Item(0), Give::Item(1)],
-        }),
-        Shape::DupPair => Some(StackEffect {
-            wants: &[Want::Pair],
-            gives: &[Give::Item(0), Give::Item(0)],
-        }),
-        Shape::DupTwoUnderOne => Some(StackEffect {
-            wants: &[Want::Single, Want::Single, Want::Single],
-            gives: &[
-                Give::Item(1),
-                Give::Item(2),
-                Give::Item(0),
-                Give::Item(1),
-                Give::Item(2),
-            ],
-        }),
-        Shape::DupPairUnderOne => Some(StackEffect {
-            wants: &[Want::Single, Want::Pair],
-            gives: &[Give::Item(1), Give::Item(0), Give::Item(1)],
-        }),
-        Shape::DupTwoUnderTwo => Some(StackEffect {
-            wants: &[Want::Single, Want::Single, Want::Single, Want::Single],
-            gives: &[
-                Give::Item(2),
-                Give::Item(3),
-                Give::Item(0),
-                Give::Item(1),
-                Give::Item(2),
-                Give::Item(3),
-            ],
-        }),
-        Shape::DupPairUnderTwo => Some(StackEffect {
-            wants: &[Want::Single, Want::Single, Want::Pair],
-            gives: &[Give::Item(2), Give::Item(0), Give::Item(1), Give::Item(2)],
-        }),
-        Shape::DupTwoUnderPair => Some(StackEffect {
-            wants: &[Want::Pair, Want::Single, Want::Single],
-            gives: &[
-                Give::Item(1),
-                Give::Item(2),
-                Give::Item(0),
-                Give::Item(1),
-                Give::Item(2),
-            ],
-        }),
-        Shape::DupPairUnderPair => Some(StackEffect {
-            wants: &[Want::Pair, Want::Pair],
-            gives: &[Give::Item(1), Give::Item(0), Give::Item(1)],
-        }),
-        Shape::Swap => Some(StackEffect {
-            wants: &[Want::Single, Want::Single],
-            gives: &[Give::Item(1), Give::Item(0)],
-        }),
-        Shape::TwoInts => Some(StackEffect {
-            wants: &[Want::Int, Want::Int],
-            gives: &[Give::Kind(Kind::Int)],
-        }),
-        Shape::TwoLongs => Some(StackEffect {
-            wants: &[Want::Long, Want::Long],
-            gives: &[Give::Kind(Kind::Long)],
-        }),
-        Shape::TwoFloats => Some(StackEffect {
-            wants: &[Want::Float, Want::Float],
-            gives: &[Give::Kind(Kind::Float)],
-        }),
-        Shape::TwoDoubles => Some(StackEffect {
-            wants: &[Want::Double, Want::Double],
-            gives: &[Give::Kind(Kind::Double)],
-        }),
-        Shape::OneInt => Some(StackEffect {
-            wants: &[Want::Int],
-            gives: &[Give::Kind(Kind::Int)],
-        }),
-        Shape::OneLong => Some(StackEffect {
-            wants: &[Want::Long],
-            gives: &[Give::Kind(Kind::Long)],
-        }),
-        Shape::OneFloat => Some(StackEffect {
-            wants: &[Want::Float],
-            gives: &[Give::Kind(Kind::Float)],
-        }),
-        Shape::OneDouble => Some(StackEffect {
-            wants: &[Want::Double],
-            gives: &[Give::Kind(Kind::Double)],
-        }),
-        Shape::LongByInt => Some(StackEffect {
-            wants: &[Want::Long, Want::Int],
-            gives: &[Give::Kind(Kind::Long)],
-        }),
-        Shape::IntToLong => Some(StackEffect {
-            wants: &[Want::Int],
-            gives: &[Give::Kind(Kind::Long)],
-        }),
-        Shape::IntToFloat => Some(StackEffect {
-            wants: &[Want::Int],
-            gives: &[Give::Kind(Kind::Float)],
-        }),
-        Shape::IntToDouble => Some(StackEffect {
-            wants: &[Want::Int],
-            gives: &[Give::Kind(Kind::Double)],
-        }),
-        Shape::LongToInt => Some(StackEffect {
-            wants: &[Want::Long],
-            gives: &[Give::Kind(Kind::Int)],
-        }),
-        Shape::LongToFloat => Some(StackEffect {
-            wants: &[Want::Long],
-            gives: &[Give::Kind(Kind::Float)],
-        }),
-        Shape::LongToDouble => Some(StackEffect {
-            wants: &[Want::Long],
-            gives: &[Give::Kind(Kind::Double)],
-        }),
-        Shape::FloatToInt => Some(StackEffect {
-            wants: &[Want::Float],
-            gives: &[Give::Kind(Kind::Int)],
-        }),
-        Shape::FloatToLong => Some(StackEffect {
-            wants: &[Want::Float],
-            gives: &[Give::Kind(Kind::Long)],
-        }),
-        Shape::FloatToDouble => Some(StackEffect {
-            wants: &[Want::Float],
-            gives: &[Give::Kind(Kind::Double)],
-        }),
-        Shape::DoubleToInt => Some(StackEffect {
-            wants: &[Want::Double],
-            gives: &[Give::Kind(Kind::Int)],
-        }),
-        Shape::DoubleToLong => Some(StackEffect {
-            wants: &[Want::Double],
-            gives: &[Give::Kind(Kind::Long)],
-        }),
-        Shape::DoubleToFloat => Some(StackEffect {
-            wants: &[Want::Double],
-            gives: &[Give::Kind(Kind::Float)],
-        }),
-        Shape::CompareLongs => Some(StackEffect {
-            wants: &[Want::Long, Want::Long],
-            gives: &[Give::Kind(Kind::Int)],
-        }),
-        Shape::CompareFloats => Some(StackEffect {
-            wants: &[Want::Float, Want::Float],
-            gives: &[Give::Kind(Kind::Int)],
-        }),
-        Shape::CompareDoubles => Some(StackEffect {
-            wants: &[Want::Double, Want::Double],
-            gives: &[Give::Kind(Kind::Int)],
-        }),
-        Shape::TakeInt => Some(StackEffect {
-            wants: &[Want::Int],
-            gives: &[],
-        }),
-        Shape::TakeLong => Some(StackEffect {
-            wants: &[Want::Long],
-            gives: &[],
-        }),
-        Shape::TakeFloat => Some(StackEffect {
-            wants: &[Want::Float],
-            gives: &[],
-        }),
-        Shape::TakeDouble => Some(StackEffect {
-            wants: &[Want::Double],
-            gives: &[],
-        }),
-        Shape::TakeReference => Some(StackEffect {
-            wants: &[Want::Reference],
-            gives: &[],
-        }),
-        Shape::TakeTwoInts => Some(StackEffect {
-            wants: &[Want::Int, Want::Int],
-            gives: &[],
-        }),
-        Shape::TakeTwoObjects => Some(StackEffect {
-            wants: &[Want::Anything, Want::Anything],
-            gives: &[],
-        }),
-        Shape::TakeObject => Some(StackEffect {
-            wants: &[Want::Anything],
-            gives: &[],
-        }),
-        Shape::Length => Some(StackEffect {
-            wants: &[Want::Reference],
-            gives: &[Give::Kind(Kind::Int)],
-        }),
+        Shape::Nothing => effect!(=>),
+        Shape::PushNull => effect!(=> Null),
+        Shape::PushInt => effect!(=> Int),
+        Shape::PushLong => effect!(=> Long),
+        Shape::PushFloat => effect!(=> Float),
+        Shape::PushDouble => effect!(=> Double),
+        Shape::ElementInt => effect!(Reference Int => Int),
+        Shape::ElementLong => effect!(Reference Int => Long),
+        Shape::ElementFloat => effect!(Reference Int => Float),
+        Shape::ElementDouble => effect!(Reference Int => Double),
+        Shape::PutInt => effect!(Reference Int Int =>),
+        Shape::PutLong => effect!(Reference Int Long =>),
+        Shape::PutFloat => effect!(Reference Int Float =>),
+        Shape::PutDouble => effect!(Reference Int Double =>),
+        Shape::PutReference => effect!(Reference Int Reference =>),
+        Shape::Pop => effect!(Single =>),
+        Shape::PopTwo => effect!(Single Single =>),
+        Shape::PopPair => effect!(Pair =>),
+        Shape::Dup => effect!(Single => 0 0),
+        Shape::DupUnderOne => effect!(Single Single => 1 0 1),
+        Shape::DupUnderTwo => effect!(Single Single Single => 2 0 1 2),
+        Shape::DupUnderPair => effect!(Pair Single => 1 0 1),
+        Shape::DupTwo => effect!(Single Single => 0 1 0 1),
+        Shape::DupPair => effect!(Pair => 0 0),
+        Shape::DupTwoUnderOne => effect!(Single Single Single => 1 2 0 1 2),
+        Shape::DupPairUnderOne => effect!(Single Pair => 1 0 1),
+        Shape::DupTwoUnderTwo => effect!(Single Single Single Single => 2 3 0 1 2 3),
+        Shape::DupPairUnderTwo => effect!(Single Single Pair => 2 0 1 2),
+        Shape::DupTwoUnderPair => effect!(Pair Single Single => 1 2 0 1 2),
+        Shape::DupPairUnderPair => effect!(Pair Pair => 1 0 1),
+        Shape::Swap => effect!(Single Single => 1 0),
+        Shape::TwoInts => effect!(Int Int => Int),
+        Shape::TwoLongs => effect!(Long Long => Long),
+        Shape::TwoFloats => effect!(Float Float => Float),
+        Shape::TwoDoubles => effect!(Double Double => Double),
+        Shape::OneInt => effect!(Int => Int),
+        Shape::OneLong => effect!(Long => Long),
+        Shape::OneFloat => effect!(Float => Float),
+        Shape::OneDouble => effect!(Double => Double),
+        Shape::LongByInt => effect!(Long Int => Long),
+        Shape::IntToLong => effect!(Int => Long),
+        Shape::IntToFloat => effect!(Int => Float),
+        Shape::IntToDouble => effect!(Int => Double),
+        Shape::LongToInt => effect!(Long => Int),
+        Shape::LongToFloat => effect!(Long => Float),
+        Shape::LongToDouble => effect!(Long => Double),
+        Shape::FloatToInt => effect!(Float => Int),
+        Shape::FloatToLong => effect!(Float => Long),
+        Shape::FloatToDouble => effect!(Float => Double),
+        Shape::DoubleToInt => effect!(Double => Int),
+        Shape::DoubleToLong => effect!(Double => Long),
+        Shape::DoubleToFloat => effect!(Double => Float),
+        Shape::CompareLongs => effect!(Long Long => Int),
+        Shape::CompareFloats => effect!(Float Float => Int),
+        Shape::CompareDoubles => effect!(Double Double => Int),
+        Shape::TakeInt => effect!(Int =>),
+        Shape::TakeLong => effect!(Long =>),
+        Shape::TakeFloat => effect!(Float =>),
+        Shape::TakeDouble => effect!(Double =>),
+        Shape::TakeReference => effect!(Reference =>),
+        Shape::TakeTwoInts => effect!(Int Int =>),
+        Shape::TakeTwoObjects => effect!(Anything Anything =>),
+        Shape::TakeObject => effect!(Anything =>),
+        Shape::Length => effect!(Reference => Int),
     }
 }
