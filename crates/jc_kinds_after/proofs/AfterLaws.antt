@@ -1,5 +1,6 @@
 -- The state after an instruction shifts with the body.
-use Rattle.std.proofs.Common.{◌≡◌, ⊎_elim, ℕ, suc, ◌+◌, ◌≤◌, Bool, true, false, ◌&&◌, ◌||◌, List, [], ◌∷◌, ◌++◌, length, map, replicate, Option, Some, None, option_map, if◌then◌else◌, refl, sym, ap, ◌∙◌, subst, arith, get_or, nat_eq, nat_le, nat_lt}
+use Rattle.std.proofs.Common.{◌≡◌, ⊎_elim, ℕ, suc, ◌+◌, ◌≤◌, Bool, true, false, ◌&&◌, ◌||◌, List, [], ◌∷◌, ◌++◌, length, map, replicate, Option, Some}
+use Rattle.std.proofs.Common.{None, option_map, if◌then◌else◌, refl, sym, ap, ◌∙◌, subst, arith, get_or, nat_eq, nat_le, nat_lt}
 use Rattle.std.specs.Option.{option_and_then}
 use Rattle.std.proofs.lemmas.Bool.{leb-true, le-leb, eqb-true, and_parts, or_cases, true≢false}
 use Rattle.std.specs.List.{AllByRecursion, list_any, list_all}
@@ -25,10 +26,15 @@ use Rattle.jc_bytes.proofs.EachLaws.{AllFrom, all_from}
 use Rattle.jc_kinds_after.specs.declared.want.Want.{Want}
 use Rattle.jc_kinds_after.specs.declared.want.Want.TheVariants as wants
 use Rattle.jc_kinds_after.specs.Wants.{is_int, accepts, accepts_all}
-use Rattle.jc_kinds_after.specs.Step.{Gives, kind, item, StackEffect, Step, moves, loads, stores, counts, picks, makes, builds, fails, Ground, below, upper, last, put_local, limited, has_form, moved, moved_by, with_stack, is_array, element_of, is_made, without, replaced, given_of, class_built, built_as, apply}
+use Rattle.jc_kinds_after.specs.Step.{Gives, kind, item, StackEffect, Step, moves, loads, stores, counts, picks, makes, builds, fails, Ground, below}
+use Rattle.jc_kinds_after.specs.Step.{upper, last, put_local, limited, has_form, moved, moved_by, with_stack, is_array, element_of, is_made, without}
+use Rattle.jc_kinds_after.specs.Step.{replaced, given_of, class_built, built_as, apply}
 use Rattle.jc_kinds_after.specs.Table.{Row, table, find, forms_at}
-use Rattle.jc_kinds_after.specs.After.{result_of, field_step, static_step, object_step, method_step, member_step, interface_step, dynamic_step, computed_step, constant_step, array_of, array_step, class_step, multi_step, return_op, return_step, simple_step, local_want, local_step, step_of, insn_at, class_in, new_class, ground_of, returns_of, after_of}
-use Rattle.jc_kinds_after.specs.Shift.{shifted, slot_of, with_slot, IsImage, led, inverted, HasImages, Straddles, shifted_step, IsPlaceless, IsPlain, CanShift, takes_pair, Images, AfterShifts}
+use Rattle.jc_kinds_after.specs.After.{result_of, field_step, static_step, object_step, method_step, member_step, interface_step, dynamic_step}
+use Rattle.jc_kinds_after.specs.After.{computed_step, constant_step, array_of, array_step, class_step, multi_step, return_op, return_step}
+use Rattle.jc_kinds_after.specs.After.{simple_step, local_want, local_step, step_of, insn_at, class_in, new_class, ground_of, returns_of, after_of}
+use Rattle.jc_kinds_after.specs.Shift.{shifted, slot_of, with_slot, IsImage, led, inverted, HasImages, Straddles, shifted_step, IsPlaceless, IsPlain}
+use Rattle.jc_kinds_after.specs.Shift.{CanShift, takes_pair, Images, AfterShifts}
 use Rattle.jc_kinds_after.proofs.ShiftLaws.{shift-law}
 
 -- ---- more room on the stack
@@ -52,33 +58,41 @@ by_more : (m n : ℕ) (fs : List StackEffect) (stack x : List VerificationType) 
 by_more m n [] stack x le e = e
 by_more m n (f ∷ fs) stack x le e = by (has_form f stack) (λ g. by_more m n fs stack x le g) e
   where
-    by : (b : Bool) → (moved_by m fs stack ≡ Some x → moved_by n fs stack ≡ Some x) → (if b then limited m (moved f stack) else moved_by m fs stack) ≡ Some x → (if b then limited n (moved f stack) else moved_by n fs stack) ≡ Some x
+    by : (b : Bool) → (moved_by m fs stack ≡ Some x → moved_by n fs stack ≡ Some x)
+        → (if b then limited m (moved f stack) else moved_by m fs stack) ≡ Some x → (if b then limited n (moved f stack) else moved_by n fs stack) ≡ Some x
     by true more e = limit_more m n (moved f stack) x le e
     by false more e = more e
 
-stack_more : (s t : TypeState) (o p : Option (List VerificationType)) → ((x : List VerificationType) → o ≡ Some x → p ≡ Some x) → with_stack s o ≡ Some t → with_stack s p ≡ Some t
+stack_more : (s t : TypeState) (o p : Option (List VerificationType)) → ((x : List VerificationType) → o ≡ Some x → p ≡ Some x)
+    → with_stack s o ≡ Some t → with_stack s p ≡ Some t
 stack_more s t None p h e = absurd (none-some _ e)
 stack_more s t (Some x) p h e = ap (with_stack s) (h x refl) ∙ e
 
-pushed_more : (m n : ℕ) (s t : TypeState) (stack : List VerificationType) → m ≤ n → with_stack s (limited m stack) ≡ Some t → with_stack s (limited n stack) ≡ Some t
+pushed_more : (m n : ℕ) (s t : TypeState) (stack : List VerificationType) → m ≤ n → with_stack s (limited m stack) ≡ Some t
+    → with_stack s (limited n stack) ≡ Some t
 pushed_more m n s t stack le e = stack_more s t (limited m stack) (limited n stack) (λ x q. limit_more m n stack x le q) e
 
-built_more : (m n : ℕ) (old : VerificationType) (rest : List VerificationType) (given : List Gives) (name : Option (List ℕ)) (s t : TypeState) → m ≤ n → built_as m old rest given name s ≡ Some t → built_as n old rest given name s ≡ Some t
+built_more : (m n : ℕ) (old : VerificationType) (rest : List VerificationType) (given : List Gives) (name : Option (List ℕ)) (s t : TypeState) → m ≤ n
+    → built_as m old rest given name s ≡ Some t → built_as n old rest given name s ≡ Some t
 built_more m n old rest given None s t le e = e
-built_more m n old rest given (Some name) s t le e = pushed_more m n (record { locals = map (replaced old name) s.locals; stack = s.stack }) t (map (replaced old name) rest ++ map (given_of []) given) le e
+built_more m n old rest given (Some name) s t le e =
+    pushed_more m n (record { locals = map (replaced old name) s.locals; stack = s.stack }) t (map (replaced old name) rest ++ map (given_of []) given) le e
 
 -- a step that has a state after it has the same one where the stack has more slots
 pub more_room : (g : Ground) (n : ℕ) (st : Step) (s t : TypeState) → g.most ≤ n → apply g st s ≡ Some t → apply (record g { most = n }) st s ≡ Some t
-more_room g n (moves forms) s t le e = stack_more s t (moved_by g.most forms s.stack) (moved_by n forms s.stack) (λ x q. by_more g.most n forms s.stack x le q) e
+more_room g n (moves forms) s t le e =
+    stack_more s t (moved_by g.most forms s.stack) (moved_by n forms s.stack) (λ x q. by_more g.most n forms s.stack x le q) e
 more_room g n (loads k w) s t le e = if_more (accepts w (get_or s.locals k top)) _ _ t (pushed_more g.most n s t (s.stack ++ get_or s.locals k top ∷ []) le) e
 more_room g n (stores k w) s t le e =
-    let h = last s.stack in if_more (accepts w h) _ _ t (pushed_more g.most n (record { locals = put_local k h s.locals; stack = s.stack }) t (below 1 s.stack) le) e
+    let h = last s.stack in if_more (accepts w h) _ _ t
+    (pushed_more g.most n (record { locals = put_local k h s.locals; stack = s.stack }) t (below 1 s.stack) le) e
 more_room g n (counts k) s t le e = if_more (is_int (get_or s.locals k top)) _ _ t (pushed_more g.most n s t s.stack le) e
 more_room g n picks s t le e =
     let array = get_or (upper 2 s.stack) 0 top in
     if_more (is_array array && is_int (get_or (upper 2 s.stack) 1 top)) _ _ t (pushed_more g.most n s t (below 2 s.stack ++ element_of array ∷ []) le) e
 more_room g n makes s t le e =
-    else_more (list_any (is_made g.place) s.stack) _ _ t (pushed_more g.most n (record { locals = map (without g.place) s.locals; stack = s.stack }) t (s.stack ++ uninit g.place ∷ []) le) e
+    else_more (list_any (is_made g.place) s.stack) _ _ t
+    (pushed_more g.most n (record { locals = map (without g.place) s.locals; stack = s.stack }) t (s.stack ++ uninit g.place ∷ []) le) e
 more_room g n (builds f) s t le e =
     let k = suc (length f.wanted) in let old = get_or (upper k s.stack) 0 top in
     if_more (accepts_all (wants.Anything ∷ f.wanted) (upper k s.stack)) _ _ t (built_more g.most n old (below k s.stack) f.given (class_built g old) s t le) e
@@ -141,11 +155,13 @@ still_object v type = still_moves v _ (results_placeless type.returns, tt)
 still_method : (v op : ℕ) (name : List ℕ) (type : MethodType) → IsStill v (method_step op name type)
 still_method v op name type =
     still_if v (nat_eq op opcode.invokestatic) _ _ (still_static v type)
-    (still_if v (nat_eq op opcode.invokespecial && bytes_eq name (codes "<init>")) _ _ (record { stays = refl; can = results_placeless type.returns }) (still_object v type))
+    (still_if v (nat_eq op opcode.invokespecial && bytes_eq name (codes "<init>")) _ _ (record { stays = refl; can = results_placeless type.returns })
+    (still_object v type))
 
 pub still_member : (v op : ℕ) (what : Option What) → IsStill v (member_step op what)
 still_member v op (Some (whats.Field class name desc)) = still_if v (nat_le op opcode.putfield) _ _ (still_field v op (field_type_in desc)) (still_fails v)
-still_member v op (Some (whats.Method class name desc)) = still_if v (nat_le op opcode.putfield) _ _ (still_fails v) (still_method v op name (method_type_in desc))
+still_member v op (Some (whats.Method class name desc)) =
+    still_if v (nat_le op opcode.putfield) _ _ (still_fails v) (still_method v op name (method_type_in desc))
 still_member v op _ = still_fails v
 
 pub still_interface : (v : ℕ) (what : Option What) → IsStill v (interface_step what)
@@ -156,7 +172,8 @@ pub still_dynamic : (v : ℕ) (what : Option What) → IsStill v (dynamic_step w
 still_dynamic v (Some (whats.Call name desc)) = still_static v (method_type_in desc)
 still_dynamic v _ = still_fails v
 
-still_plain : (v : ℕ) (h : VerificationType) (wanted : List Want) → IsPlaceless (kind h) → IsStill v (moves (record { wanted = wanted; given = kind h ∷ [] } ∷ []))
+still_plain : (v : ℕ) (h : VerificationType) (wanted : List Want) → IsPlaceless (kind h)
+    → IsStill v (moves (record { wanted = wanted; given = kind h ∷ [] } ∷ []))
 still_plain v h wanted p = still_moves v _ ((p, tt), tt)
 
 still_computed : (v : ℕ) (type : Option FieldType) → IsStill v (computed_step type)
@@ -209,7 +226,8 @@ plain_form f = list_all plain_gives f.given
 plain_row : Row → Bool
 plain_row r = list_all plain_form r.forms
 
-pub all_of : {X : Type 0} (test : X → Bool) (Fact : X → Type 0) → ((x : X) → test x ≡ true → Fact x) → (xs : List X) → list_all test xs ≡ true → AllByRecursion Fact xs
+pub all_of : {X : Type 0} (test : X → Bool) (Fact : X → Type 0) → ((x : X) → test x ≡ true → Fact x) → (xs : List X) → list_all test xs ≡ true
+    → AllByRecursion Fact xs
 all_of test Fact f [] e = tt
 all_of test Fact f (x ∷ xs) e = let p = and_parts (test x) (list_all test xs) e in (f x p.0, all_of test Fact f xs p.1)
 
@@ -286,20 +304,23 @@ module _ (v : ℕ) (uses news : List Use) (returns : Option FieldType) where
   led_shifts to (insns.Interface place count) same = ap interface_step (same place refl) ∙ sym (still_interface v (what_used uses place)).stays
   led_shifts to (insns.Dynamic place) same = ap dynamic_step (same place refl) ∙ sym (still_dynamic v (what_used uses place)).stays
   led_shifts to (insns.OfClass op place) same = ap (class_step op) (same place refl) ∙ sym (still_class v op (what_used uses place)).stays
-  led_shifts to (insns.Multi place dims) same = ap (λ (w : Option What). multi_step w dims) (same place refl) ∙ sym (still_multi v dims (what_used uses place)).stays
+  led_shifts to (insns.Multi place dims) same =
+      ap (λ (w : Option What). multi_step w dims) (same place refl) ∙ sym (still_multi v dims (what_used uses place)).stays
   led_shifts to _ same = refl
 
   pub image_shifts : (insn other : Insn) → IsImage v insn other → ((place : ℕ) → pool_place insn ≡ Some place → what_used news place ≡ what_used uses place)
       → step_of news returns other ≡ shifted_step v (step_of uses returns insn)
   image_shifts insn other (led to is) same = ap (step_of news returns) is ∙ led_shifts to insn same
   image_shifts insn other (inverted op to elsewhere is test new) same =
-      ap (step_of news returns) new ∙ ap (λ (forms : List StackEffect). moves forms) (test_inverts op test) ∙ ap (λ (x : Insn). shifted_step v (step_of uses returns x)) (sym is)
+      ap (step_of news returns) new ∙ ap (λ (forms : List StackEffect). moves forms) (test_inverts op test)
+      ∙ ap (λ (x : Insn). shifted_step v (step_of uses returns x)) (sym is)
 
 -- ---- which steps can shift
 
 -- what moves a long or a double is of two slots
 pub two_slots : (op : ℕ) → takes_pair (local_want op) ≡ true → is_of_two_slots op ≡ true
-two_slots op e = by (nat_eq op opcode.iload || nat_eq op opcode.istore) (nat_eq op opcode.lload) (nat_eq op opcode.lstore) (nat_eq op opcode.fload || nat_eq op opcode.fstore) (nat_eq op opcode.dload) (nat_eq op opcode.dstore) e
+two_slots op e = by (nat_eq op opcode.iload || nat_eq op opcode.istore) (nat_eq op opcode.lload) (nat_eq op opcode.lstore)
+    (nat_eq op opcode.fload || nat_eq op opcode.fstore) (nat_eq op opcode.dload) (nat_eq op opcode.dstore) e
   where
     by : (i ll ls f dl ds : Bool)
         → takes_pair (if i then wants.Int else if ll || ls then wants.Long else if f then wants.Float else if dl || ds then wants.Double else wants.Anything) ≡ true
@@ -339,17 +360,21 @@ can_shift v uses returns (insns.Lookup default arms) free = (still_forms v opcod
 
 -- ---- the classes of objects that aren't initialized
 
-new_class_led : (v : ℕ) (uses news : List Use) (to : ℕ → ℕ) (insn : Insn) → ((place : ℕ) → pool_place insn ≡ Some place → what_used news place ≡ what_used uses place)
+new_class_led : (v : ℕ) (uses news : List Use) (to : ℕ → ℕ) (insn : Insn)
+    → ((place : ℕ) → pool_place insn ≡ Some place → what_used news place ≡ what_used uses place)
     → new_class news (Some (with_places to (with_slot v insn))) ≡ new_class uses (Some insn)
 new_class_led v uses news to (insns.OfClass op place) same = ap class_in (same place refl)
 new_class_led v uses news to _ same = refl
 
-new_class_image : (v : ℕ) (uses news : List Use) (insn other : Insn) → IsImage v insn other → ((place : ℕ) → pool_place insn ≡ Some place → what_used news place ≡ what_used uses place)
+new_class_image : (v : ℕ) (uses news : List Use) (insn other : Insn) → IsImage v insn other
+    → ((place : ℕ) → pool_place insn ≡ Some place → what_used news place ≡ what_used uses place)
     → new_class news (Some other) ≡ new_class uses (Some insn)
 new_class_image v uses news insn other (led to is) same = ap (λ (x : Insn). new_class news (Some x)) is ∙ new_class_led v uses news to insn same
-new_class_image v uses news insn other (inverted op to elsewhere is test new) same = ap (λ (x : Insn). new_class news (Some x)) new ∙ ap (λ (x : Insn). new_class uses (Some x)) (sym is)
+new_class_image v uses news insn other (inverted op to elsewhere is test new) same =
+    ap (λ (x : Insn). new_class news (Some x)) new ∙ ap (λ (x : Insn). new_class uses (Some x)) (sym is)
 
-classes_stay : (v : ℕ) (image : ℕ → ℕ) (b new : Body) → HasImages v image b new → (k : ℕ) → new_class new.uses (insn_at new (image k)) ≡ new_class b.uses (insn_at b k)
+classes_stay : (v : ℕ) (image : ℕ → ℕ) (b new : Body) → HasImages v image b new → (k : ℕ)
+    → new_class new.uses (insn_at new (image k)) ≡ new_class b.uses (insn_at b k)
 classes_stay v image b new h k = by (insn_at b k) refl
   where
     by : (o : Option Insn) → insn_at b k ≡ o → new_class new.uses (insn_at new (image k)) ≡ new_class b.uses o
@@ -365,13 +390,16 @@ unfolding after_of
 after_shifts v image b new i insn s t h is free le whole e =
     let o = h.images i insn is in
     let roomy : Ground = record { most = new.max_stack; place = i; owner = b.owner; class_at = λ at. new_class b.uses (insn_at b at) } in
-    let images : Images image roomy (ground_of new (image i)) = record { apart = h.apart; place = refl; classes = classes_stay v image b new h; owner = h.owner; most = refl } in
+    let images : Images image roomy (ground_of new (image i)) =
+    record { apart = h.apart; place = refl; classes = classes_stay v image b new h; owner = h.owner; most = refl } in
     let before : apply (ground_of b i) (step_of b.uses (returns_of b) insn) s ≡ Some t =
     ap (option_and_then (λ x. apply (ground_of b i) (step_of b.uses (returns_of b) x) s)) (sym is) ∙ e in
-    let roomy_after : apply roomy (step_of b.uses (returns_of b) insn) s ≡ Some t = more_room (ground_of b i) new.max_stack (step_of b.uses (returns_of b) insn) s t h.room before in
+    let roomy_after : apply roomy (step_of b.uses (returns_of b) insn) s ≡ Some t =
+    more_room (ground_of b i) new.max_stack (step_of b.uses (returns_of b) insn) s t h.room before in
     let returns : returns_of new ≡ returns_of b = ap (λ (desc : List ℕ). (method_type_in desc).returns) h.desc in
     let step : step_of new.uses (returns_of new) o.0 ≡ shifted_step v (step_of b.uses (returns_of b) insn) =
-    ap (λ (r : Option FieldType). step_of new.uses r o.0) returns ∙ image_shifts v b.uses new.uses (returns_of b) insn o.0 o.2 (λ place p. h.uses i place insn is p) in
+    ap (λ (r : Option FieldType). step_of new.uses r o.0) returns
+    ∙ image_shifts v b.uses new.uses (returns_of b) insn o.0 o.2 (λ place p. h.uses i place insn is p) in
     ap (option_and_then (λ x. apply (ground_of new (image i)) (step_of new.uses (returns_of new) x) (shifted image v s))) o.1
     ∙ ap (λ (st : Step). apply (ground_of new (image i)) st (shifted image v s)) step
     ∙ shift-law image v roomy (ground_of new (image i)) (step_of b.uses (returns_of b) insn) s images (can_shift v b.uses (returns_of b) insn free) le whole

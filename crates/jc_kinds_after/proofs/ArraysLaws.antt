@@ -1,11 +1,13 @@
 -- Elements of arrays, and classes that are numbered on the way.
-use Rattle.std.proofs.Common.{◌≡◌, ℕ, ◌+◌, ◌-◌, ◌≤◌, Bool, true, false, ◌&&◌, List, [], ◌∷◌, ◌++◌, length, map, drop, Option, Some, None, option_map, if◌then◌else◌, refl, sym, ap, ◌∙◌, subst, arith, append_assoc, get_or, MatchOption}
+use Rattle.std.proofs.Common.{◌≡◌, ℕ, ◌+◌, ◌-◌, ◌≤◌, Bool, true, false, ◌&&◌, List, [], ◌∷◌, ◌++◌, length, map, drop, Option, Some, None, option_map}
+use Rattle.std.proofs.Common.{if◌then◌else◌, refl, sym, ap, ◌∙◌, subst, arith, append_assoc, get_or, MatchOption}
 use Rattle.std.proofs.lemmas.List.{get_or-drop, length-drop}
 use Rattle.std.proofs.lemmas.Bool.{and_right}
 use Rattle.jc_methods.specs.declared.kind.Kind.{Kind}
 use Rattle.jc_methods.specs.declared.kind.Kind.TheVariants as kinds
 use Rattle.jc_methods.specs.declared.kind.State.{State}
-use Rattle.jc_methods.specs.VerificationTypes.{Names, VerificationType, top, int, float, double, long, null, uninit_this, object, uninit, verification_type, TypeState, type_state, Grows, IsNumberedState}
+use Rattle.jc_methods.specs.VerificationTypes.{Names, VerificationType, top, int, float, double, long, null, uninit_this, object, uninit}
+use Rattle.jc_methods.specs.VerificationTypes.{verification_type, TypeState, type_state, Grows, IsNumberedState}
 use Rattle.jc_methods.proofs.SeenLaws.{seen_stays}
 use Rattle.jc_kinds_after.specs.declared.want.Want.{Want}
 use Rattle.jc_kinds_after.specs.declared.want.Want.TheVariants as wants
@@ -22,18 +24,25 @@ seen_later old new more s g n =
     ap (λ (l : Names). type_state (l ++ more) s) g.1 ∙ ap (λ (l : Names). type_state l s) (append_assoc old g.0 more) ∙ seen_stays old (g.0 ++ more) s n
 
 -- a form that leaves one value, by what it is
-pub one_given : (old names : Names) (state : State) (wanted : List Want) (k : Kind) (h : VerificationType) (most : ℕ) (o : Option State) → type_state names state ≡ type_state old state → verification_type names k ≡ h
-    → option_map (type_state names) o ≡ with_stack (type_state names state) (moved_in most (form_of names wanted (given.Kind k ∷ [])) (map (verification_type names) state.stack))
+pub one_given : (old names : Names) (state : State) (wanted : List Want) (k : Kind) (h : VerificationType) (most : ℕ) (o : Option State)
+    → type_state names state ≡ type_state old state → verification_type names k ≡ h
+    → option_map (type_state names) o
+    ≡ with_stack (type_state names state) (moved_in most (form_of names wanted (given.Kind k ∷ [])) (map (verification_type names) state.stack))
     → option_map (type_state names) o ≡ with_stack (type_state old state) (moved_in most (form wanted (kind h ∷ [])) (map (verification_type old) state.stack))
 one_given old names state wanted k h most o same is m =
-    let P : TypeState → Type 0 = λ s. option_map (type_state names) o ≡ with_stack s (moved_in most (form wanted (kind (verification_type names k) ∷ [])) s.stack) in
-    let Q : VerificationType → Type 0 = λ x. option_map (type_state names) o ≡ with_stack (type_state old state) (moved_in most (form wanted (kind x ∷ [])) (map (verification_type old) state.stack)) in
+    let P : TypeState → Type 0 =
+    λ s. option_map (type_state names) o ≡ with_stack s (moved_in most (form wanted (kind (verification_type names k) ∷ [])) s.stack) in
+    let Q : VerificationType → Type 0 =
+    λ x. option_map (type_state names) o
+    ≡ with_stack (type_state old state) (moved_in most (form wanted (kind x ∷ [])) (map (verification_type old) state.stack)) in
     subst Q is (subst P same m)
 
 -- the deepest of so many operands
-pub deepest_is : (names : Names) (n : ℕ) (ks : List Kind) → get_or (upper n (map (verification_type names) ks)) 0 top ≡ verification_type names (get_or ks (length ks - n) kinds.Top)
+pub deepest_is : (names : Names) (n : ℕ) (ks : List Kind)
+    → get_or (upper n (map (verification_type names) ks)) 0 top ≡ verification_type names (get_or ks (length ks - n) kinds.Top)
 deepest_is names n ks =
-    ap (λ hs. get_or hs 0 top) (upper_is names n ks) ∙ get_held names (drop (length ks - n) ks) 0 ∙ ap (verification_type names) (get_or-drop (length ks - n) ks 0 kinds.Top)
+    ap (λ hs. get_or hs 0 top) (upper_is names n ks) ∙ get_held names (drop (length ks - n) ks) 0
+    ∙ ap (verification_type names) (get_or-drop (length ks - n) ks 0 kinds.Top)
     ∙ ap (λ i. verification_type names (get_or ks i kinds.Top)) (let P : length ks - n + 0 ≡ length ks - n = omega arith in P)
 
 array_reference : (h : VerificationType) → is_array h ≡ true → is_reference h ≡ true
@@ -59,7 +68,8 @@ picked_moves most s array at is = by (upper 2 s.stack) (let n = length-drop (len
   where
     by : (u : List VerificationType) → length u ≤ 2 → get_or u 0 top ≡ array
         → with_stack s (if accepts_all (wants.Reference ∷ wants.Int ∷ []) u then limited most (below 2 s.stack ++ element_of array ∷ []) else None)
-        ≡ (if is_array (get_or u 0 top) && is_int (get_or u 1 top) then with_stack s (limited most (below 2 s.stack ++ element_of (get_or u 0 top) ∷ [])) else None)
+        ≡ (if is_array (get_or u 0 top) && is_int (get_or u 1 top) then with_stack s
+        (limited most (below 2 s.stack ++ element_of (get_or u 0 top) ∷ [])) else None)
     by [] few at = refl
     by (x ∷ []) few at = rw (and_right (is_reference x) false refl, and_right (is_array x) false refl) refl
     by (x ∷ y ∷ []) few at =

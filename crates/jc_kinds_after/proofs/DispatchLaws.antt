@@ -15,10 +15,13 @@ use Rattle.jc_kinds_after.specs.After.{step_of}
 use Rattle.jc_kinds_after.specs.Does.{Does, does, does_of, IsDescribed}
 use Rattle.jc_kinds_after.specs.Steps.{step_in}
 
-pub by_use : (uses : List Use) (returns : Option FieldType) (insn x : Insn) (place : ℕ) (names : Names) (effect : Effect) (st : KeptStep) (by : Does → Step) → insn ≡ x → pool_place x ≡ Some place
-    → ((p : ℕ) → pool_place insn ≡ Some p → HasUse uses p (Suits insn)) → ((what : What) → what_used uses place ≡ Some what → IsDescribed what → does names effect ≡ does_of what)
+pub by_use : (uses : List Use) (returns : Option FieldType) (insn x : Insn) (place : ℕ) (names : Names) (effect : Effect) (st : KeptStep) (by : Does
+    → Step) → insn ≡ x → pool_place x ≡ Some place
+    → ((p : ℕ) → pool_place insn ≡ Some p → HasUse uses p (Suits insn))
+    → ((what : What) → what_used uses place ≡ Some what → IsDescribed what → does names effect ≡ does_of what)
     → step_in names st ≡ by (does names effect) → ((what : What) → Suits x what → IsDescribed what)
-    → ((what : What) → Suits x what → what_used uses place ≡ Some what → by (does_of what) ≡ step_of uses returns x) → step_in names st ≡ step_of uses returns insn
+    → ((what : What) → Suits x what → what_used uses place ≡ Some what → by (does_of what) ≡ step_of uses returns x)
+    → step_in names st ≡ step_of uses returns insn
 by_use uses returns insn x place names effect st by is named used at kept described same =
     let P : Insn → Type 0 = λ i. ((p : ℕ) → pool_place i ≡ Some p → HasUse uses p (Suits i)) → step_in names st ≡ step_of uses returns i in
     subst P (sym is) (λ there. let u = there place named in kept ∙ ap by (at u.what u.used (described u.what u.fact)) ∙ same u.what u.fact u.used) used

@@ -29,7 +29,8 @@ pub grown_twice : (a b c : Names) → Grows a b → Grows b c → Grows a c
 grown_twice a b c g h = (g.0 ++ h.0, h.1 ∙ ap (λ (l : Names). l ++ h.0) g.1 ∙ append_assoc a g.0 h.0)
 
 -- what holds under all longer lists of names does so under those of a longer one
-pub later : {X : Type 0} (f : Names → X) (x : X) (old new : Names) → Grows old new → ((more : Names) → f (old ++ more) ≡ x) → (more : Names) → f (new ++ more) ≡ x
+pub later : {X : Type 0} (f : Names → X) (x : X) (old new : Names) → Grows old new → ((more : Names) → f (old ++ more) ≡ x) → (more : Names)
+    → f (new ++ more) ≡ x
 later f x old new g all more = ap (λ (l : Names). f (l ++ more)) g.1 ∙ ap f (append_assoc old g.0 more) ∙ all (g.0 ++ more)
 
 some_head : (x y : VerificationType) (xs ys : List VerificationType) → (x ∷ xs) ≡ (y ∷ ys) → x ≡ y
@@ -48,9 +49,12 @@ there_later old new (Some what) None g says = elim says [ ]
 
 -- ---- calls
 
-pub same_wants : (given : List ValueType) (types : List FieldType) → map held_by given ≡ map held_of types → map (λ (v : ValueType). want_for (held_by v)) given ≡ map want_of types
+pub same_wants : (given : List ValueType) (types : List FieldType) → map held_by given ≡ map held_of types
+    → map (λ (v : ValueType). want_for (held_by v)) given ≡ map want_of types
 same_wants [] [] e = refl
-same_wants (v ∷ given) (t ∷ types) e = ap₂ (λ w ws. w ∷ ws) (ap want_for (some_head (held_by v) (held_of t) (map held_by given) (map held_of types) e)) (same_wants given types (rest (held_by v) (held_of t) (map held_by given) (map held_of types) e))
+same_wants (v ∷ given) (t ∷ types) e =
+    ap₂ (λ w ws. w ∷ ws) (ap want_for (some_head (held_by v) (held_of t) (map held_by given) (map held_of types) e))
+    (same_wants given types (rest (held_by v) (held_of t) (map held_by given) (map held_of types) e))
   where
     rest : (x y : VerificationType) (xs ys : List VerificationType) → (x ∷ xs) ≡ (y ∷ ys) → xs ≡ ys
     rest x y xs ys e = cc
@@ -59,15 +63,19 @@ same_wants (v ∷ given) [] e = absurd cc
 
 -- ---- values and classes
 
-pub value_says : (desc : List ℕ) (v : ValueType) (want : Want) (k : Kind) (names more : Names) → IsFieldDescriptor desc → ((type : FieldType) → DescribesField desc type → SaysType v type)
-    → want ≡ want_for (held_by v) → verification_type names k ≡ held_by v → IsNumbered (length names) k → value want (verification_type (names ++ more) k) ≡ value_of (field_type_in desc)
+pub value_says : (desc : List ℕ) (v : ValueType) (want : Want) (k : Kind) (names more : Names) → IsFieldDescriptor desc
+    → ((type : FieldType) → DescribesField desc type → SaysType v type)
+    → want ≡ want_for (held_by v) → verification_type names k ≡ held_by v → IsNumbered (length names) k
+    → value want (verification_type (names ++ more) k) ≡ value_of (field_type_in desc)
 value_says desc v want k names more d says want_is kind_is numbered =
     let said = says d.0 d.1 in
     ap₂ value (want_is ∙ ap want_for said.held_is) (held_stays names more k numbered ∙ kind_is ∙ said.held_is) ∙ ap value_of (sym (field_again desc d.0 d.1))
 
-pub class_says : (n1 n2 n3 : Names) (itself constant : Kind) (array : Option Kind) (h j : VerificationType) (a : Option VerificationType) → Grows n1 n2 → Grows n2 n3 → ((more : Names) → verification_type (n1 ++ more) itself ≡ h)
+pub class_says : (n1 n2 n3 : Names) (itself constant : Kind) (array : Option Kind) (h j : VerificationType) (a : Option VerificationType)
+    → Grows n1 n2 → Grows n2 n3 → ((more : Names) → verification_type (n1 ++ more) itself ≡ h)
     → ((more : Names) → option_map (verification_type (n2 ++ more)) array ≡ a) → ((more : Names) → verification_type (n3 ++ more) constant ≡ j) → (more : Names)
-    → of_class (verification_type (n3 ++ more) itself) (option_map (verification_type (n3 ++ more)) array) (verification_type (n3 ++ more) constant) ≡ of_class h a j
+    → of_class (verification_type (n3 ++ more) itself) (option_map (verification_type (n3 ++ more)) array) (verification_type (n3 ++ more) constant)
+    ≡ of_class h a j
 class_says n1 n2 n3 itself constant array h j a g2 g3 first second third more =
     let p = later (λ names. verification_type names itself) h n1 n3 (grown_twice n1 n2 n3 g2 g3) first more in
     let q = later (λ names. option_map (verification_type names) array) a n2 n3 g3 second more in
@@ -80,12 +88,16 @@ says_now names what e says d = ap (λ (l : Names). does l e) (sym (nil names)) �
     nil [] = refl
     nil (x ∷ xs) = ap (λ l. x ∷ l) (nil xs)
 
-pub call_says : (desc : List ℕ) (given types : List ValueType) (returns : Option ValueType) (wanted : List Want) (result : Option Kind) (build : Bool) (names : Names) → IsMethodDescriptor desc
-    → ((type : MethodType) → DescribesMethod desc type → AllSayTypes types type.parameters) → ((type : MethodType) → DescribesMethod desc type → SaysReturn returns type.returns)
-    → given ≡ types → wanted ≡ wants.Reference ∷ map (λ (v : ValueType). want_for (held_by v)) given → option_map (verification_type names) result ≡ option_map held_by returns
+pub call_says : (desc : List ℕ) (given types : List ValueType) (returns : Option ValueType) (wanted : List Want) (result : Option Kind) (build : Bool)
+    (names : Names) → IsMethodDescriptor desc
+    → ((type : MethodType) → DescribesMethod desc type → AllSayTypes types type.parameters)
+    → ((type : MethodType) → DescribesMethod desc type → SaysReturn returns type.returns)
+    → given ≡ types → wanted ≡ wants.Reference ∷ map (λ (v : ValueType). want_for (held_by v)) given
+    → option_map (verification_type names) result ≡ option_map held_by returns
     → call wanted (option_map (verification_type names) result) build ≡ call_of build (method_type_in desc)
 call_says desc given types returns wanted result build names d parameters_say returns_say same w r =
     let said = parameters_say d.0 d.1 in let back = returns_say d.0 d.1 in
     ap₂ (λ ws o. call ws o build)
-    (w ∙ ap (λ (ws : List Want). wants.Reference ∷ ws) (ap (map (λ (v : ValueType). want_for (held_by v))) same ∙ same_wants types d.0.parameters said.held_are)) (r ∙ back.held_is)
+    (w ∙ ap (λ (ws : List Want). wants.Reference ∷ ws) (ap (map (λ (v : ValueType). want_for (held_by v))) same
+    ∙ same_wants types d.0.parameters said.held_are)) (r ∙ back.held_is)
     ∙ ap (call_of build) (sym (method_again desc d.0 d.1))

@@ -1,5 +1,6 @@
 -- The effects of a body when more names are numbered, and what their calls answer.
-use Rattle.std.proofs.Common.{◌≡◌, ℕ, List, [], ◌∷◌, ◌++◌, length, Option, Some, None, option_map, Result, Ok, Err, IfOk, IfSome, refl, sym, ap, subst, ◌∙◌, slice_get, get_or}
+use Rattle.std.proofs.Common.{◌≡◌, ℕ, List, [], ◌∷◌, ◌++◌, length, Option, Some, None, option_map, Result, Ok, Err, IfOk, IfSome, refl, sym, ap}
+use Rattle.std.proofs.Common.{subst, ◌∙◌, slice_get, get_or}
 use Rattle.jc_methods.specs.declared.kind.Kind.{Kind}
 use Rattle.jc_methods.specs.declared.kind.Kind.TheVariants as kinds
 use Rattle.jc_methods.specs.declared.kind.State.{State}
@@ -39,7 +40,8 @@ are_later old new e g a = record {
 }
 
 -- the same, with the elements of more arrays
-pub with_elements : (old new : Names) (e : Effects) (elements : Elements) → Grows old new → AreEffects old e → AreElements new elements → AreEffects new (record e { elements = elements })
+pub with_elements : (old new : Names) (e : Effects) (elements : Elements) → Grows old new → AreEffects old e → AreElements new elements
+    → AreEffects new (record e { elements = elements })
 with_elements old new e elements g a are =
     let all = are_later old new e g a in
     record { body = all.body; uses = all.uses; elements = are; owner = all.owner; returns = all.returns }
@@ -56,25 +58,30 @@ state_later old new b s g is =
 
 -- ---- results
 
-pub next_left : (old new : Names) (b : Body) (i : ℕ) (s : State) → IsWellMadeOfAnySize b → IsStateOf (length old) b s → (o : Option State) → LeavesAlways old new b i s o → IfSome o (IsStateOf (length new) b)
+pub next_left : (old new : Names) (b : Body) (i : ℕ) (s : State) → IsWellMadeOfAnySize b → IsStateOf (length old) b s → (o : Option State)
+    → LeavesAlways old new b i s o → IfSome o (IsStateOf (length new) b)
 next_left old new b i s w is None always = tt
 next_left old new b i s w is (Some t) always = left_of_body old new b i s t w is always
 
-pub whole_left : (old new : Names) (b : Body) (i : ℕ) (s : State) → IsWellMadeOfAnySize b → IsStateOf (length old) b s → (o : Option State) → LeavesAlways old new b i s o
+pub whole_left : (old new : Names) (b : Body) (i : ℕ) (s : State) → IsWellMadeOfAnySize b → IsStateOf (length old) b s → (o : Option State)
+    → LeavesAlways old new b i s o
     → IfSome o (λ t. IsWhole b s → IsWhole b t)
 whole_left old new b i s w is None always = tt
 whole_left old new b i s w is (Some t) always = left_whole old new b i s t w is always
 
-pub after_leaves : (old new : Names) (b : Body) (i : ℕ) (s : State) (r : Result (Option State) Memory) → IfOk r (LeavesAlways old new b i s) → IfOk r (LeavesState old new b i s)
+pub after_leaves : (old new : Names) (b : Body) (i : ℕ) (s : State) (r : Result (Option State) Memory) → IfOk r (LeavesAlways old new b i s)
+    → IfOk r (LeavesState old new b i s)
 after_leaves old new b i s (Ok o) always = leaves old new b i s o always
 after_leaves old new b i s (Err e) always = tt
 
-pub after_next : (old new : Names) (b : Body) (i : ℕ) (s : State) → IsWellMadeOfAnySize b → IsStateOf (length old) b s → (r : Result (Option State) Memory) → IfOk r (LeavesAlways old new b i s)
+pub after_next : (old new : Names) (b : Body) (i : ℕ) (s : State) → IsWellMadeOfAnySize b → IsStateOf (length old) b s
+    → (r : Result (Option State) Memory) → IfOk r (LeavesAlways old new b i s)
     → IfOk r (λ o. IfSome o (IsStateOf (length new) b))
 after_next old new b i s w is (Ok o) always = next_left old new b i s w is o always
 after_next old new b i s w is (Err e) always = tt
 
-pub after_whole : (old new : Names) (b : Body) (i : ℕ) (s : State) → IsWellMadeOfAnySize b → IsStateOf (length old) b s → (r : Result (Option State) Memory) → IfOk r (LeavesAlways old new b i s)
+pub after_whole : (old new : Names) (b : Body) (i : ℕ) (s : State) → IsWellMadeOfAnySize b → IsStateOf (length old) b s
+    → (r : Result (Option State) Memory) → IfOk r (LeavesAlways old new b i s)
     → IfOk r (λ o. IfSome o (λ t. IsWhole b s → IsWhole b t))
 after_whole old new b i s w is (Ok o) always = whole_left old new b i s w is o always
 after_whole old new b i s w is (Err e) always = tt
@@ -83,7 +90,8 @@ after_whole old new b i s w is (Err e) always = tt
 pub owner_built : (names : Names) (e : Effects) (place : ℕ) (old : Kind) → AreEffects names e → old ≡ kinds.UninitThis
     → Some (verification_type names e.owner) ≡ option_map object (class_built (ground_of (body_of e) place) (verification_type names old))
 owner_built names e place old are is =
-    let P : Kind → Type 0 = λ k. Some (verification_type names e.owner) ≡ option_map object (class_built (ground_of (body_of e) place) (verification_type names k)) in
+    let P : Kind → Type 0 = λ k. Some (verification_type names e.owner)
+    ≡ option_map object (class_built (ground_of (body_of e) place) (verification_type names k)) in
     subst P (sym is) (ap Some (ap (λ (l : Names). verification_type l e.owner) (sym (nil names)) ∙ are.owner []))
   where
     nil : (xs : Names) → xs ++ [] ≡ xs
@@ -95,7 +103,8 @@ owner_built names e place old are is =
 pub made_class : (names : Names) (e : Effects) (at made place : ℕ) (x : Insn) (code : List Insn) (effect : Effect) (result : Option Kind) → AreEffects names e
     → slice_get (body_of e).code at ≡ Some (insns.OfClass opcode.new made) → code ≡ (body_of e).code → x ≡ get_or code at x → Some place ≡ pool_place x
     → ((what : What) → what_used (body_of e).uses place ≡ Some what → IsDescribed what → does names effect ≡ does_of what)
-    → ((h constant : VerificationType) (array : Option VerificationType) → does names effect ≡ of_class h array constant → option_map (verification_type names) result ≡ Some h)
+    → ((h constant : VerificationType) (array : Option VerificationType) → does names effect ≡ of_class h array constant
+    → option_map (verification_type names) result ≡ Some h)
     → option_map (verification_type names) result ≡ Some (object (new_class (body_of e).uses (insn_at (body_of e) at)))
 made_class names e at made place x code effect result are is same read named kept classed =
     by u.what u.fact u.used
@@ -107,10 +116,12 @@ made_class names e at made place x code effect result are is same read named kep
     place_is = same_Some place made (named ∙ ap pool_place x_is)
 
     u : HasUse (body_of e).uses made (Suits (insns.OfClass opcode.new made))
-    u = subst (λ (i : Insn). (p : ℕ) → pool_place i ≡ Some p → HasUse (body_of e).uses p (Suits i)) (get_or_from_slice_get (body_of e).code at (insns.OfClass opcode.new made) (insns.OfClass opcode.new made) is)
+    u = subst (λ (i : Insn). (p : ℕ) → pool_place i ≡ Some p → HasUse (body_of e).uses p (Suits i))
+        (get_or_from_slice_get (body_of e).code at (insns.OfClass opcode.new made) (insns.OfClass opcode.new made) is)
         (are.body.uses.by_insns at (insns.OfClass opcode.new made) (slice_get_within (body_of e).code at (insns.OfClass opcode.new made) is)) made refl
 
-    by : (what : What) → IsClass what → what_used (body_of e).uses made ≡ Some what → option_map (verification_type names) result ≡ Some (object (new_class (body_of e).uses (insn_at (body_of e) at)))
+    by : (what : What) → IsClass what → what_used (body_of e).uses made ≡ Some what
+        → option_map (verification_type names) result ≡ Some (object (new_class (body_of e).uses (insn_at (body_of e) at)))
     by (whats.Class name) fits used =
         classed (object name) _ _ (kept (whats.Class name) (ap (what_used (body_of e).uses) place_is ∙ used) tt)
         ∙ ap (λ (w : Option What). Some (object (class_in w))) (sym used) ∙ ap (λ (o : Option Insn). Some (object (new_class (body_of e).uses o))) (sym is)
@@ -119,6 +130,7 @@ made_class names e at made place x code effect result are is same read named kep
 
 -- ---- the same of a body by itself
 
-pub of_body : (old one new : Names) (c b : Body) (i : ℕ) (s : State) (r : Result (Option State) Memory) → Grows old one → IsNumberedState (length old) s → c ≡ b → IfOk r (LeavesState one new c i s) → IfOk r (LeavesState old new b i s)
+pub of_body : (old one new : Names) (c b : Body) (i : ℕ) (s : State) (r : Result (Option State) Memory) → Grows old one
+    → IsNumberedState (length old) s → c ≡ b → IfOk r (LeavesState one new c i s) → IfOk r (LeavesState old new b i s)
 of_body old one new c b i s (Err e) g n same left = tt
 of_body old one new c b i s (Ok o) g n same left = left ∙ ap (after_of c i) (seen_grown old one s g n) ∙ ap (λ (x : Body). after_of x i (type_state old s)) same

@@ -1,5 +1,6 @@
 -- The state after an instruction is one of the body, and a well made state leaves a well made one.
-use Rattle.std.proofs.Common.{◌≡◌, ℕ, zero, suc, ◌+◌, ◌<◌, Bool, true, false, ◌&&◌, List, [], ◌∷◌, ◌++◌, length, map, Option, Some, None, option_map, if◌then◌else◌, refl, sym, ap, ap₂, ◌∙◌, subst, arith, get_or, nat_eq, nat_le, nat_lt, All, slice_get}
+use Rattle.std.proofs.Common.{◌≡◌, ℕ, zero, suc, ◌+◌, ◌<◌, Bool, true, false, ◌&&◌, List, [], ◌∷◌, ◌++◌, length, map, Option, Some, None, option_map}
+use Rattle.std.proofs.Common.{if◌then◌else◌, refl, sym, ap, ap₂, ◌∙◌, subst, arith, get_or, nat_eq, nat_le, nat_lt, All, slice_get}
 use Rattle.std.specs.Option.{option_and_then}
 use Rattle.std.specs.List.{AllByRecursion, sum_by}
 use Rattle.std.specs.Prelude.{codes, bytes_eq}
@@ -22,12 +23,15 @@ use Rattle.jc_methods.specs.DescriptorTypes.{field_type_in, method_type_in}
 use Rattle.jc_methods.specs.Flow.{is_return}
 use Rattle.jc_methods.specs.InsnUse.{is_of_two_slots, LocalsWithin}
 use Rattle.jc_methods.specs.WellMade.{IsKind, IsWellMadeOfAnySize, kind_slots, what_used}
-use Rattle.jc_methods.specs.VerificationTypes.{Names, VerificationType, top, int, float, double, long, null, uninit_this, object, uninit, verification_type, TypeState, type_state, slots, IsNumbered}
+use Rattle.jc_methods.specs.VerificationTypes.{Names, VerificationType, top, int, float, double, long, null, uninit_this, object, uninit}
+use Rattle.jc_methods.specs.VerificationTypes.{verification_type, TypeState, type_state, slots, IsNumbered}
 use Rattle.jc_bytes.proofs.EachLaws.{each_of_all, all_of_each}
 use Rattle.jc_kinds_after.specs.declared.want.Want.TheVariants as wants
 use Rattle.jc_kinds_after.specs.Step.{Step, moves, loads, stores, counts, picks, makes, builds, fails, apply}
 use Rattle.jc_kinds_after.specs.Table.{turns}
-use Rattle.jc_kinds_after.specs.After.{field_step, method_step, member_step, interface_step, dynamic_step, computed_step, constant_step, array_of, array_step, class_step, multi_step, return_op, simple_step, local_want, step_of, insn_at, ground_of, returns_of, after_of}
+use Rattle.jc_kinds_after.specs.After.{field_step, method_step, member_step, interface_step, dynamic_step, computed_step, constant_step, array_of}
+use Rattle.jc_kinds_after.specs.After.{array_step, class_step, multi_step, return_op, simple_step, local_want, step_of, insn_at, ground_of}
+use Rattle.jc_kinds_after.specs.After.{returns_of, after_of}
 use Rattle.jc_kinds_after.specs.Answers.{IsStateOf, IsWhole, LeavesState, LeavesAlways}
 use Rattle.jc_kinds_after.specs.Shift.{IsPlaceless, Straddles}
 use Rattle.jc_kinds_after.specs.Step.{kind}
@@ -59,11 +63,13 @@ if_plain false x y p q = q
 plain_field : (op : ℕ) (type : Option FieldType) → plain (field_step op type) ≡ true
 unfolding plain
 plain_field op None = refl
-plain_field op (Some type) = if_plain (nat_eq op opcode.getstatic) _ _ refl (if_plain (nat_eq op opcode.putstatic) _ _ refl (if_plain (nat_eq op opcode.getfield) _ _ refl refl))
+plain_field op (Some type) =
+    if_plain (nat_eq op opcode.getstatic) _ _ refl (if_plain (nat_eq op opcode.putstatic) _ _ refl (if_plain (nat_eq op opcode.getfield) _ _ refl refl))
 
 plain_method : (op : ℕ) (name : List ℕ) (type : MethodType) → plain (method_step op name type) ≡ true
 unfolding plain
-plain_method op name type = if_plain (nat_eq op opcode.invokestatic) _ _ refl (if_plain (nat_eq op opcode.invokespecial && bytes_eq name (codes "<init>")) _ _ refl refl)
+plain_method op name type =
+    if_plain (nat_eq op opcode.invokestatic) _ _ refl (if_plain (nat_eq op opcode.invokespecial && bytes_eq name (codes "<init>")) _ _ refl refl)
 
 plain_member : (op : ℕ) (what : Option What) → plain (member_step op what) ≡ true
 unfolding plain
@@ -98,7 +104,8 @@ plain_multi _ dims = refl
 
 plain_simple : (returns : Option FieldType) (op : ℕ) → plain (simple_step returns op) ≡ true
 unfolding plain
-plain_simple returns op = if_plain (nat_eq op opcode.aaload) _ _ refl (if_plain (is_return op) _ _ (if_plain (nat_eq op (return_op returns)) _ _ refl refl) refl)
+plain_simple returns op =
+    if_plain (nat_eq op opcode.aaload) _ _ refl (if_plain (is_return op) _ _ (if_plain (nat_eq op (return_op returns)) _ _ refl refl) refl)
 
 -- anewarray, checkcast and instanceof
 abbrev class_rest : ℕ → List ℕ → Step
@@ -228,13 +235,15 @@ head_is x y xs ys e = cc
 tail_is : (x y : VerificationType) (xs ys : List VerificationType) → (x ∷ xs) ≡ (y ∷ ys) → xs ≡ ys
 tail_is x y xs ys e = cc
 
-kinds_within : (names : Names) (ks : List Kind) → ((more : Names) → map (verification_type (names ++ more)) ks ≡ map (verification_type names) ks) → AllByRecursion (IsNumbered (length names)) ks
+kinds_within : (names : Names) (ks : List Kind) → ((more : Names) → map (verification_type (names ++ more)) ks ≡ map (verification_type names) ks)
+    → AllByRecursion (IsNumbered (length names)) ks
 kinds_within names [] stays = tt
 kinds_within names (k ∷ ks) stays = (kind_within names k (λ more. head_is _ _ _ _ (stays more)), kinds_within names ks (λ more. tail_is _ _ _ _ (stays more)))
 
 -- ---- the state that is left
 
-pub insn_of : (b : Body) (i : ℕ) (s t : TypeState) → after_of b i s ≡ Some t → (insn : Insn) × (insn_at b i ≡ Some insn) × (apply (ground_of b i) (step_of b.uses (returns_of b) insn) s ≡ Some t)
+pub insn_of : (b : Body) (i : ℕ) (s t : TypeState) → after_of b i s ≡ Some t
+    → (insn : Insn) × (insn_at b i ≡ Some insn) × (apply (ground_of b i) (step_of b.uses (returns_of b) insn) s ≡ Some t)
 unfolding after_of
 insn_of b i s t e = by (insn_at b i) refl e
   where
@@ -255,7 +264,8 @@ kinds_sum : (names : Names) (ks : List Kind) → slots (map (verification_type n
 kinds_sum names [] = refl
 kinds_sum names (k ∷ ks) = ap₂ (λ m n. m + n) (width_is names k) (kinds_sum names ks) ∙ sym (sum_by-cons kind_slots k ks)
 
-module _ (old new : Names) (b : Body) (i : ℕ) (s t : State) (w : IsWellMadeOfAnySize b) (is : IsStateOf (length old) b s) (always : LeavesAlways old new b i s (Some t)) where
+module _ (old new : Names) (b : Body) (i : ℕ) (s t : State) (w : IsWellMadeOfAnySize b) (is : IsStateOf (length old) b s)
+    (always : LeavesAlways old new b i s (Some t)) where
   here : after_of b i (type_state old s) ≡ Some (type_state new t)
   here = sym (leaves old new b i s (Some t) always)
 
@@ -273,10 +283,16 @@ module _ (old new : Names) (b : Body) (i : ℕ) (s t : State) (w : IsWellMadeOfA
 
   pub left_of_body : IsStateOf (length new) b t
   left_of_body = record {
-    locals = sym (length-map t.locals (verification_type new)) ∙ step_count (ground_of b i) (step_of b.uses (returns_of b) insn.0) (type_state old s) (type_state new t) insn.2 ∙ length-map s.locals (verification_type old) ∙ is.locals;
+    locals = sym (length-map t.locals (verification_type new))
+        ∙ step_count (ground_of b i) (step_of b.uses (returns_of b) insn.0) (type_state old s) (type_state new t) insn.2
+        ∙ length-map s.locals (verification_type old) ∙ is.locals;
     local_kinds = held_all b.code new t.locals all_kinds.locals;
     stack_kinds = held_all b.code new t.stack all_kinds.stack;
-    numbered = record { locals = kinds_within new t.locals (λ more. ap (λ (u : TypeState). u.locals) (stays more)); stack = kinds_within new t.stack (λ more. ap (λ (u : TypeState). u.stack) (stays more)) };
+    numbered = record {
+      locals = kinds_within new t.locals (λ more. ap (λ (u : TypeState). u.locals) (stays more));
+      stack = kinds_within new t.stack
+          (λ more. ap (λ (u : TypeState). u.stack) (stays more));
+    };
   }
 
   within : LocalsWithin b.max_locals insn.0
@@ -286,10 +302,13 @@ module _ (old new : Names) (b : Body) (i : ℕ) (s t : State) (w : IsWellMadeOfA
   pub left_whole : IsWhole b s → IsWhole b t
   left_whole whole =
       let count : length (map (verification_type old) s.locals) ≡ b.max_locals = length-map s.locals (verification_type old) ∙ is.locals in
-      let second = subst (λ (n : ℕ). HasSecond n (step_of b.uses (returns_of b) insn.0)) (sym count) (second_there b.uses (returns_of b) b.max_locals insn.0 within) in
-      let pairs = step_pairs (ground_of b i) (step_of b.uses (returns_of b) insn.0) (type_state old s) (type_state new t) second (pairs_of old s.locals whole.pairs) insn.2 in
+      let second = subst (λ (n : ℕ). HasSecond n (step_of b.uses (returns_of b) insn.0)) (sym count)
+      (second_there b.uses (returns_of b) b.max_locals insn.0 within) in
+      let pairs = step_pairs (ground_of b i) (step_of b.uses (returns_of b) insn.0) (type_state old s) (type_state new t) second
+      (pairs_of old s.locals whole.pairs) insn.2 in
       let before = kinds_sum old s.stack in let stack = whole.stack in
-      let slots_after = step_slots (ground_of b i) (step_of b.uses (returns_of b) insn.0) (type_state old s) (type_state new t) (omega (arith, before, stack)) insn.2 in
+      let slots_after = step_slots (ground_of b i) (step_of b.uses (returns_of b) insn.0) (type_state old s) (type_state new t)
+      (omega (arith, before, stack)) insn.2 in
       let after = kinds_sum new t.stack in
       record {
         locals = left_of_body.locals;

@@ -1,14 +1,21 @@
 -- A step of the shifted state is the shifted step.
-use Rattle.std.proofs.Common.{◌≡◌, ℕ, zero, suc, ◌+◌, ◌-◌, ◌<◌, ◌≤◌, Bool, true, false, ◌&&◌, ◌||◌, List, [], ◌∷◌, ◌++◌, length, map, take, drop, Option, Some, None, option_map, if◌then◌else◌, refl, sym, ap, ap₂, ◌∙◌, ⊎_elim, arith, get_or, set, nat_eq, nat_lt, nat_le, insert}
+use Rattle.std.proofs.Common.{◌≡◌, ℕ, zero, suc, ◌+◌, ◌-◌, ◌<◌, ◌≤◌, Bool, true, false, ◌&&◌, ◌||◌, List, [], ◌∷◌, ◌++◌, length, map, take, drop}
+use Rattle.std.proofs.Common.{Option, Some, None, option_map, if◌then◌else◌, refl, sym, ap, ap₂, ◌∙◌, ⊎_elim, arith, get_or, set, nat_eq, nat_lt}
+use Rattle.std.proofs.Common.{nat_le, insert}
 use Rattle.std.proofs.lemmas.List.{take-map, drop-map, map-append, length-map, length-set, map-set}
 use Rattle.std.proofs.lemmas.Bool.{cases_lt, lt-ltb, le-ltb, cond-true, cond-false}
 use Rattle.std.specs.List.{AllByRecursion, list_any}
 use Rattle.jc_kinds_after.specs.declared.want.Want.{Want}
 use Rattle.jc_kinds_after.specs.declared.want.Want.TheVariants as wants
-use Rattle.jc_methods.specs.VerificationTypes.{VerificationType, top, int, float, double, long, null, uninit_this, object, uninit, TypeState, width, is_pair, slots}
+use Rattle.jc_methods.specs.VerificationTypes.{VerificationType, top, int, float, double, long, null, uninit_this, object, uninit, TypeState, width}
+use Rattle.jc_methods.specs.VerificationTypes.{is_pair, slots}
 use Rattle.jc_kinds_after.specs.Wants.{accepts, accepts_all}
-use Rattle.jc_kinds_after.specs.Step.{Gives, kind, item, StackEffect, moves, loads, stores, counts, picks, picked, makes, builds, fails, Ground, apply, is_array, element_of, given_of, limited, below, upper, has_form, moved, moved_by, cleared, clear_before, put_second, put_local, with_stack, last, loaded, stored, counted, is_made, without, same_new, replaced, built_as, class_built}
-use Rattle.jc_kinds_after.specs.Shift.{renamed, probes, shifted, slot_of, IsPlaceless, IsPlain, CanShift, NoPairBefore, StaysWhole, Images, StepShifts, takes_pair}
+use Rattle.jc_kinds_after.specs.Step.{Gives, kind, item, StackEffect, moves, loads, stores, counts, picks, picked, makes, builds, fails, Ground}
+use Rattle.jc_kinds_after.specs.Step.{apply, is_array, element_of, given_of, limited, below, upper, has_form, moved, moved_by, cleared, clear_before}
+use Rattle.jc_kinds_after.specs.Step.{put_second, put_local, with_stack, last, loaded, stored, counted, is_made, without, same_new, replaced}
+use Rattle.jc_kinds_after.specs.Step.{built_as, class_built}
+use Rattle.jc_kinds_after.specs.Shift.{renamed, probes, shifted, slot_of, IsPlaceless, IsPlain, CanShift, NoPairBefore, StaysWhole, Images}
+use Rattle.jc_kinds_after.specs.Shift.{StepShifts, takes_pair}
 
 module _ (f : ℕ → ℕ) where
   abbrev r : VerificationType → VerificationType
@@ -78,7 +85,13 @@ module _ (f : ℕ → ℕ) where
 
   moved-renamed : (form : StackEffect) (hs : List VerificationType) → IsPlain form → moved form (map r hs) ≡ map r (moved form hs)
   moved-renamed form hs p = let n = length form.wanted in
-      rw (upper-renamed n hs, below-renamed n hs, gives-renamed (upper n hs) form.given p, map-append r (below n hs) (map (given_of (upper n hs)) form.given)) refl
+      rw (
+        upper-renamed n hs,
+        below-renamed n hs,
+        gives-renamed (upper n hs) form.given p,
+        map-append r (below n hs)
+            (map (given_of (upper n hs)) form.given),
+      ) refl
 
   has-renamed : (form : StackEffect) (hs : List VerificationType) → has_form form (map r hs) ≡ has_form form hs
   has-renamed form hs = ap (accepts_all form.wanted) (upper-renamed (length form.wanted) hs) ∙ all-renamed form.wanted (upper (length form.wanted) hs)
@@ -98,13 +111,15 @@ module _ (f : ℕ → ℕ) where
   either-map g true x y = refl
   either-map g false x y = refl
 
-  by-renamed : (most : ℕ) (forms : List StackEffect) (hs : List VerificationType) → AllByRecursion IsPlain forms → moved_by most forms (map r hs) ≡ option_map (map r) (moved_by most forms hs)
+  by-renamed : (most : ℕ) (forms : List StackEffect) (hs : List VerificationType) → AllByRecursion IsPlain forms
+      → moved_by most forms (map r hs) ≡ option_map (map r) (moved_by most forms hs)
   by-renamed most [] hs p = refl
   by-renamed most (form ∷ forms) hs p =
       rw (has-renamed form hs, moved-renamed form hs p.0, limited-renamed most (moved form hs), by-renamed most forms hs p.1)
       (either-map (map r) (has_form form hs) (limited most (moved form hs)) (moved_by most forms hs))
 
-  with-shifted : (v : ℕ) (s : TypeState) (o : Option (List VerificationType)) → with_stack (shifted f v s) (option_map (map r) o) ≡ option_map (shifted f v) (with_stack s o)
+  with-shifted : (v : ℕ) (s : TypeState) (o : Option (List VerificationType))
+      → with_stack (shifted f v s) (option_map (map r) o) ≡ option_map (shifted f v) (with_stack s o)
   with-shifted v s None = refl
   with-shifted v s (Some x) = refl
 
@@ -170,7 +185,8 @@ module _ (e : VerificationType) where
   clear_up (suc zero) (suc zero) (x ∷ ls) le single whole = let p : is_pair x ≡ false = whole 0 refl in rw (single, p) refl
   clear_up (suc (suc v)) (suc zero) (x ∷ ls) le single whole = refl
   clear_up (suc zero) (suc (suc k)) (x ∷ ls) le single whole = ap (λ l. x ∷ l) (clear_up zero (suc k) ls (omega arith) single (λ j h. absurd (omega arith)))
-  clear_up (suc (suc v)) (suc (suc k)) (x ∷ ls) le single whole = ap (λ l. x ∷ l) (clear_up (suc v) (suc k) ls (omega arith) single (λ j h. whole (suc j) (omega arith)))
+  clear_up (suc (suc v)) (suc (suc k)) (x ∷ ls) le single whole =
+      ap (λ l. x ∷ l) (clear_up (suc v) (suc k) ls (omega arith) single (λ j h. whole (suc j) (omega arith)))
 
   second_up : (v k : ℕ) (h : VerificationType) (ls : List VerificationType) → v ≤ length ls → (is_pair h ≡ true → k + 1 ≡ v → ⊥) →
       put_second h (up v k) (insert ls v e) ≡ insert (put_second h k ls) v e
@@ -190,7 +206,8 @@ module _ (e : VerificationType) where
 pub map-insert : {A B : Type 0} (g : A → B) (ls : List A) (v : ℕ) (e : A) → map g (insert ls v e) ≡ insert (map g ls) v (g e)
 map-insert g ls v e = map-append g (take v ls) (e ∷ drop v ls) ∙ ap₂ (λ a b. a ++ g e ∷ b) (sym (take-map g v ls)) (sym (drop-map g v ls))
 
-map-both : {A B C D : Type 0} (g : A → B) (h : B → D) (g' : C → D) (h' : A → C) → ((x : A) → h (g x) ≡ g' (h' x)) → (ls : List A) → map h (map g ls) ≡ map g' (map h' ls)
+map-both : {A B C D : Type 0} (g : A → B) (h : B → D) (g' : C → D) (h' : A → C) → ((x : A) → h (g x) ≡ g' (h' x)) → (ls : List A)
+    → map h (map g ls) ≡ map g' (map h' ls)
 map-both g h g' h' same [] = refl
 map-both g h g' h' same (x ∷ ls) = ap₂ (λ a b. a ∷ b) (same x) (map-both g h g' h' same ls)
 
@@ -234,7 +251,14 @@ module _ (f : ℕ → ℕ) where
   pub loads-shifted : (v k : ℕ) (g : Ground) (w : Want) (s : TypeState) → v ≤ length s.locals →
       apply g (loads (slot_of v k) w) (shifted f v s) ≡ option_map (shifted f v) (apply g (loads k w) s)
   loads-shifted v k g w s le = let h = get_or s.locals k top in
-      rw (read-shifted v k s le, accepts-renamed f w h, pushed-renamed s.stack h, limited-renamed f g.most (s.stack ++ h ∷ []), with-shifted f v s (limited g.most (s.stack ++ h ∷ [])))
+      rw (
+        read-shifted v k s le,
+        accepts-renamed f w h,
+        pushed-renamed s.stack h,
+        limited-renamed f g.most (s.stack ++ h ∷ []),
+        with-shifted f v s
+            (limited g.most (s.stack ++ h ∷ [])),
+      )
       (none-map (shifted f v) (accepts w h) (with_stack s (limited g.most (s.stack ++ h ∷ []))))
 
   pub counts-shifted : (v k : ℕ) (g : Ground) (s : TypeState) → v ≤ length s.locals →
@@ -279,9 +303,11 @@ module _ (f : ℕ → ℕ) where
       ∙ ap (with_stack (shifted f v (record s { locals = put_local k h s.locals }))) (limited-renamed f g.most (below 1 s.stack))
       ∙ with-shifted f v (record s { locals = put_local k h s.locals }) (limited g.most (below 1 s.stack))))
     where
-      placed : accepts w (last s.stack) ≡ true → put_local (slot_of v k) (q (last s.stack)) (insert (map q s.locals) v probes) ≡ insert (map q (put_local k (last s.stack) s.locals)) v probes
+      placed : accepts w (last s.stack) ≡ true → put_local (slot_of v k) (q (last s.stack)) (insert (map q s.locals) v probes)
+          ≡ insert (map q (put_local k (last s.stack) s.locals)) v probes
       placed a = let h = last s.stack in let n = length-map s.locals q in
-          let whole' : (j : ℕ) → j + 1 ≡ v → is_pair (get_or (map q s.locals) j top) ≡ false = λ j e. rw (get-renamed f s.locals j, pair-renamed f (get_or s.locals j top)) (whole j e) in
+          let whole' : (j : ℕ) → j + 1 ≡ v → is_pair (get_or (map q s.locals) j top) ≡ false =
+          λ j e. rw (get-renamed f s.locals j, pair-renamed f (get_or s.locals j top)) (whole j e) in
           ap (λ j. put_local j (q h) (insert (map q s.locals) v probes)) (slot-up v k) ∙
           put_up probes v k (q h) (map q s.locals) (omega arith) refl whole' (λ p. can (pair-taken w h a (sym (pair-renamed f h) ∙ p))) ∙
           ap (λ l. insert l v probes) (put-renamed k h s.locals)
@@ -339,9 +365,11 @@ module _ (f : ℕ → ℕ) where
     none-else g false x = refl
 
     without-locals : (i v : ℕ) (ls : List VerificationType) → map (without (f i)) (insert (map q ls) v probes) ≡ insert (map q (map (without i) ls)) v probes
-    without-locals i v ls = map-insert (without (f i)) (map q ls) v probes ∙ ap (λ l. insert l v probes) (map-both q (without (f i)) q (without i) (without-renamed i) ls)
+    without-locals i v ls = map-insert (without (f i)) (map q ls) v probes
+        ∙ ap (λ l. insert l v probes) (map-both q (without (f i)) q (without i) (without-renamed i) ls)
 
-    replaced-locals : (old : VerificationType) (name : List ℕ) (v : ℕ) (ls : List VerificationType) → map (replaced (q old) name) (insert (map q ls) v probes) ≡ insert (map q (map (replaced old name) ls)) v probes
+    replaced-locals : (old : VerificationType) (name : List ℕ) (v : ℕ) (ls : List VerificationType)
+        → map (replaced (q old) name) (insert (map q ls) v probes) ≡ insert (map q (map (replaced old name) ls)) v probes
     replaced-locals old name v ls =
         map-insert (replaced (q old) name) (map q ls) v probes ∙
         ap₂ (λ l e. insert l v e) (map-both q (replaced (q old) name) q (replaced old name) (replaced-renamed old name) ls) (stays old)
@@ -353,10 +381,20 @@ module _ (f : ℕ → ℕ) where
     pub makes-shifted : (v : ℕ) (g new : Ground) (s : TypeState) → new.place ≡ f g.place → new.most ≡ g.most →
         apply new makes (shifted f v s) ≡ option_map (shifted f v) (apply g makes s)
     makes-shifted v g new s p m = let i = g.place in let t : TypeState = record s { locals = map (without i) s.locals } in
-        rw (p, m, any-renamed i s.stack, without-locals i v s.locals, pushed-renamed s.stack (uninit i), limited-renamed f g.most (s.stack ++ uninit i ∷ []), with-shifted f v t (limited g.most (s.stack ++ uninit i ∷ [])))
+        rw (
+          p,
+          m,
+          any-renamed i s.stack,
+          without-locals i v s.locals,
+          pushed-renamed s.stack (uninit i),
+          limited-renamed f g.most
+              (s.stack ++ uninit i ∷ []),
+          with-shifted f v t (limited g.most (s.stack ++ uninit i ∷ [])),
+        )
         (none-else (shifted f v) (list_any (is_made i) s.stack) (with_stack t (limited g.most (s.stack ++ uninit i ∷ []))))
 
-    class-renamed : (g new : Ground) (old : VerificationType) → ((i : ℕ) → new.class_at (f i) ≡ g.class_at i) → new.owner ≡ g.owner → class_built new (q old) ≡ class_built g old
+    class-renamed : (g new : Ground) (old : VerificationType) → ((i : ℕ) → new.class_at (f i) ≡ g.class_at i) → new.owner ≡ g.owner
+        → class_built new (q old) ≡ class_built g old
     class-renamed g new uninit_this c o = ap Some o
     class-renamed g new (uninit i) c o = ap Some (c i)
     class-renamed g new _ c o = refl
@@ -386,7 +424,8 @@ module _ (f : ℕ → ℕ) where
           class-renamed g new old im.classes im.owner,
           as-shifted v g.most form.given p old (below n s.stack) (class_built g old) s,
         )
-        (none-map (shifted f v) (accepts_all (wants.Anything ∷ form.wanted) (upper n s.stack)) (built_as g.most old (below n s.stack) form.given (class_built g old) s))
+        (none-map (shifted f v) (accepts_all (wants.Anything ∷ form.wanted) (upper n s.stack))
+        (built_as g.most old (below n s.stack) form.given (class_built g old) s))
 
 pub shift-law : StepShifts
 shift-law image v g new (moves forms) s im can le whole =

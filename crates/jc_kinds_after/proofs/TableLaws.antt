@@ -1,5 +1,6 @@
 -- The table as it is kept has the forms of each opcode.
-use Rattle.std.proofs.Common.{◌≡◌, ◌<◌, ◌≤◌, ℕ, zero, suc, Bool, true, false, ◌&&◌, List, [], ◌∷◌, map, get_or, refl, sym, ◌∙◌, ap, arith, nat_le, if◌then◌else◌}
+use Rattle.std.proofs.Common.{◌≡◌, ◌<◌, ◌≤◌, ℕ, zero, suc, Bool, true, false, ◌&&◌, List, [], ◌∷◌, map, get_or, refl, sym, ◌∙◌, ap, arith, nat_le}
+use Rattle.std.proofs.Common.{if◌then◌else◌}
 use Rattle.std.proofs.lemmas.Bool.{and_parts, leb-true, lt-leb}
 use Rattle.std.proofs.lemmas.List.FromFn.{get_or-map-range_with_len}
 use Rattle.std.specs.List.{range_with_len, flat_map, list_all}
@@ -12,7 +13,8 @@ mapped_at [] i = refl
 mapped_at (x ∷ xs) zero = refl
 mapped_at (x ∷ xs) (suc i) = mapped_at xs i
 
-pub by_table : (xs : List (List Shape)) (op : ℕ) → map (flat_map forms_of) xs ≡ map forms_at (range_with_len 0 202) → op < 202 → flat_map forms_of (get_or xs op []) ≡ forms_at op
+pub by_table : (xs : List (List Shape)) (op : ℕ) → map (flat_map forms_of) xs ≡ map forms_at (range_with_len 0 202) → op < 202
+    → flat_map forms_of (get_or xs op []) ≡ forms_at op
 by_table xs op e lt = sym (mapped_at xs op) ∙ ap (λ l. get_or l op []) e ∙ get_or-map-range_with_len forms_at 0 202 op op [] lt (omega arith)
 
 ends_before : Row → Bool

@@ -49,7 +49,8 @@ put_keeps : (k j : ℕ) (h : VerificationType) (ls : List VerificationType) → 
 put_keeps k j h ls here there =
     second_keeps h k j (set (clear_before k ls) k h) (set_keeps (clear_before k ls) k j h here (clear_keeps k j ls there))
 
-map_keeps : (f : VerificationType → VerificationType) → f top ≡ top → ((h : VerificationType) → is_pair h ≡ false → is_pair (f h) ≡ false) → (ls : List VerificationType) (k : ℕ)
+map_keeps : (f : VerificationType → VerificationType) → f top ≡ top → ((h : VerificationType) → is_pair h ≡ false → is_pair (f h) ≡ false)
+    → (ls : List VerificationType) (k : ℕ)
     → IsSingle ls k → IsSingle (map f ls) k
 map_keeps f tops keeps ls k there = ap is_pair (get_mapped f tops ls k) ∙ keeps (get_or ls k top) there
 
@@ -62,7 +63,8 @@ one_keeps false x y p q = q
 same_whole : (v : ℕ) (s t : TypeState) → s.locals ≡ t.locals → StaysWhole v s → StaysWhole v t
 same_whole v s t e whole k at = subst (λ (ls : List VerificationType). IsSingle ls k) e (whole k at)
 
-mapped_whole : (v : ℕ) (f : VerificationType → VerificationType) → f top ≡ top → ((h : VerificationType) → is_pair h ≡ false → is_pair (f h) ≡ false) → (s t : TypeState)
+mapped_whole : (v : ℕ) (f : VerificationType → VerificationType) → f top ≡ top → ((h : VerificationType) → is_pair h ≡ false → is_pair (f h) ≡ false)
+    → (s t : TypeState)
     → map f s.locals ≡ t.locals → StaysWhole v s → StaysWhole v t
 mapped_whole v f tops keeps s t e whole k at = subst (λ (ls : List VerificationType). IsSingle ls k) e (map_keeps f tops keeps s.locals k (whole k at))
 

@@ -1,5 +1,6 @@
 -- The state after an instruction (JVM Specification 4.10.1.9, 6.5): what each instruction does to types.
-use Rattle.std.specs.Prelude.{ℕ, Bool, false, ◌&&◌, ◌||◌, List, [], ◌∷◌, ◌++◌, length, map, replicate, Option, Some, None, option_and_then, nat_eq, nat_lt, nat_le, slice_get, codes, bytes_eq, if◌then◌else◌}
+use Rattle.std.specs.Prelude.{ℕ, Bool, false, ◌&&◌, ◌||◌, List, [], ◌∷◌, ◌++◌, length, map, replicate, Option, Some, None, option_and_then, nat_eq}
+use Rattle.std.specs.Prelude.{nat_lt, nat_le, slice_get, codes, bytes_eq, if◌then◌else◌}
 use Rattle.jc_methods.specs.Opcode as opcode
 use Rattle.jc_methods.specs.declared.insn.Insn.{Insn}
 use Rattle.jc_methods.specs.declared.insn.Insn.TheVariants as insns

@@ -1,5 +1,6 @@
 -- What one thing that a body uses does to types, read once and kept under numbers of class names.
-use Rattle.std.specs.Prelude.{◌≡◌, ⊤, ℕ, ◌++◌, Bool, false, List, ◌∷◌, length, map, Option, Some, None, option_map, nat_le, codes, bytes_eq, nat_eq, if◌then◌else◌}
+use Rattle.std.specs.Prelude.{◌≡◌, ⊤, ℕ, ◌++◌, Bool, false, List, ◌∷◌, length, map, Option, Some, None, option_map, nat_le, codes, bytes_eq, nat_eq}
+use Rattle.std.specs.Prelude.{if◌then◌else◌}
 use Rattle.std.specs.HashMap.{HashMap, get}
 use Rattle.jc_methods.specs.declared.body.Use.{Use}
 use Rattle.jc_methods.specs.declared.body.What.{What}
@@ -64,7 +65,8 @@ abbrev pub does : Names → Effect → Does
 does names effects.Nothing = nothing
 does names (effects.Value want kind) = value want (verification_type names kind)
 does names (effects.Call wanted result builds) = call wanted (option_map (verification_type names) result) builds
-does names (effects.Class itself array constant) = of_class (verification_type names itself) (option_map (verification_type names) array) (verification_type names constant)
+does names (effects.Class itself array constant) =
+    of_class (verification_type names itself) (option_map (verification_type names) array) (verification_type names constant)
 
 -- under these names, and when more were numbered
 abbrev pub Says : Names → What → Effect → Type 0

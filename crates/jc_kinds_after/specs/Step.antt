@@ -1,5 +1,6 @@
 -- What an instruction does to the types of local variables and of the stack (JVM Specification 4.10.1.9).
-use Rattle.std.specs.Prelude.{ℕ, zero, suc, ◌+◌, ◌-◌, ◌&&◌, ◌||◌, Bool, true, false, List, [], ◌∷◌, ◌++◌, length, map, take, drop, slice_index_or, slice_set, Option, Some, None, nat_le, nat_eq, if◌then◌else◌}
+use Rattle.std.specs.Prelude.{ℕ, zero, suc, ◌+◌, ◌-◌, ◌&&◌, ◌||◌, Bool, true, false, List, [], ◌∷◌, ◌++◌, length, map, take, drop, slice_index_or}
+use Rattle.std.specs.Prelude.{slice_set, Option, Some, None, nat_le, nat_eq, if◌then◌else◌}
 use Rattle.std.specs.List.{list_any}
 use Rattle.jc_methods.specs.VerificationTypes.{VerificationType, top, null, uninit_this, object, uninit, TypeState, is_pair, slots}
 use Rattle.jc_kinds_after.specs.declared.want.Want.{Want}

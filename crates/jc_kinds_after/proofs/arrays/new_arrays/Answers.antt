@@ -18,5 +18,6 @@ all_ints = refl
 pub returns : goal.returns
 returns c = λ names.
     c.in_ok-move_state.ensures names
-    ∙ ap (λ (l : List Want). with_stack (type_state names c.args.state) (moved_by c.args.most (form l (kind (verification_type names c.args.class) ∷ []) ∷ []) (map (verification_type names) c.args.state.stack)))
+    ∙ ap (λ (l : List Want). with_stack (type_state names c.args.state)
+    (moved_by c.args.most (form l (kind (verification_type names c.args.class) ∷ []) ∷ []) (map (verification_type names) c.args.state.stack)))
     (ap (take c.args.count) all_ints ∙ ints_are 255 c.args.count (omega arith))

@@ -12,11 +12,14 @@ trying-init c = λ names most. ap (λ fs. moved_by most fs (map (verification_ty
 
 pub returns-in-Some : goal.returns-in-Some
 returns-in-Some c names most = c.trying.invariant names most
-    ∙ ap (λ fs. moved_by most fs (map (verification_type names) c.args.stack.now)) (forms_on _ c.trying.shape-index shapes.No c.trying-test.true) ∙ c.in-Some.ensures names most (flat_map forms_of (drop (c.trying.shape-index + 1) c.shapes-shape-items.result.now))
+    ∙ ap (λ fs. moved_by most fs (map (verification_type names) c.args.stack.now)) (forms_on _ c.trying.shape-index shapes.No c.trying-test.true)
+    ∙ c.in-Some.ensures names most (flat_map forms_of (drop (c.trying.shape-index + 1) c.shapes-shape-items.result.now))
 
 pub trying-preserved : goal.trying-preserved
 trying-preserved c names most = c.trying.invariant names most
-    ∙ ap (λ fs. moved_by most fs (map (verification_type names) c.args.stack.now)) (forms_on _ c.trying.shape-index shapes.No c.trying-test.true) ∙ c.in-None.ensures names most (flat_map forms_of (drop (c.trying.shape-index + 1) c.shapes-shape-items.result.now))
+    ∙ ap (λ fs. moved_by most fs (map (verification_type names) c.args.stack.now)) (forms_on _ c.trying.shape-index shapes.No c.trying-test.true)
+    ∙ c.in-None.ensures names most (flat_map forms_of (drop (c.trying.shape-index + 1) c.shapes-shape-items.result.now))
 
 pub returns : goal.returns
-returns c names most = c.trying.invariant names most ∙ ap (λ fs. moved_by most fs (map (verification_type names) c.args.stack.now)) (forms_end _ c.trying.shape-index c.trying-test.false)
+returns c names most = c.trying.invariant names most
+    ∙ ap (λ fs. moved_by most fs (map (verification_type names) c.args.stack.now)) (forms_end _ c.trying.shape-index c.trying-test.false)

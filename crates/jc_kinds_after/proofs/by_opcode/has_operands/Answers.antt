@@ -13,4 +13,5 @@ returns-then-stack-wants c names =
     sym (all-unequal c.args.wants.now (upper (length c.args.wants.now) hs) (omega arith))
 
 pub returns : goal.returns
-returns c names = c.are_accepted.ensures names ∙ ap (accepts_all c.args.wants.now) (upper_slice names (length c.args.wants.now) c.args.stack.now c.if-stack-wants.false)
+returns c names = c.are_accepted.ensures names
+    ∙ ap (accepts_all c.args.wants.now) (upper_slice names (length c.args.wants.now) c.args.stack.now c.if-stack-wants.false)

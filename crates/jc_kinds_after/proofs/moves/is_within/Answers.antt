@@ -14,7 +14,8 @@ returns-then-width-free c names =
     let on = slots_on names c.args.stack.now c.counting.kind-index kinds.Top c.counting-test.true in
     let w = width_is names (get_or c.args.stack.now c.counting.kind-index kinds.Top) in
     let so_far = c.counting.invariant names in
-    sym (lt-leb (slots (map (verification_type names) c.args.stack.now)) c.args.most (omega (arith, on, w, so_far, c.slots-width.ensures, c.if-width-free.true)))
+    sym (lt-leb (slots (map (verification_type names) c.args.stack.now)) c.args.most
+    (omega (arith, on, w, so_far, c.slots-width.ensures, c.if-width-free.true)))
 
 pub counting-preserved : goal.counting-preserved
 counting-preserved c = λ names.
@@ -25,6 +26,7 @@ counting-preserved c = λ names.
 
 pub returns : goal.returns
 returns c names =
-    let rest : slots (map (verification_type names) (drop c.counting.kind-index c.args.stack.now)) ≡ 0 = rw (drop_all c.counting.kind-index c.args.stack.now c.counting-test.false) refl in
+    let rest : slots (map (verification_type names) (drop c.counting.kind-index c.args.stack.now)) ≡ 0 =
+    rw (drop_all c.counting.kind-index c.args.stack.now c.counting-test.false) refl in
     let so_far = c.counting.invariant names in
     sym (le-leb (slots (map (verification_type names) c.args.stack.now)) c.args.most (omega arith))

@@ -6,7 +6,8 @@ use Rattle.jc_kinds_after.proofs.ObjectsLaws.{make_no, make_yes, make_none, some
 use Rattle.jc_kinds_after.proofs.objects.make.Goals as goal
 
 pub returns-then-has_made : goal.returns-then-has_made
-returns-then-has_made c = λ names. make_no names c.args.state c.deref.result.now c.args.place c.args.most c.deref.ensures (sym c.has_made.ensures ∙ c.if-has_made.true)
+returns-then-has_made c =
+    λ names. make_no names c.args.state c.deref.result.now c.args.place c.args.most c.deref.ensures (sym c.has_made.ensures ∙ c.if-has_made.true)
 
 pub returns-in-Some : goal.returns-in-Some
 returns-in-Some c = λ names.

@@ -10,6 +10,7 @@ reading-preserved c =
     let i = c.reading.entry-index in let uses = c.args.uses.now in let u = c.entry-item.result in
     let more = take_more uses i u c.reading-test.true ∙ ap (λ (v : Use). take i uses ++ v ∷ []) (sym c.entry-item.is) in
     record {
-      said = subst (λ (us : List Use). AllSay c.add_effect.new.names us c.add_effect.new.effects) (sym more) (c.in_ok-add_effect.ensures.effects (take i uses) c.reading.invariant.said);
+      said = subst (λ (us : List Use). AllSay c.add_effect.new.names us c.add_effect.new.effects) (sym more)
+          (c.in_ok-add_effect.ensures.effects (take i uses) c.reading.invariant.said);
       grown = grown_twice _ _ _ c.reading.invariant.grown c.add_effect.ensures.names;
     }

@@ -9,8 +9,10 @@ advance-requires-clause-state c = subst (IsStateOf (length c.args.names.now) (bo
 
 pub returns-clause-after : goal.returns-clause-after
 returns-clause-after c =
-    subst (λ (s : State). IfOk c.advance.result (λ after. LeavesState c.args.names.now c.advance.new.names (body_of c.args.self.now) c.args.i s after)) c.in_ok-copy.ensures c.advance.ensures.after
+    subst (λ (s : State). IfOk c.advance.result
+    (λ after. LeavesState c.args.names.now c.advance.new.names (body_of c.args.self.now) c.args.i s after)) c.in_ok-copy.ensures c.advance.ensures.after
 
 pub returns-clause-whole : goal.returns-clause-whole
 returns-clause-whole c =
-    subst (λ (s : State). IfOk c.advance.result (λ after. IfSome after (λ t. IsWhole (body_of c.args.self.now) s → IsWhole (body_of c.args.self.now) t))) c.in_ok-copy.ensures c.advance.ensures.whole
+    subst (λ (s : State). IfOk c.advance.result
+    (λ after. IfSome after (λ t. IsWhole (body_of c.args.self.now) s → IsWhole (body_of c.args.self.now) t))) c.in_ok-copy.ensures c.advance.ensures.whole

@@ -7,7 +7,8 @@ use Rattle.jc_kinds_after.proofs.effects.Effects.at.Goals as goal
 
 pub unwrap-requires : goal.unwrap-requires
 unwrap-requires c =
-    let there = said_there c.requires.read.0 (body_of c.args.self.now).uses c.args.self.now.uses c.args.place c.requires.used.0 c.requires.read.1.uses c.requires.used.1 in
+    let there = said_there c.requires.read.0 (body_of c.args.self.now).uses c.args.self.now.uses c.args.place c.requires.used.0 c.requires.read.1.uses
+    c.requires.used.1 in
     lent_some c.get.result there.0 (c.get.ensures.value ∙ there.1)
 
 pub returns : goal.returns

@@ -12,7 +12,8 @@ returns-in_err-insert-clause-known c =
 
 pub returns-clause-element : goal.returns-clause-element
 returns-clause-element c =
-    element_found c.args.names.now c.object_of.new.names c.args.number c.text.result.now _ c.in_ok-element.element c.text.ensures.text c.in-Some-element_name.ensures.0
+    element_found c.args.names.now c.object_of.new.names c.args.number c.text.result.now _ c.in_ok-element.element c.text.ensures.text
+    c.in-Some-element_name.ensures.0
     (c.as_slice.ensures.value ∙ c.in_ok-name.ensures.items ∙ c.in-Some-element_name.ensures.1) c.in_ok-element.ensures.kind
 
 pub returns-clause-known : goal.returns-clause-known
@@ -20,5 +21,6 @@ returns-clause-known c =
     let old = c.args.names.now in let new = c.object_of.new.names in let number = c.args.number in let element = c.in_ok-element.element in
     let found = element_found old new number c.text.result.now _ element c.text.ensures.text c.in-Some-element_name.ensures.0
     (c.as_slice.ensures.value ∙ c.in_ok-name.ensures.items ∙ c.in-Some-element_name.ensures.1) c.in_ok-element.ensures.kind in
-    elements_more old new c.args.self.now _ number element (elements_later old new c.args.self.now c.object_of.ensures.names c.requires.known) c.object_of.ensures.names c.requires.number found
+    elements_more old new c.args.self.now _ number element (elements_later old new c.args.self.now c.object_of.ensures.names c.requires.known)
+    c.object_of.ensures.names c.requires.number found
     c.in_ok-insert.ensures.updates.0
