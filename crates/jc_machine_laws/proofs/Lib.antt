@@ -1,7 +1,7 @@
 pub mod StackLaws
 pub mod NumberEffectLaws
+pub mod PlaceLaws
 pub mod MoveLaws
-pub mod PairMoveLaws
 pub mod EffectLaws
 pub mod OnwardLaws
 pub mod LocalLaws

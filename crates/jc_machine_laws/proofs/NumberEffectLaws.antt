@@ -1,7 +1,6 @@
 -- What opcodes on numbers, and constants, leave on the stack has the types of the kind check.
-use Rattle.std.proofs.Common.{◌≡◌, ℕ, zero, suc, ◌-◌, ℤ, pos, Bool, true, false, cond, List, [], ◌∷◌, ◌++◌, drop, Some, nat_eq, nat_le, refl, sym, ◌∙◌, ap, subst, arith, append-nil}
+use Rattle.std.proofs.Common.{◌≡◌, ℕ, zero, suc, ℤ, pos, Bool, true, false, cond, List, [], ◌∷◌, ◌++◌, Some, nat_eq, nat_le, refl, sym, ◌∙◌, ap, subst, arith, append-nil}
 use Rattle.std.proofs.lemmas.Bool.{eqb-true, leb-true}
-use Rattle.std.specs.Prelude.{⊤}
 use Rattle.jc_methods.specs.VerificationTypes.{VerificationType}
 use Rattle.jc_methods.specs.VerificationTypes as verification
 use Rattle.jc_methods.specs.Opcode as opcode
@@ -14,15 +13,14 @@ use Rattle.jc_machine_model.specs.Values.{Value, int, long, null}
 use Rattle.jc_machine_model.specs.Effects.{Effect, gives, unfit, when, int_for, long_for, constant, divided, int_bits, int_pair, long_pair, long_shift, int_single, long_single, single, pair, effect}
 use Rattle.jc_machine_model.specs.Fits.{IsOfVerificationType, IsStack}
 use Rattle.jc_machine_model.specs.Effects as effects
+use Rattle.jc_machine_laws.specs.Laws.{Leaves}
 use Rattle.jc_machine_laws.proofs.StackLaws.{below_is, one_moved, leaf}
 
 -- ---- effects
 
--- what an effect leaves is of the types that the forms of the opcode leave
+-- what an effect leaves has the types that the kind check gives the opcode
 unfoldable pub IsKept : ℕ → ℕ → List Value → List VerificationType → Effect → Type 0
-IsKept most op stack ks (gives taken results) = (t : List VerificationType) → moved_by most (forms_at op) ks ≡ Some t → IsStack (results ++ drop taken stack) t
-IsKept most op stack ks (effects.raises c) = ⊤
-IsKept most op stack ks unfit = ⊤
+IsKept most op stack ks e = (t : List VerificationType) → moved_by most (forms_at op) ks ≡ Some t → Leaves t stack e
 
 pub when_by : (most op k : ℕ) (stack : List Value) (ks : List VerificationType) (e f : Effect) (b : Bool) → nat_eq op k ≡ b → IsKept most k stack ks e → IsKept most op stack ks f → IsKept most op stack ks (cond b e f)
 when_by most op k stack ks e f true d p q = subst (λ n. IsKept most n stack ks e) (sym (eqb-true op k d)) p
@@ -72,7 +70,7 @@ no_value most k r h stack ks f q p t e = leaf most [] stack ks [] h r refl p q t
 
 pub unfit_kept : (most op : ℕ) (stack : List Value) (ks : List VerificationType) → IsKept most op stack ks unfit
 unfolding IsKept
-unfit_kept most op stack ks = tt
+unfit_kept most op stack ks t e = tt
 
 pub int_bits_kept : (most op : ℕ) (x y : ℤ) (stack : List Value) (ks : List VerificationType) → IsStack (int y ∷ int x ∷ stack) ks → IsKept most op (int y ∷ int x ∷ stack) ks (int_bits op x y)
 unfolding int_bits table forms_at
@@ -87,7 +85,7 @@ int_bits_kept most op x y stack ks p =
 
 pub divided_kept : (most op : ℕ) (y : ℤ) (stack : List Value) (ks : List VerificationType) (e : Effect) → IsKept most op stack ks e → IsKept most op stack ks (divided y e)
 unfolding IsKept
-divided_kept most op y stack ks e p = cond_kept most op stack ks _ (effects.raises thrown.ArithmeticException) e tt p
+divided_kept most op y stack ks e p = cond_kept most op stack ks _ (effects.raises thrown.ArithmeticException) e (λ t q. tt) p
 
 pub int_pair_kept : (most op : ℕ) (x y : ℤ) (stack : List Value) (ks : List VerificationType) → IsStack (int y ∷ int x ∷ stack) ks → IsKept most op (int y ∷ int x ∷ stack) ks (int_pair op x y)
 unfolding int_pair table forms_at

@@ -1,18 +1,59 @@
 -- Values on a stack against types.
-use Rattle.std.proofs.Common.{◌≡◌, ℕ, ◌-◌, Bool, true, false, cond, List, [], ◌∷◌, ◌++◌, length, take, drop, reverse, Option, Some, None, refl, sym, ◌∙◌, ap, subst, arith, append_assoc, append-nil, length-append}
-use Rattle.std.proofs.lemmas.List.{reverse-append, reverse-reverse}
+use Rattle.std.proofs.Common.{◌≡◌, ℕ, ◌-◌, Bool, true, false, cond, List, [], ◌∷◌, ◌++◌, length, take, drop, reverse, map, Option, Some, None, refl, sym, ◌∙◌, ap, subst, arith, append_assoc, append-nil, length-append}
+use Rattle.std.proofs.lemmas.List.{map-append, reverse-append, reverse-reverse}
 use Rattle.jc_methods.specs.VerificationTypes.{VerificationType}
+use Rattle.jc_methods.specs.VerificationTypes as verification
 use Rattle.jc_kinds_after.specs.declared.want.Want.{Want}
+use Rattle.jc_kinds_after.specs.declared.want.Want.TheVariants as wants
+use Rattle.jc_kinds_after.specs.Wants.{accepts}
 use Rattle.jc_kinds_after.specs.Step.{kind, StackEffect, below, upper, has_form, limited, moved as moved_kinds, moved_by}
 use Rattle.jc_kinds_after.specs.Table.{form}
-use Rattle.jc_machine_model.specs.Values.{Value}
-use Rattle.jc_machine_model.specs.Fits.{IsOfVerificationType, AreOfVerificationTypes, IsStack}
+use Rattle.jc_machine_model.specs.Values.{Value, int, long, is_pair, is_reference}
+use Rattle.jc_machine_model.specs.Fits.{IsInt, IsLong, IsOfVerificationType, AreOfVerificationTypes, IsStack}
 
 pub some_is : {X : Type 0} (x y : X) → Some x ≡ Some y → x ≡ y
 some_is x y e = cc
 
 pub none_some : {X : Type 0} {x : X} → None ≡ Some x → ⊥
 none_some e = cc
+
+pub reverse_map : {X Y : Type 0} (g : X → Y) (xs : List X) → reverse (map g xs) ≡ map g (reverse xs)
+reverse_map g [] = refl
+reverse_map g (x ∷ xs) =
+    reverse-append (g x ∷ []) (map g xs) ∙ ap (λ l. l ++ g x ∷ []) (reverse_map g xs)
+    ∙ sym (map-append g (reverse xs) (x ∷ [])) ∙ ap (map g) (sym (reverse-append (x ∷ []) xs))
+
+pub false_true : false ≡ true → ⊥
+false_true e = cc
+
+-- ---- one value
+
+-- a reference is no long
+pub reference_single : (v : Value) → is_reference v ≡ true → is_pair v ≡ false
+reference_single (long x) e = absurd (false_true e)
+reference_single v e = refl
+
+pub int_single : (v : Value) → IsInt v → is_pair v ≡ false
+int_single (int x) e = refl
+int_single v e = absurd e
+
+pub long_pair : (v : Value) → IsLong v → is_pair v ≡ true
+long_pair (long x) e = refl
+long_pair v e = absurd e
+
+pub top_refused : (want : Want) → accepts want verification.top ≡ true → ⊥
+top_refused wants.Int e = false_true e
+top_refused _ e = false_true e
+
+-- a value takes as many slots as its type, where that is one for an operand
+pub pair_as_type : (want : Want) (v : Value) (h : VerificationType) → IsOfVerificationType v h → accepts want h ≡ true
+    → is_pair v ≡ verification.is_pair h
+pair_as_type want v verification.top k a = absurd (top_refused want a)
+pair_as_type want v verification.int k a = int_single v k
+pair_as_type want v verification.float k a = absurd k
+pair_as_type want v verification.double k a = absurd k
+pair_as_type want v verification.long k a = long_pair v k
+pair_as_type want v h k a = reference_single v k
 
 -- ---- pushing and popping
 
