@@ -8,7 +8,7 @@ use Rattle.jc_methods.specs.declared.insn.Insn.{Insn}
 use Rattle.jc_methods.specs.declared.body.Body.{Body}
 use Rattle.jc_methods.specs.DescriptorTypes.{method_type_in}
 use Rattle.jc_methods.specs.EntryState.{is_static, spread_one, spread, in_locals, held_of, this_of, entry_of as first_state}
-use Rattle.jc_methods.specs.VerificationTypes.{VerificationType, TypeState}
+use Rattle.jc_methods.specs.VerificationTypes.{TypeState}
 use Rattle.jc_methods.specs.VerificationTypes as verification
 use Rattle.jc_programs.specs.declared.program.Program.{Program}
 use Rattle.jc_programs.specs.declared.program.Linked.{Linked}
@@ -28,8 +28,8 @@ use Rattle.jc_machine_model.specs.Step.{named_init, is_init_method, new_frame}
 use Rattle.jc_machine_model.specs.Fits.{AreInSlots, IsStack, IsThere, IsThereInSlot, FitsTop, StandsAtCall, parameter_count}
 use Rattle.jc_machine_model.proofs.BeginLaws.{both, none_some, some_is, false_true, slots_append, slots_length, slots_fit, all_top, each_replicate, nothing_fits, there_is}
 use Rattle.jc_machine_laws.proofs.OnwardLaws.{whole_body}
-use Rattle.jc_machine_laws.proofs.StackLaws.{tops_of}
-use Rattle.jc_machine_laws.proofs.StepLaws.{Turn, Fine, ReturnFits, each_append, chosen}
+use Rattle.jc_machine_laws.proofs.StackLaws.{tops_of, chosen}
+use Rattle.jc_machine_laws.proofs.StepLaws.{Turn, Fine, ReturnFits, each_append}
 use Rattle.jc_machine_laws.proofs.GrowLaws.{each_behind}
 use Rattle.jc_machine_laws.proofs.StaticLaws.{computational_kind, stored_is, stored_there}
 

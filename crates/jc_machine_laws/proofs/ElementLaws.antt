@@ -1,7 +1,6 @@
 -- Each turn keeps a world fitting: arrays, throwables, printing and probe arrays.
 use Rattle.std.proofs.Common.{◌≡◌, ℕ, zero, suc, ◌+◌, ◌%◌, ◌≤◌, ℤ, pos, negsuc, Bool, true, false, cond, List, [], ◌∷◌, ◌++◌, length, map, reverse, replicate, Option, Some, None, le_refl, nat_eq, nat_le, refl, sym, ◌∙◌, ap, subst, arith, append-nil, slice_set, slice_index_or, nat_lt, ◌<◌}
 use Rattle.std.proofs.lemmas.Bool.{ltb-true}
-use Rattle.std.proofs.lemmas.List.{reverse-append}
 use Rattle.std.specs.Prelude.{⊤, slice_get}
 use Rattle.std.specs.List.{AllByRecursion, list_any}
 use Rattle.std.specs.Fmt.{signed_decimal}
@@ -21,7 +20,7 @@ use Rattle.jc_programs.specs.Throwables.{is_one}
 use Rattle.jc_programs.specs.declared.run_end.Thrown.TheVariants as thrown
 use Rattle.jc_kinds_after.specs.declared.want.Want.{Want}
 use Rattle.jc_kinds_after.specs.Wants.{accepts_all}
-use Rattle.jc_kinds_after.specs.Step.{kind, Ground, Step, limited, with_stack, upper, below, is_made, without, same_new, class_built, replaced, built_as}
+use Rattle.jc_kinds_after.specs.Step.{kind, limited, upper, below, is_made, without, same_new, class_built, replaced, built_as}
 use Rattle.jc_kinds_after.specs.Table.{form}
 use Rattle.jc_kinds_after.specs.After.{step_of, returns_of, ground_of}
 use Rattle.jc_kinds_after.specs.declared.want.Want.TheVariants as wants
@@ -35,8 +34,8 @@ use Rattle.jc_machine_model.specs.Results.{hits, raises, gets_stuck, next_with, 
 use Rattle.jc_machine_model.specs.Objects.{made, thrown_of, built, by_build, thrown_up, by_throw, most_printed, by_print, boolean_text, by_println, is_fetched, by_fetch}
 use Rattle.jc_machine_model.specs.Fits.{IsInSlot, AreInSlots, IsOfVerificationType, AreOfVerificationTypes, IsStack, IsThere, HasProbes, HasProbe}
 use Rattle.jc_machine_model.proofs.BeginLaws.{none_some, some_is, false_true}
-use Rattle.jc_machine_laws.proofs.StackLaws.{below_is, pushed, Top, top_of}
-use Rattle.jc_machine_laws.proofs.StepLaws.{Turn, Fine, falls, going, turns_fine, takes_fine, stepped, with_stack_is, chosen}
+use Rattle.jc_machine_laws.proofs.StackLaws.{reverse_map, below_is, pushed, Top, top_of, chosen, not_chosen}
+use Rattle.jc_machine_laws.proofs.StepLaws.{Turn, Fine, falls, going, turns_fine, takes_fine, stepped, with_stack_is}
 use Rattle.jc_machine_laws.proofs.GrowLaws.{each_behind, longer, at_end, values_grow, slots_grow, shared_grows}
 
 -- ---- elements
@@ -93,10 +92,6 @@ long_element Long x q = tt
 long_element el x q = absurd (false_true q)
 
 -- ---- objects before their constructor
-
-not_chosen : {X : Type 0} (b : Bool) (o : Option X) (y : X) → cond b None o ≡ Some y → o ≡ Some y
-not_chosen true o y e = absurd (none_some e)
-not_chosen false o y e = e
 
 without_fits : (place : ℕ) (l : Option Value) (h : VerificationType) → IsInSlot l h → IsInSlot l (without place h)
 without_fits place l h p = by (is_made place h)
@@ -164,14 +159,6 @@ kinds_replaced old name [] [] p = tt
 kinds_replaced old name [] (h ∷ ks) p = absurd p
 kinds_replaced old name (v ∷ values) [] p = absurd p
 kinds_replaced old name (v ∷ values) (h ∷ ks) p = (kind_replaced old name v h p.0, kinds_replaced old name values ks p.1)
-
-map_append : {X Y : Type 0} (g : X → Y) (xs ys : List X) → map g (xs ++ ys) ≡ map g xs ++ map g ys
-map_append g [] ys = refl
-map_append g (x ∷ xs) ys = ap (λ l. g x ∷ l) (map_append g xs ys)
-
-reverse_map : {X Y : Type 0} (g : X → Y) (xs : List X) → reverse (map g xs) ≡ map g (reverse xs)
-reverse_map g [] = refl
-reverse_map g (x ∷ xs) = reverse-append (g x ∷ []) (map g xs) ∙ ap (λ l. l ++ g x ∷ []) (reverse_map g xs) ∙ sym (map_append g (reverse xs) (x ∷ [])) ∙ ap (map g) (sym (reverse-append (x ∷ []) xs))
 
 stack_replaced : (old : VerificationType) (name : List ℕ) (stack : List Value) (ks : List VerificationType) → IsStack stack ks → IsStack stack (map (replaced old name) ks)
 stack_replaced old name stack ks p = subst (AreOfVerificationTypes stack) (sym (reverse_map (replaced old name) ks)) (kinds_replaced old name stack (reverse ks) p)

@@ -30,6 +30,7 @@ use Rattle.jc_machine_model.specs.Fits.{IsThere}
 use Rattle.jc_machine_model.proofs.BeginLaws.{both, none_some, some_is, false_true}
 use Rattle.jc_machine_model.specs.Effects as effects
 use Rattle.jc_machine_laws.proofs.StepLaws.{EffectThere, Turn, Fine, falls, leads, takes_fine}
+use Rattle.jc_machine_laws.proofs.GrowLaws.{each_behind}
 
 -- ---- what effects give is there
 
@@ -261,10 +262,6 @@ lookup_among default (arm ∷ arms) key = by (int_equal arm.key key) (lookup_amo
     by : (b : Bool) → Contains (default ∷ map (λ (a : Arm). a.to) arms) (lookup_target default arms key) → Contains (default ∷ arm.to ∷ map (λ (a : Arm). a.to) arms) (cond b arm.to (lookup_target default arms key))
     by true h = (1, omega arith, refl)
     by false h = more h
-
-each_behind : {X : Type 0} (P : X → Type 0) (xs ys : List X) → AllByRecursion P (xs ++ ys) → AllByRecursion P ys
-each_behind P [] ys h = h
-each_behind P (x ∷ xs) ys h = each_behind P xs ys h.1
 
 module _ {program : Program} {s : Shared} {f : Frame} {c : Linked} {b : Body} {insn : Insn} {k t : TypeState} (turn : Turn program s f c b insn k t) where
   pub tests_fine : (op to : ℕ) → step_of b.uses (returns_of b) insn ≡ kinds.moves (forms_at op) → is_conditional_branch op ≡ true → op < 202 → LeadsTo b f.place to → FallsThrough insn → (o : Option Tested) → test_of op f.stack ≡ o → Fine program s f b (by_test o to s f)

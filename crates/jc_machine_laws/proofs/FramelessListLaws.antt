@@ -1,7 +1,7 @@
 -- Items of a list, and what is made of each.
-use Rattle.std.proofs.Common.{◌≡◌, ℕ, ◌+◌, Bool, true, false, ◌||◌, not, List, [], ◌∷◌, map, length, nat_lt, Option, None, Some, refl, ap, ap₂, cond}
+use Rattle.std.proofs.Common.{◌≡◌, ℕ, ◌+◌, Bool, ◌||◌, not, List, [], ◌∷◌, map, nat_lt, Option, None, Some, refl, ap, ap₂, cond}
 use Rattle.std.proofs.lemmas.List.{length-map}
-use Rattle.std.specs.List.{list_any, position, position_or_len, prefix_len}
+use Rattle.std.specs.List.{list_any, position, prefix_len}
 
 prefix-map : {X Y : Type 0} (f : X → Y) (p : Y → Bool) (xs : List X) → prefix_len p (map f xs) ≡ prefix_len (λ x. p (f x)) xs
 prefix-map f p [] = refl

@@ -1,7 +1,7 @@
 -- What a program without frames has at its places and by its names.
-use Rattle.std.proofs.Common.{◌≡◌, ℕ, ◌+◌, ℤ, Bool, ◌&&◌, not, nat_lt, if◌then◌else◌, List, [], ◌∷◌, ◌++◌, map, Option, None, Some, option_map, option_and_then, bytes_eq, refl, ap, sym, ◌∙◌}
+use Rattle.std.proofs.Common.{◌≡◌, ℕ, ◌+◌, Bool, ◌&&◌, not, nat_lt, if◌then◌else◌, List, map, Option, None, Some, option_map, option_and_then, bytes_eq, refl, ap, ◌∙◌}
 use Rattle.std.proofs.lemmas.Option.{slice_get-map}
-use Rattle.std.specs.List.{list_any, position, slice_get}
+use Rattle.std.specs.List.{slice_get}
 use Rattle.jc_methods.specs.declared.body.Body.{Body}
 use Rattle.jc_methods.specs.EntryState.{is_static}
 use Rattle.jc_programs.specs.declared.program.Program.{Program}

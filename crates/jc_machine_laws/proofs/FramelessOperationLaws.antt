@@ -1,6 +1,5 @@
 -- What an instruction of a program without frames does.
-use Rattle.std.proofs.Common.{◌≡◌, ℕ, ℤ, Bool, true, false, ◌&&◌, not, List, [], ◌∷◌, map, Option, None, Some, option_map, option_and_then, bytes_eq, nat_eq, refl, ap, sym, ◌∙◌, if◌then◌else◌}
-use Rattle.std.proofs.lemmas.Option.{slice_get-map}
+use Rattle.std.proofs.Common.{◌≡◌, ℕ, Bool, true, false, ◌&&◌, List, Option, None, Some, option_map, option_and_then, nat_eq, refl, ap, ◌∙◌, if◌then◌else◌}
 use Rattle.std.specs.List.{slice_get}
 use Rattle.jc_methods.specs.declared.body.Body.{Body}
 use Rattle.jc_methods.specs.declared.body.What.{What}
@@ -18,7 +17,7 @@ use Rattle.jc_machine_model.specs.Operations.{Operation, outside, pushes}
 use Rattle.jc_machine_model.specs.Values as value
 use Rattle.jc_machine_model.specs.Profile.{Location, in_init, init_of, what_at, declared_field, linked_field, is_print_stream, field_named, callee_named, may_name_method, entered_if, body_entered, class_entered, method_entered, is_fetch, init_call, static_call, virtual_call, special_call, call_named, member_operation, operation_of}
 use Rattle.jc_machine_laws.specs.Frameless.{frameless_body, frameless_class, frameless}
-use Rattle.jc_machine_laws.proofs.FramelessLookupLaws.{same_class_named, same_class_at, same_body_at, same_callee, same_declares, same_enterable}
+use Rattle.jc_machine_laws.proofs.FramelessLookupLaws.{same_class_named, same_class_at, same_body_at, same_callee, same_enterable}
 
 -- the same place in the class without frames
 abbrev pub frameless_at : Location → Location

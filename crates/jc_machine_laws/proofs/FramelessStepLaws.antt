@@ -1,18 +1,16 @@
 -- A turn in a program without frames.
-use Rattle.std.proofs.Common.{◌≡◌, ℕ, ℤ, Bool, true, false, ◌&&◌, not, List, [], ◌∷◌, ◌++◌, length, filter, map, Option, None, Some, option_map, option_and_then, nat_le, slice_set, refl, ap, ap₂, sym, ◌∙◌, if◌then◌else◌}
+use Rattle.std.proofs.Common.{◌≡◌, ℕ, ℤ, Bool, true, false, ◌&&◌, not, List, [], ◌∷◌, length, filter, map, Option, None, Some, option_map, option_and_then, nat_le, refl, ap, ap₂, ◌∙◌, if◌then◌else◌}
 use Rattle.std.specs.List.{slice_get}
 use Rattle.jc_methods.specs.declared.body.Body.{Body}
 use Rattle.jc_methods.specs.declared.body.Handler.{Handler}
 use Rattle.jc_methods.specs.declared.insn.Insn.{Insn}
 use Rattle.jc_programs.specs.declared.program.Program.{Program}
 use Rattle.jc_programs.specs.declared.program.Linked.{Linked}
-use Rattle.jc_programs.specs.declared.program.StaticField.{StaticField}
 use Rattle.jc_programs.specs.declared.run_end.Entry.{Entry}
 use Rattle.jc_programs.specs.declared.run_end.Thrown.{Thrown}
 use Rattle.jc_programs.specs.declared.run_end.Thrown.TheVariants as thrown
 use Rattle.jc_programs.specs.declared.run_plan.Case.{Case}
 use Rattle.jc_programs.specs.declared.run_plan.ThreadLine.{ThreadLine}
-use Rattle.jc_programs.specs.Entries.{entry_of}
 use Rattle.jc_programs.specs.Members.{class_at, body_of}
 use Rattle.jc_machine_model.specs.Begin.{first_value, thread_for, thread_in, first_frame, first_statics, first_thread, first_threads, begin, entries_of, begin_case}
 use Rattle.jc_machine_model.specs.Operations.{Operation}

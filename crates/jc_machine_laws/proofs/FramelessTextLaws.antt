@@ -1,5 +1,5 @@
 -- What is printed and hit by the runs of a program without frames.
-use Rattle.std.proofs.Common.{◌≡◌, ℕ, ◌+◌, List, [], ◌∷◌, ◌++◌, map, Option, None, Some, option_map, refl, ap, ap₂, sym, ◌∙◌}
+use Rattle.std.proofs.Common.{◌≡◌, ℕ, ◌+◌, List, [], ◌∷◌, ◌++◌, map, Option, None, Some, option_map, refl, ap, ap₂, ◌∙◌}
 use Rattle.std.specs.List.{slice_get, flat_map}
 use Rattle.std.proofs.lemmas.Option.{slice_get-map}
 use Rattle.jc_programs.specs.declared.program.Program.{Program}
@@ -10,8 +10,8 @@ use Rattle.jc_programs.specs.declared.run_plan.Case.{Case}
 use Rattle.jc_programs.specs.declared.run_plan.RunPlan.{RunPlan}
 use Rattle.jc_programs.specs.Turns.{turns_in}
 use Rattle.jc_machine_model.specs.CaseEnds.{field_ends, class_ends, case_end_in, ends_in, case_end}
-use Rattle.jc_machine_model.specs.CaseText.{field_line, static_text, end_lines, case_line, case_text, case_texts, thread_lines}
-use Rattle.jc_machine_model.specs.Run.{run, case_hits, hits_of}
+use Rattle.jc_machine_model.specs.CaseText.{field_line, static_text, case_line, case_text, case_texts, thread_lines}
+use Rattle.jc_machine_model.specs.Run.{run, hits_of}
 use Rattle.jc_machine_model.specs.Values.{Value}
 use Rattle.jc_machine_model.specs.World.{Hit, World}
 use Rattle.jc_machine_laws.specs.Frameless.{frameless_class, frameless}

@@ -9,6 +9,7 @@ use Rattle.jc_machine_model.specs.Values.{Value, long, is_pair}
 use Rattle.jc_machine_model.specs.Heap.{HeapObject}
 use Rattle.jc_machine_model.specs.Locals.{is_pair_there, clear_before, clear_behind, put_local}
 use Rattle.jc_machine_model.specs.Fits.{IsInSlot, AreInSlots, IsOfVerificationType, IsThere, IsThereInSlot}
+use Rattle.jc_machine_model.proofs.BeginLaws.{false_true}
 
 pub read_fits : (locals : List (Option Value)) (ks : List VerificationType) (k : ℕ) → AreInSlots locals ks → IsInSlot (slice_index_or locals k None) (slice_index_or ks k verification.top)
 read_fits [] [] k p = tt
@@ -43,9 +44,6 @@ keep_fits (l ∷ locals) [] k p = absurd p
 keep_fits (l ∷ locals) (h ∷ ks) zero p = (slot_cleared l h p.0, p.1)
 keep_fits (l ∷ locals) (h ∷ ks) (suc k) p = (p.0, keep_fits locals ks k p.1)
 
-false_true : false ≡ true → ⊥
-false_true e = cc
-
 -- a long is of no type that isn't cleared
 long_in_slot : (x : ℤ) (h : VerificationType) → IsInSlot (Some (long x)) h → IsInSlot None (kinds.cleared h)
 long_in_slot x verification.top p = tt
@@ -78,16 +76,13 @@ behind_fits locals ks k v h e p = subst (λ b. AreInSlots (cond b (slice_set loc
     by true = set_fits locals ks (k + 1) None verification.top p tt
     by false = p
 
-to_slot : (v : Value) (h : VerificationType) → IsOfVerificationType v h → IsInSlot (Some v) h
+pub to_slot : (v : Value) (h : VerificationType) → IsOfVerificationType v h → IsInSlot (Some v) h
 to_slot v verification.top p = tt
-to_slot v verification.int p = p
-to_slot v verification.float p = p
-to_slot v verification.double p = p
-to_slot v verification.long p = p
-to_slot v verification.null p = p
-to_slot v verification.uninit_this p = p
-to_slot v (verification.object name) p = p
-to_slot v (verification.uninit at) p = p
+to_slot v h p = p
+
+pub from_slot : (v : Value) (h : VerificationType) → IsInSlot (Some v) h → IsOfVerificationType v h
+from_slot v verification.top p = tt
+from_slot v h p = p
 
 -- a store of a value of a type
 pub put_fits : (locals : List (Option Value)) (ks : List VerificationType) (k : ℕ) (v : Value) (h : VerificationType) → AreInSlots locals ks → IsOfVerificationType v h → is_pair v ≡ verification.is_pair h → AreInSlots (put_local k v locals) (kinds.put_local k h ks)
@@ -97,7 +92,7 @@ put_fits locals ks k v h p q e =
 
 -- ---- references
 
-set_there : (program : Program) (heap : List HeapObject) (locals : List (Option Value)) (k : ℕ) (l : Option Value) → AllByRecursion (IsThereInSlot program heap) locals → IsThereInSlot program heap l → AllByRecursion (IsThereInSlot program heap) (slice_set locals k l)
+pub set_there : (program : Program) (heap : List HeapObject) (locals : List (Option Value)) (k : ℕ) (l : Option Value) → AllByRecursion (IsThereInSlot program heap) locals → IsThereInSlot program heap l → AllByRecursion (IsThereInSlot program heap) (slice_set locals k l)
 set_there program heap [] k l p q = tt
 set_there program heap (m ∷ locals) zero l p q = (q, p.1)
 set_there program heap (m ∷ locals) (suc k) l p q = (p.0, set_there program heap locals k l p.1 q)

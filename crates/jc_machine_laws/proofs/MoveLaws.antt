@@ -16,8 +16,9 @@ use Rattle.jc_kinds_after.specs.Table.{form, table, forms_at}
 use Rattle.jc_machine_model.specs.Values.{Value, is_pair}
 use Rattle.jc_machine_model.specs.Effects.{Effect, Category, category_1, category_2, Move, moves_of, moved, gives, has_category, stand_categories, results_at}
 use Rattle.jc_machine_model.specs.Fits.{IsOfVerificationType, AreOfVerificationTypes, IsStack}
+use Rattle.jc_machine_model.proofs.BeginLaws.{none_some, false_true}
 use Rattle.jc_machine_laws.specs.Laws.{Leaves}
-use Rattle.jc_machine_laws.proofs.StackLaws.{none_some, false_true, pair_as_type, limited_is}
+use Rattle.jc_machine_laws.proofs.StackLaws.{pair_as_type, limited_is}
 use Rattle.jc_machine_laws.proofs.PlaceLaws.{types_at, places_keep_types, items_at, are_below_count, types_given}
 use Rattle.jc_machine_laws.proofs.NumberEffectLaws.{IsKept, unfit_kept}
 

@@ -33,30 +33,37 @@ pub cond_kept : (most op : ℕ) (stack : List Value) (ks : List VerificationType
 cond_kept most op stack ks true e f p q = p
 cond_kept most op stack ks false e f p q = q
 
--- two ints become an int, and so on: the forms of the opcode compute
-pub int_from_ints : (most k : ℕ) (x y z : ℤ) (stack : List Value) (ks : List VerificationType) → forms_at k ≡ form (wants.Int ∷ wants.Int ∷ []) (kind verification.int ∷ []) ∷ [] → IsStack (int y ∷ int x ∷ stack) ks
+-- two values become one of this type: the forms of the opcode compute
+pub two_values : (most k : ℕ) (v w r : Value) (lower upper : Want) (h : VerificationType) (stack : List Value)
+    (ks : List VerificationType) → forms_at k ≡ form (lower ∷ upper ∷ []) (kind h ∷ []) ∷ [] → IsOfVerificationType r h
+    → IsStack (w ∷ v ∷ stack) ks → IsKept most k (w ∷ v ∷ stack) ks (gives 2 (r ∷ []))
+unfolding IsKept
+two_values most k v w r lower upper h stack ks f q p t e =
+    leaf most (w ∷ v ∷ []) stack ks (lower ∷ upper ∷ []) h r refl p q t (ap (λ l. moved_by most l ks) (sym f) ∙ e)
+
+pub int_from_ints : (most k : ℕ) (x y z : ℤ) (stack : List Value) (ks : List VerificationType)
+    → forms_at k ≡ form (wants.Int ∷ wants.Int ∷ []) (kind verification.int ∷ []) ∷ [] → IsStack (int y ∷ int x ∷ stack) ks
     → IsKept most k (int y ∷ int x ∷ stack) ks (int_for 2 z)
-unfolding IsKept
-int_from_ints most k x y z stack ks f p t e =
-    leaf most (int y ∷ int x ∷ []) stack ks (wants.Int ∷ wants.Int ∷ []) verification.int (int z) refl p tt t (ap (λ l. moved_by most l ks) (sym f) ∙ e)
+int_from_ints most k x y z stack ks f p =
+    two_values most k (int x) (int y) (int z) wants.Int wants.Int verification.int stack ks f tt p
 
-pub long_from_longs : (most k : ℕ) (x y z : ℤ) (stack : List Value) (ks : List VerificationType) → forms_at k ≡ form (wants.Long ∷ wants.Long ∷ []) (kind verification.long ∷ []) ∷ [] → IsStack (long y ∷ long x ∷ stack) ks
+pub long_from_longs : (most k : ℕ) (x y z : ℤ) (stack : List Value) (ks : List VerificationType)
+    → forms_at k ≡ form (wants.Long ∷ wants.Long ∷ []) (kind verification.long ∷ []) ∷ [] → IsStack (long y ∷ long x ∷ stack) ks
     → IsKept most k (long y ∷ long x ∷ stack) ks (long_for 2 z)
-unfolding IsKept
-long_from_longs most k x y z stack ks f p t e =
-    leaf most (long y ∷ long x ∷ []) stack ks (wants.Long ∷ wants.Long ∷ []) verification.long (long z) refl p tt t (ap (λ l. moved_by most l ks) (sym f) ∙ e)
+long_from_longs most k x y z stack ks f p =
+    two_values most k (long x) (long y) (long z) wants.Long wants.Long verification.long stack ks f tt p
 
-pub int_from_longs : (most k : ℕ) (x y z : ℤ) (stack : List Value) (ks : List VerificationType) → forms_at k ≡ form (wants.Long ∷ wants.Long ∷ []) (kind verification.int ∷ []) ∷ [] → IsStack (long y ∷ long x ∷ stack) ks
+pub int_from_longs : (most k : ℕ) (x y z : ℤ) (stack : List Value) (ks : List VerificationType)
+    → forms_at k ≡ form (wants.Long ∷ wants.Long ∷ []) (kind verification.int ∷ []) ∷ [] → IsStack (long y ∷ long x ∷ stack) ks
     → IsKept most k (long y ∷ long x ∷ stack) ks (int_for 2 z)
-unfolding IsKept
-int_from_longs most k x y z stack ks f p t e =
-    leaf most (long y ∷ long x ∷ []) stack ks (wants.Long ∷ wants.Long ∷ []) verification.int (int z) refl p tt t (ap (λ l. moved_by most l ks) (sym f) ∙ e)
+int_from_longs most k x y z stack ks f p =
+    two_values most k (long x) (long y) (int z) wants.Long wants.Long verification.int stack ks f tt p
 
-pub long_shifted : (most k : ℕ) (x y z : ℤ) (stack : List Value) (ks : List VerificationType) → forms_at k ≡ form (wants.Long ∷ wants.Int ∷ []) (kind verification.long ∷ []) ∷ [] → IsStack (int y ∷ long x ∷ stack) ks
+pub long_shifted : (most k : ℕ) (x y z : ℤ) (stack : List Value) (ks : List VerificationType)
+    → forms_at k ≡ form (wants.Long ∷ wants.Int ∷ []) (kind verification.long ∷ []) ∷ [] → IsStack (int y ∷ long x ∷ stack) ks
     → IsKept most k (int y ∷ long x ∷ stack) ks (long_for 2 z)
-unfolding IsKept
-long_shifted most k x y z stack ks f p t e =
-    leaf most (int y ∷ long x ∷ []) stack ks (wants.Long ∷ wants.Int ∷ []) verification.long (long z) refl p tt t (ap (λ l. moved_by most l ks) (sym f) ∙ e)
+long_shifted most k x y z stack ks f p =
+    two_values most k (long x) (int y) (long z) wants.Long wants.Int verification.long stack ks f tt p
 
 pub one_value : (most k : ℕ) (v r : Value) (want : Want) (h : VerificationType) (stack : List Value) (ks : List VerificationType) → forms_at k ≡ form (want ∷ []) (kind h ∷ []) ∷ [] → IsOfVerificationType r h → IsStack (v ∷ stack) ks
     → IsKept most k (v ∷ stack) ks (gives 1 (r ∷ []))

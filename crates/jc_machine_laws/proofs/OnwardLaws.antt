@@ -28,8 +28,9 @@ use Rattle.jc_machine_model.specs.Heap.{HeapObject}
 use Rattle.jc_machine_model.specs.World.{Frame}
 use Rattle.jc_machine_model.specs.Methods.{is_plain}
 use Rattle.jc_machine_model.specs.Step.{handles, handler_in, handler_of, caught, unwound, is_init_method, counted_frames}
-use Rattle.jc_machine_model.specs.Fits.{IsReference, IsInSlot, AreInSlots, IsOfVerificationType, AreOfVerificationTypes, IsStack, IsThere, AreThereIn, StandsIn, FitsTop, FitEachWaiting, FitsRunning, FitsThread}
+use Rattle.jc_machine_model.specs.Fits.{IsReference, AreInSlots, IsOfVerificationType, AreOfVerificationTypes, IsStack, IsThere, AreThereIn, StandsIn, FitsTop, FitEachWaiting, FitsRunning, FitsThread}
 use Rattle.jc_machine_model.proofs.BeginLaws.{both, all_at, slot_fits, slots_fit, there_is, none_some, some_is}
+use Rattle.jc_machine_laws.proofs.LocalLaws.{to_slot, from_slot}
 
 -- ---- lists
 
@@ -103,28 +104,6 @@ leads_within b i j w (inr p) = jumps_within b i j w p
 
 pub after_there : (program : Program) (f : Frame) (c : Linked) (b : Body) (insn : Insn) (s : TypeState) → Here program f c b insn s → after_at program.names b f.place ≡ after_of b f.place s
 after_there program f c b insn s h = ap (option_and_then (after_of b f.place)) h.state_is
-
-to_slot : (v : Value) (h : VerificationType) → IsOfVerificationType v h → IsInSlot (Some v) h
-to_slot v verification.top p = tt
-to_slot v verification.int p = p
-to_slot v verification.float p = p
-to_slot v verification.double p = p
-to_slot v verification.long p = p
-to_slot v verification.null p = p
-to_slot v verification.uninit_this p = p
-to_slot v (verification.object name) p = p
-to_slot v (verification.uninit at) p = p
-
-from_slot : (v : Value) (h : VerificationType) → IsInSlot (Some v) h → IsOfVerificationType v h
-from_slot v verification.top p = tt
-from_slot v verification.int p = p
-from_slot v verification.float p = p
-from_slot v verification.double p = p
-from_slot v verification.long p = p
-from_slot v verification.null p = p
-from_slot v verification.uninit_this p = p
-from_slot v (verification.object name) p = p
-from_slot v (verification.uninit at) p = p
 
 pub kind_fits : (v : Value) (h k : VerificationType) → IsOfVerificationType v h → Fits h k → IsOfVerificationType v k
 kind_fits v h k p e = from_slot v k (slot_fits (Some v) h k (to_slot v h p) e)

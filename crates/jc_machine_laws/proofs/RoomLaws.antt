@@ -10,7 +10,7 @@ use Rattle.jc_methods.specs.declared.kind.Kind.{Kind}
 use Rattle.jc_methods.specs.declared.body.FrameAt.{FrameAt}
 use Rattle.jc_methods.specs.declared.body.Body.{Body}
 use Rattle.jc_methods.specs.EntryState.{entry_of}
-use Rattle.jc_methods.specs.VerificationTypes.{Names, VerificationType, TypeState, TypeStateAt, verification_type, type_state_at, width, slots}
+use Rattle.jc_methods.specs.VerificationTypes.{Names, VerificationType, TypeState, verification_type, type_state_at, width, slots}
 use Rattle.jc_methods.specs.WellMade.{kind_slots, AreFramesFrom, IsWellMade}
 use Rattle.jc_methods.specs.Flow.{falls_at}
 use Rattle.jc_methods.specs.declared.kind.Kind.TheVariants as kinds
@@ -25,7 +25,8 @@ use Rattle.jc_machine_model.specs.Fits.{AreOfVerificationTypes}
 use Rattle.jc_machine_model.proofs.BeginLaws.{none_some, some_is, then_some}
 use Rattle.jc_machine_laws.specs.Laws.{RoomFits}
 use Rattle.jc_machine_laws.proofs.OnwardLaws.{here_of}
-use Rattle.jc_machine_laws.proofs.StepLaws.{with_stack_is, chosen}
+use Rattle.jc_machine_laws.proofs.StackLaws.{chosen, not_chosen}
+use Rattle.jc_machine_laws.proofs.StepLaws.{with_stack_is}
 use Rattle.jc_machine_laws.proofs.CallLaws.{body_is}
 
 -- ---- slots
@@ -69,10 +70,6 @@ moved_room most (f ∷ fs) ks t e = by (has_form f ks) (λ g. moved_room most fs
 
 with_room : (most : ℕ) (k t : TypeState) (ks : List VerificationType) → with_stack k (limited most ks) ≡ Some t → slots t.stack ≤ most
 with_room most k t ks e = limited_room most ks t.stack (with_stack_is k t (limited most ks) e).0
-
-not_chosen : {X : Type 0} (b : Bool) (o : Option X) (y : X) → cond b None o ≡ Some y → o ≡ Some y
-not_chosen true o y e = absurd (none_some e)
-not_chosen false o y e = e
 
 built_room : (most : ℕ) (old : VerificationType) (rest given : List VerificationType) (o : Option (List ℕ)) (k t : TypeState) (gs : List Gives) → built_as most old rest gs o k ≡ Some t → slots t.stack ≤ most
 built_room most old rest given None k t gs e = absurd (none_some e)

@@ -17,10 +17,9 @@ use Rattle.jc_methods.specs.VerificationTypes as verification
 use Rattle.jc_methods.specs.Opcode as opcode
 use Rattle.jc_programs.specs.declared.program.Program.{Program}
 use Rattle.jc_programs.specs.declared.program.Linked.{Linked}
-use Rattle.jc_kinds_after.specs.Step.{kind, StackEffect, Step, apply}
+use Rattle.jc_kinds_after.specs.Step.{kind, Step, apply}
 use Rattle.jc_kinds_after.specs.Table.{form, table, forms_at}
 use Rattle.jc_kinds_after.specs.After.{return_op, return_step, local_want, element_letter, step_of, returns_of, ground_of}
-use Rattle.jc_kinds_after.specs.declared.want.Want.{Want}
 use Rattle.jc_kinds_after.specs.declared.want.Want.TheVariants as wants
 use Rattle.jc_kinds_after.specs.Step as kinds
 use Rattle.jc_machine_model.specs.Values.{int, ComputationalType, int_type, long_type, reference_type, computational_type}
@@ -31,8 +30,8 @@ use Rattle.jc_machine_model.specs.Perform.{perform}
 use Rattle.jc_machine_model.specs.Calls.{by_return}
 use Rattle.jc_machine_model.specs.Jumps.{test_of}
 use Rattle.jc_plan.specs.Chosen.{table_target, lookup_target}
-use Rattle.jc_machine_model.proofs.BeginLaws.{none_some, some_is, false_true}
-use Rattle.jc_machine_laws.proofs.StepLaws.{Turn, Fine, Asks, applied, leads, computes_fine, pushes_fine, loads_fine, stores_fine, counts_fine}
+use Rattle.jc_machine_model.proofs.BeginLaws.{none_some, false_true}
+use Rattle.jc_machine_laws.proofs.StepLaws.{Turn, Fine, applied, leads, computes_fine, pushes_fine, loads_fine, stores_fine, counts_fine}
 use Rattle.jc_machine_laws.proofs.FlowLaws.{effect_there, each_below, each_at, tests_fine, switches_fine, jumps_fine, table_among, lookup_among}
 use Rattle.jc_machine_laws.proofs.ElementLaws.{int_element, long_element, reads_fine, writes_fine, makes_array_fine, measures_fine, throws_fine}
 use Rattle.jc_machine_laws.proofs.CallLaws.{returns_fine, leaves_fine}
@@ -123,25 +122,6 @@ pushes_well : (op : ℕ) (value : ℤ) → IsWellFormed (insns.Push op value) �
 unfolding is_push
 pushes_well op value (inl w) = pushes_int op (push_codes op (ap is_push w.0) (below_all op forms.PushByte w.0 (λ e. cc)))
 pushes_well op value (inr w) = pushes_int op (push_codes op (ap is_push w) (below_all op forms.PushShort w (λ e. cc)))
-
--- what a store of a local variable asks for
-asks_local : (op : ℕ) (computational : ComputationalType) → local_type op ≡ Some computational → Asks computational (local_want op)
-unfolding Asks
-asks_local op computational e = by (nat_eq op opcode.iload || nat_eq op opcode.istore) (nat_eq op opcode.lload || nat_eq op opcode.lstore) (nat_eq op opcode.aload || nat_eq op opcode.astore) refl e
-  where
-    others : Bool → Bool → Want
-    others x y = cond x wants.Float (cond y wants.Double wants.Anything)
-
-    by : (x y z : Bool) → (nat_eq op opcode.aload || nat_eq op opcode.astore) ≡ z → cond x (Some int_type) (cond y (Some long_type) (cond z (Some reference_type) None)) ≡ Some computational
-        → Asks computational (cond x wants.Int (cond y wants.Long (others (nat_eq op opcode.fload || nat_eq op opcode.fstore) (nat_eq op opcode.dload || nat_eq op opcode.dstore))))
-    by true y z r e = subst (λ w. Asks w wants.Int) (some_is int_type computational e) tt
-    by false true z r e = subst (λ w. Asks w wants.Long) (some_is long_type computational e) tt
-    by false false true r e = subst (λ w. Asks w (others (nat_eq op opcode.fload || nat_eq op opcode.fstore) (nat_eq op opcode.dload || nat_eq op opcode.dstore))) (some_is reference_type computational e) (reference r)
-      where
-        reference : (nat_eq op opcode.aload || nat_eq op opcode.astore) ≡ true → Asks reference_type (others (nat_eq op opcode.fload || nat_eq op opcode.fstore) (nat_eq op opcode.dload || nat_eq op opcode.dstore))
-        reference r = ⊎_elim (λ q. subst (λ o. Asks reference_type (others (nat_eq o opcode.fload || nat_eq o opcode.fstore) (nat_eq o opcode.dload || nat_eq o opcode.dstore))) (sym (eqb-true op opcode.aload q)) tt)
-            (λ q. subst (λ o. Asks reference_type (others (nat_eq o opcode.fload || nat_eq o opcode.fstore) (nat_eq o opcode.dload || nat_eq o opcode.dstore))) (sym (eqb-true op opcode.astore q)) tt) (either_is (nat_eq op opcode.aload) (nat_eq op opcode.astore) r)
-    by false false false r e = absurd (none_some e)
 
 module _ {program : Program} {s : Shared} {f : Frame} {c : Linked} {b : Body} {k t : TypeState} where
   -- ---- instructions without operands
@@ -238,7 +218,7 @@ module _ {program : Program} {s : Shared} {f : Frame} {c : Linked} {b : Body} {k
 
       stored : (o : Option ComputationalType) → local_type op ≡ o → step_of b.uses (returns_of b) (insns.Local op slot) ≡ kinds.stores slot (local_want op) → Fine program s f b (perform (store_operation slot o) s f)
       stored None g e = tt
-      stored (Some computational) g e = stores_fine turn computational slot (local_want op) (asks_local op computational g) e (inl refl) f.stack refl
+      stored (Some computational) g e = stores_fine turn computational slot (local_want op) e (inl refl) f.stack refl
 
       by : (z : Bool) → nat_lt op opcode.istore ≡ z → Fine program s f b (perform (cond z (load_operation slot (local_type op)) (store_operation slot (local_type op))) s f)
       by true e = loaded (local_type op) (ap (λ z. cond z (kinds.loads slot (local_want op)) (kinds.stores slot (local_want op))) e)

@@ -10,21 +10,13 @@ use Rattle.jc_kinds_after.specs.Step.{kind, StackEffect, below, upper, has_form,
 use Rattle.jc_kinds_after.specs.Table.{form}
 use Rattle.jc_machine_model.specs.Values.{Value, int, long, is_pair, is_reference}
 use Rattle.jc_machine_model.specs.Fits.{IsInt, IsLong, IsOfVerificationType, AreOfVerificationTypes, IsStack}
-
-pub some_is : {X : Type 0} (x y : X) → Some x ≡ Some y → x ≡ y
-some_is x y e = cc
-
-pub none_some : {X : Type 0} {x : X} → None ≡ Some x → ⊥
-none_some e = cc
+use Rattle.jc_machine_model.proofs.BeginLaws.{none_some, some_is, false_true}
 
 pub reverse_map : {X Y : Type 0} (g : X → Y) (xs : List X) → reverse (map g xs) ≡ map g (reverse xs)
 reverse_map g [] = refl
 reverse_map g (x ∷ xs) =
     reverse-append (g x ∷ []) (map g xs) ∙ ap (λ l. l ++ g x ∷ []) (reverse_map g xs)
     ∙ sym (map-append g (reverse xs) (x ∷ [])) ∙ ap (map g) (sym (reverse-append (x ∷ []) xs))
-
-pub false_true : false ≡ true → ⊥
-false_true e = cc
 
 -- ---- one value
 
@@ -128,6 +120,10 @@ upper_is low kinds n e = ap (λ k. drop k (low ++ kinds)) (low_length low kinds 
 pub chosen : {X : Type 0} (b : Bool) (o : Option X) (y : X) → cond b o None ≡ Some y → (b ≡ true) × (o ≡ Some y)
 chosen true o y e = (refl, e)
 chosen false o y e = absurd (none_some e)
+
+pub not_chosen : {X : Type 0} (b : Bool) (o : Option X) (y : X) → cond b None o ≡ Some y → o ≡ Some y
+not_chosen true o y e = absurd (none_some e)
+not_chosen false o y e = e
 
 pub limited_is : (b : Bool) (ks t : List VerificationType) → cond b (Some ks) None ≡ Some t → ks ≡ t
 limited_is true ks t e = some_is ks t e

@@ -15,13 +15,12 @@ use Rattle.jc_programs.specs.declared.program.Linked.{Linked}
 use Rattle.jc_programs.specs.declared.run_end.Entry.{Entry}
 use Rattle.jc_kinds_after.specs.declared.want.Want.{Want}
 use Rattle.jc_kinds_after.specs.Wants.{is_int, accepts}
-use Rattle.jc_kinds_after.specs.Step.{Gives, kind, StackEffect, Step, moved_by, with_stack, limited, apply}
+use Rattle.jc_kinds_after.specs.Step.{kind, StackEffect, Step, moved_by, with_stack, limited, apply}
 use Rattle.jc_kinds_after.specs.Table.{form, forms_at}
 use Rattle.jc_kinds_after.specs.After.{after_of, step_of, returns_of, ground_of}
-use Rattle.jc_kinds_after.specs.declared.want.Want.TheVariants as wants
 use Rattle.jc_kinds_after.specs.Step as kinds
 use Rattle.jc_kinds.specs.Checked.{LeadsTo}
-use Rattle.jc_machine_model.specs.Values.{Value, int, long, null, object, is_pair, ComputationalType, int_type, long_type, reference_type, is_of, is_reference}
+use Rattle.jc_machine_model.specs.Values.{Value, int, ComputationalType, is_of}
 use Rattle.jc_machine_model.specs.Heap.{HeapObject}
 use Rattle.jc_machine_model.specs.World.{Frame, Shared}
 use Rattle.jc_machine_model.specs.Effects.{Effect, gives, unfit, effect}
@@ -34,9 +33,9 @@ use Rattle.jc_machine_model.proofs.BeginLaws.{none_some, some_is, false_true}
 use Rattle.jc_machine_model.specs.Effects as effects
 use Rattle.jc_machine_laws.specs.Laws.{Leaves}
 use Rattle.jc_machine_laws.proofs.OnwardLaws.{Here, onward}
-use Rattle.jc_machine_laws.proofs.StackLaws.{below_is, upper_is, pushed, Top, top_of, leaf}
+use Rattle.jc_machine_laws.proofs.StackLaws.{pair_as_type, below_is, upper_is, pushed, Top, top_of, chosen, leaf}
 use Rattle.jc_machine_laws.proofs.EffectLaws.{leaf_none, effects_fit}
-use Rattle.jc_machine_laws.proofs.LocalLaws.{read_fits, put_fits, put_there, read_there}
+use Rattle.jc_machine_laws.proofs.LocalLaws.{read_fits, from_slot, put_fits, set_there, put_there, read_there}
 
 -- ---- what a result has to be
 
@@ -184,102 +183,8 @@ count_fits (l ∷ locals) (h ∷ ks) zero x p e = (subst (λ g. IsInSlot (Some (
 count_fits (l ∷ locals) (h ∷ ks) (suc j) x p e = (p.0, count_fits locals ks j x p.1 e)
 
 int_is : (h : VerificationType) → is_int h ≡ true → h ≡ verification.int
-int_is verification.top e = absurd (false_true e)
 int_is verification.int e = refl
-int_is verification.float e = absurd (false_true e)
-int_is verification.double e = absurd (false_true e)
-int_is verification.long e = absurd (false_true e)
-int_is verification.null e = absurd (false_true e)
-int_is verification.uninit_this e = absurd (false_true e)
-int_is (verification.object name) e = absurd (false_true e)
-int_is (verification.uninit at) e = absurd (false_true e)
-
-pub chosen : {X : Type 0} (b : Bool) (o : Option X) (y : X) → cond b o None ≡ Some y → (b ≡ true) × (o ≡ Some y)
-chosen true o y e = (refl, e)
-chosen false o y e = absurd (none_some e)
-
-set_there : (program : Program) (heap : List HeapObject) (locals : List (Option Value)) (j : ℕ) (x : ℤ) → AllByRecursion (IsThereInSlot program heap) locals → AllByRecursion (IsThereInSlot program heap) (slice_set locals j (Some (int x)))
-set_there program heap [] j x p = tt
-set_there program heap (l ∷ locals) zero x p = (tt, p.1)
-set_there program heap (l ∷ locals) (suc j) x p = (p.0, set_there program heap locals j x p.1)
-
-from_slot : (v : Value) (h : VerificationType) → IsInSlot (Some v) h → IsOfVerificationType v h
-from_slot v verification.top p = tt
-from_slot v verification.int p = p
-from_slot v verification.float p = p
-from_slot v verification.double p = p
-from_slot v verification.long p = p
-from_slot v verification.null p = p
-from_slot v verification.uninit_this p = p
-from_slot v (verification.object name) p = p
-from_slot v (verification.uninit at) p = p
-
--- what a load or a store asks of values, and of types
-unfoldable pub Asks : ComputationalType → Want → Type 0
-Asks int_type wants.Int = ⊤
-Asks long_type wants.Long = ⊤
-Asks reference_type wants.Anything = ⊤
-Asks _ _ = ⊥
-
-reference_single : (v : Value) → is_reference v ≡ true → is_pair v ≡ false
-reference_single (int x) e = refl
-reference_single (long x) e = absurd (false_true e)
-reference_single null e = refl
-reference_single (object j) e = refl
-reference_single Value.memory_error e = refl
-reference_single Value.print_stream e = refl
-reference_single (Value.probes j n) e = refl
-reference_single (Value.text j) e = refl
-
-anything_single : (h : VerificationType) → accepts wants.Anything h ≡ true → verification.is_pair h ≡ false
-anything_single verification.top e = refl
-anything_single verification.int e = refl
-anything_single verification.float e = refl
-anything_single verification.double e = absurd (false_true e)
-anything_single verification.long e = absurd (false_true e)
-anything_single verification.null e = refl
-anything_single verification.uninit_this e = refl
-anything_single (verification.object name) e = refl
-anything_single (verification.uninit at) e = refl
-
-int_single : (v : Value) → is_of int_type v ≡ true → is_pair v ≡ false
-int_single (int x) e = refl
-int_single (long x) e = absurd (false_true e)
-int_single null e = refl
-int_single (object j) e = refl
-int_single Value.memory_error e = refl
-int_single Value.print_stream e = refl
-int_single (Value.probes j n) e = refl
-int_single (Value.text j) e = refl
-
-long_pair : (v : Value) → is_of long_type v ≡ true → is_pair v ≡ true
-long_pair (long x) e = refl
-long_pair (int x) e = absurd (false_true e)
-long_pair null e = absurd (false_true e)
-long_pair (object j) e = absurd (false_true e)
-long_pair Value.memory_error e = absurd (false_true e)
-long_pair Value.print_stream e = absurd (false_true e)
-long_pair (Value.probes j n) e = absurd (false_true e)
-long_pair (Value.text j) e = absurd (false_true e)
-
-long_is : (h : VerificationType) → accepts wants.Long h ≡ true → verification.is_pair h ≡ true
-long_is verification.top e = absurd (false_true e)
-long_is verification.int e = absurd (false_true e)
-long_is verification.float e = absurd (false_true e)
-long_is verification.double e = absurd (false_true e)
-long_is verification.long e = refl
-long_is verification.null e = absurd (false_true e)
-long_is verification.uninit_this e = absurd (false_true e)
-long_is (verification.object name) e = absurd (false_true e)
-long_is (verification.uninit at) e = absurd (false_true e)
-
--- a value takes as many slots as its type
-same_size : (computational : ComputationalType) (want : Want) (v : Value) (h : VerificationType) → Asks computational want → is_of computational v ≡ true → accepts want h ≡ true → is_pair v ≡ verification.is_pair h
-unfolding Asks
-same_size int_type wants.Int v h a p q = int_single v p ∙ sym (ap verification.is_pair (int_is h q))
-same_size long_type wants.Long v h a p q = long_pair v p ∙ sym (long_is h q)
-same_size reference_type wants.Anything v h a p q = reference_single v p ∙ sym (anything_single h q)
-same_size _ _ v h a p q = absurd a
+int_is h e = absurd (false_true e)
 
 module _ {program : Program} {s : Shared} {f : Frame} {c : Linked} {b : Body} {insn : Insn} {k t : TypeState} (turn : Turn program s f c b insn k t) where
   pub stepped : (step : Step) → step_of b.uses (returns_of b) insn ≡ step → apply (ground_of b f.place) step k ≡ Some t
@@ -315,13 +220,13 @@ module _ {program : Program} {s : Shared} {f : Frame} {c : Linked} {b : Body} {i
       let w = with_stack_is k t (limited b.max_stack k.stack) p.1 in
       let same : k.stack ≡ t.stack = some_is k.stack t.stack (chosen _ (Some k.stack) t.stack w.0).1 in
       going turn s (f.place + 1) _ f.stack (falls turn h) (subst (λ l. AreInSlots (slice_set f.locals slot (Some (int (int_wrapping_add w32 x n)))) l) w.1 (count_fits f.locals k.locals slot (int_wrapping_add w32 x n) turn.locals (int_is _ p.0)))
-      (subst (λ l. IsStack f.stack l) same turn.stack) (set_there program s.heap f.locals slot _ (turn.there).locals) (turn.there).stack turn.shared (le_refl (length s.heap))
+      (subst (λ l. IsStack f.stack l) same turn.stack) (set_there program s.heap f.locals slot _ (turn.there).locals tt) (turn.there).stack turn.shared (le_refl (length s.heap))
   counts_fine slot n e h (Some v) = tt
 
-  pub stores_fine : (computational : ComputationalType) (slot : ℕ) (want : Want) → Asks computational want → step_of b.uses (returns_of b) insn ≡ kinds.stores slot want → FallsThrough insn → (stack : List Value) → f.stack ≡ stack → Fine program s f b (by_store computational slot stack s f)
+  pub stores_fine : (computational : ComputationalType) (slot : ℕ) (want : Want) → step_of b.uses (returns_of b) insn ≡ kinds.stores slot want → FallsThrough insn → (stack : List Value) → f.stack ≡ stack → Fine program s f b (by_store computational slot stack s f)
   unfolding Fine
-  stores_fine computational slot want a e h [] q = tt
-  stores_fine computational slot want a e h (v ∷ stack) q = by (is_of computational v) refl
+  stores_fine computational slot want e h [] q = tt
+  stores_fine computational slot want e h (v ∷ stack) q = by (is_of computational v)
     where
       top : Top v stack k.stack
       top = top_of v stack k.stack (subst (λ x. IsStack x k.stack) q turn.stack)
@@ -350,8 +255,8 @@ module _ {program : Program} {s : Shared} {f : Frame} {c : Linked} {b : Body} {i
       there : AllByRecursion (IsThere program s.heap) (v ∷ stack)
       there = subst (AllByRecursion (IsThere program s.heap)) q (turn.there).stack
 
-      by : (x : Bool) → is_of computational v ≡ x → Fine program s f b (cond x (goes s (record { method = f.method; place = f.place + 1; locals = put_local slot v f.locals; stack = stack })) gets_stuck)
-      by false g = tt
-      by true g = going turn s (f.place + 1) (put_local slot v f.locals) stack (falls turn h)
-          (subst (λ x. AreInSlots (put_local slot v f.locals) x) locals_are (put_fits f.locals k.locals slot v top.kind turn.locals top.is (same_size computational want v top.kind a g (subst (λ x. accepts want x ≡ true) last_is stored.0))))
+      by : (x : Bool) → Fine program s f b (cond x (goes s (record { method = f.method; place = f.place + 1; locals = put_local slot v f.locals; stack = stack })) gets_stuck)
+      by false = tt
+      by true = going turn s (f.place + 1) (put_local slot v f.locals) stack (falls turn h)
+          (subst (λ x. AreInSlots (put_local slot v f.locals) x) locals_are (put_fits f.locals k.locals slot v top.kind turn.locals top.is (pair_as_type want v top.kind top.is (subst (λ x. accepts want x ≡ true) last_is stored.0))))
           (subst (λ x. IsStack stack x) stack_is top.below) (put_there program s.heap f.locals slot v (turn.there).locals there.0) there.1 turn.shared (le_refl (length s.heap))
