@@ -15,7 +15,8 @@ use Rattle.jc_machine_laws.proofs.MoveLaws.{moves_kept}
 
 -- ---- every effect
 
-pub cond_effect : (most op : ℕ) (stack : List Value) (ks : List VerificationType) (t : Bool) (e f : Effect) → (t ≡ true → IsKept most op stack ks e) → IsKept most op stack ks f → IsKept most op stack ks (cond t e f)
+pub cond_effect : (most op : ℕ) (stack : List Value) (ks : List VerificationType) (t : Bool) (e f : Effect)
+    → (t ≡ true → IsKept most op stack ks e) → IsKept most op stack ks f → IsKept most op stack ks (cond t e f)
 cond_effect most op stack ks true e f p q = p refl
 cond_effect most op stack ks false e f p q = q
 
@@ -31,7 +32,8 @@ unfolding IsKept
 effects_fit most op stack before after p e = effect_kept most op stack before p after e
 
 -- values that are taken from the top, and nothing in their place
-pub leaf_none : (most : ℕ) (vs stack : List Value) (ks : List VerificationType) (wanted : List Want) → length wanted ≡ length vs → IsStack (vs ++ stack) ks → (t : List VerificationType) → moved_by most (form wanted [] ∷ []) ks ≡ Some t → IsStack stack t
+pub leaf_none : (most : ℕ) (vs stack : List Value) (ks : List VerificationType) (wanted : List Want) → length wanted ≡ length vs
+    → IsStack (vs ++ stack) ks → (t : List VerificationType) → moved_by most (form wanted [] ∷ []) ks ≡ Some t → IsStack stack t
 leaf_none most vs stack ks wanted n p t e =
     let r = tops_of vs stack ks p in
     let b = ap (λ l. below (length wanted) l) r.parts ∙ below_is r.low r.kinds (length wanted) (r.count ∙ sym n) in

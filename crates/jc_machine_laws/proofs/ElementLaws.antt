@@ -1,5 +1,7 @@
 -- Each turn keeps a world fitting: arrays, throwables, printing and probe arrays.
-use Rattle.std.proofs.Common.{◌≡◌, ℕ, zero, suc, ◌+◌, ◌%◌, ◌≤◌, ℤ, pos, negsuc, Bool, true, false, cond, List, [], ◌∷◌, ◌++◌, length, map, reverse, replicate, Option, Some, None, le_refl, nat_eq, nat_le, refl, sym, ◌∙◌, ap, subst, arith, append-nil, slice_set, slice_index_or, nat_lt, ◌<◌}
+use Rattle.std.proofs.Common.{◌≡◌, ℕ, zero, suc, ◌+◌, ◌%◌, ◌≤◌, ℤ, pos, negsuc, Bool, true, false, cond, List, [], ◌∷◌, ◌++◌}
+use Rattle.std.proofs.Common.{length, map, reverse, replicate, Option, Some, None, le_refl, nat_eq, nat_le, refl, sym, ◌∙◌, ap}
+use Rattle.std.proofs.Common.{subst, arith, append-nil, slice_set, slice_index_or, nat_lt, ◌<◌}
 use Rattle.std.proofs.lemmas.Bool.{ltb-true}
 use Rattle.std.specs.Prelude.{⊤, slice_get}
 use Rattle.std.specs.List.{AllByRecursion, list_any}
@@ -27,11 +29,15 @@ use Rattle.jc_kinds_after.specs.declared.want.Want.TheVariants as wants
 use Rattle.jc_kinds_after.specs.Step as kinds
 use Rattle.jc_machine_model.specs.Values.{Value, int, long, null, object, memory_error, print_stream, probes, text}
 use Rattle.jc_machine_model.specs.Heap.{HeapObject, array, throwable, has_room}
-use Rattle.jc_machine_model.specs.Arrays.{element_value, has_elements, index_within, Element, Found, found, fails, unsuited, in_array, in_heap_object, find_element, read_found, by_read, element_number, with_element, write_number, write_found, by_probe, write_to, by_write, by_make_array, measured, by_measure}
+use Rattle.jc_machine_model.specs.Arrays.{element_value, has_elements, index_within, Element, Found, found, fails, unsuited}
+use Rattle.jc_machine_model.specs.Arrays.{in_array, in_heap_object, find_element, read_found, by_read, element_number, with_element}
+use Rattle.jc_machine_model.specs.Arrays.{write_number, write_found, by_probe, write_to, by_write, by_make_array, measured}
+use Rattle.jc_machine_model.specs.Arrays.{by_measure}
 use Rattle.jc_machine_model.specs.World.{Frame, Shared}
 use Rattle.jc_machine_model.specs.Operations.{Printed, an_int_line, a_long_line, a_boolean_line, an_empty_line}
 use Rattle.jc_machine_model.specs.Results.{hits, raises, gets_stuck, next_with, goes_with}
-use Rattle.jc_machine_model.specs.Objects.{made, thrown_of, built, by_build, thrown_up, by_throw, most_printed, by_print, boolean_text, by_println, is_fetched, by_fetch}
+use Rattle.jc_machine_model.specs.Objects.{made, thrown_of, built, by_build, thrown_up, by_throw, most_printed, by_print}
+use Rattle.jc_machine_model.specs.Objects.{boolean_text, by_println, is_fetched, by_fetch}
 use Rattle.jc_machine_model.specs.Fits.{IsInSlot, AreInSlots, IsOfVerificationType, AreOfVerificationTypes, IsStack, IsThere, HasProbes, HasProbe}
 use Rattle.jc_machine_model.proofs.BeginLaws.{none_some, some_is, false_true}
 use Rattle.jc_machine_laws.proofs.StackLaws.{reverse_map, below_is, pushed, Top, top_of, chosen, not_chosen}
@@ -49,19 +55,22 @@ fails_found p = cc
 found_is : (d e : Element) → found d ≡ found e → d ≡ e
 found_is d e p = cc
 
-index_suits : (types : List FieldType) (el : FieldType) (els : List ℤ) (o : Option ℕ) (e : Element) → has_elements types el ≡ true → in_array el els o ≡ found e → has_elements types e.element ≡ true
+index_suits : (types : List FieldType) (el : FieldType) (els : List ℤ) (o : Option ℕ) (e : Element) → has_elements types el ≡ true
+    → in_array el els o ≡ found e → has_elements types e.element ≡ true
 index_suits types el els None e h p = absurd (fails_found p)
 index_suits types el els (Some i) e h p = subst (λ (x : Element). has_elements types x.element ≡ true) (found_is _ e p) h
 
 object_suits : (types : List FieldType) (i : ℤ) (o : Option HeapObject) (e : Element) → in_heap_object types i o ≡ found e → has_elements types e.element ≡ true
 object_suits types i (Some (array el els)) e p = by (has_elements types el) refl p
   where
-    by : (b : Bool) → has_elements types el ≡ b → cond b (in_array el els (index_within i (length els))) unsuited ≡ found e → has_elements types e.element ≡ true
+    by : (b : Bool) → has_elements types el ≡ b → cond b (in_array el els (index_within i (length els))) unsuited ≡ found e
+        → has_elements types e.element ≡ true
     by true h q = index_suits types el els (index_within i (length els)) e h q
     by false h q = absurd (unsuited_found q)
 object_suits types i o e p = absurd (unsuited_found p)
 
-element_suits : (types : List FieldType) (heap : List HeapObject) (a : Value) (i : ℤ) (e : Element) → find_element types heap a i ≡ found e → has_elements types e.element ≡ true
+element_suits : (types : List FieldType) (heap : List HeapObject) (a : Value) (i : ℤ) (e : Element)
+    → find_element types heap a i ≡ found e → has_elements types e.element ≡ true
 element_suits types heap null i e p = absurd (fails_found p)
 element_suits types heap (object k) i e p = object_suits types i (slice_get heap k) e p
 element_suits types heap a i e p = absurd (unsuited_found p)
@@ -83,7 +92,8 @@ probe_of None count id h l = absurd h
 probe_of (Some d) count id h l = (h.0, h.1, subst (λ n. id < n) (sym h.2) l)
 
 -- elements of types other than long are ints
-pub int_element : (types : List FieldType) → has_elements types Long ≡ false → (el : FieldType) (x : ℤ) → has_elements types el ≡ true → IsOfVerificationType (element_value el x) verification.int
+pub int_element : (types : List FieldType) → has_elements types Long ≡ false → (el : FieldType) (x : ℤ)
+    → has_elements types el ≡ true → IsOfVerificationType (element_value el x) verification.int
 int_element types p Long x q = absurd (false_true (sym p ∙ q))
 int_element types p el x q = tt
 
@@ -141,27 +151,32 @@ slot_replaced old name l h p = by (same_new old h) refl
     by true e = slot_built l h name (new_is old h e) p
     by false e = p
 
-kind_replaced : (old : VerificationType) (name : List ℕ) (v : Value) (h : VerificationType) → IsOfVerificationType v h → IsOfVerificationType v (replaced old name h)
+kind_replaced : (old : VerificationType) (name : List ℕ) (v : Value) (h : VerificationType) → IsOfVerificationType v h
+    → IsOfVerificationType v (replaced old name h)
 kind_replaced old name v h p = by (same_new old h) refl
   where
     by : (z : Bool) → same_new old h ≡ z → IsOfVerificationType v (cond z (verification.object name) h)
     by true e = kind_built v h name (new_is old h e) p
     by false e = p
 
-slots_replaced : (old : VerificationType) (name : List ℕ) (locals : List (Option Value)) (ks : List VerificationType) → AreInSlots locals ks → AreInSlots locals (map (replaced old name) ks)
+slots_replaced : (old : VerificationType) (name : List ℕ) (locals : List (Option Value)) (ks : List VerificationType)
+    → AreInSlots locals ks → AreInSlots locals (map (replaced old name) ks)
 slots_replaced old name [] [] p = tt
 slots_replaced old name [] (h ∷ ks) p = absurd p
 slots_replaced old name (l ∷ locals) [] p = absurd p
 slots_replaced old name (l ∷ locals) (h ∷ ks) p = (slot_replaced old name l h p.0, slots_replaced old name locals ks p.1)
 
-kinds_replaced : (old : VerificationType) (name : List ℕ) (values : List Value) (ks : List VerificationType) → AreOfVerificationTypes values ks → AreOfVerificationTypes values (map (replaced old name) ks)
+kinds_replaced : (old : VerificationType) (name : List ℕ) (values : List Value) (ks : List VerificationType)
+    → AreOfVerificationTypes values ks → AreOfVerificationTypes values (map (replaced old name) ks)
 kinds_replaced old name [] [] p = tt
 kinds_replaced old name [] (h ∷ ks) p = absurd p
 kinds_replaced old name (v ∷ values) [] p = absurd p
 kinds_replaced old name (v ∷ values) (h ∷ ks) p = (kind_replaced old name v h p.0, kinds_replaced old name values ks p.1)
 
-stack_replaced : (old : VerificationType) (name : List ℕ) (stack : List Value) (ks : List VerificationType) → IsStack stack ks → IsStack stack (map (replaced old name) ks)
-stack_replaced old name stack ks p = subst (AreOfVerificationTypes stack) (sym (reverse_map (replaced old name) ks)) (kinds_replaced old name stack (reverse ks) p)
+stack_replaced : (old : VerificationType) (name : List ℕ) (stack : List Value) (ks : List VerificationType) → IsStack stack ks
+    → IsStack stack (map (replaced old name) ks)
+stack_replaced old name stack ks p =
+    subst (AreOfVerificationTypes stack) (sym (reverse_map (replaced old name) ks)) (kinds_replaced old name stack (reverse ks) p)
 
 -- what a constructor without parameters leaves
 record Built (k t : TypeState) : Type 0 where
@@ -173,12 +188,15 @@ record Built (k t : TypeState) : Type 0 where
 built_is : (most : ℕ) (old : VerificationType) (o : Option (List ℕ)) (k t : TypeState) → built_as most old (below 1 k.stack) [] o k ≡ Some t → Built k t
 built_is most old None k t e = absurd (none_some e)
 built_is most old (Some name) k t e =
-    let p = with_stack_is (record { locals = map (replaced old name) k.locals; stack = k.stack }) t (limited most (map (replaced old name) (below 1 k.stack) ++ [])) e in
+    let p = with_stack_is (record { locals = map (replaced old name) k.locals; stack = k.stack }) t
+    (limited most (map (replaced old name) (below 1 k.stack) ++ [])) e in
     record {
       old = old;
       name = name;
       locals = p.1;
-      stack = sym (append-nil (map (replaced old name) (below 1 k.stack))) ∙ some_is _ t.stack (chosen _ (Some (map (replaced old name) (below 1 k.stack) ++ [])) t.stack p.0).1;
+      stack =
+          sym (append-nil (map (replaced old name) (below 1 k.stack)))
+          ∙ some_is _ t.stack (chosen _ (Some (map (replaced old name) (below 1 k.stack) ++ [])) t.stack p.0).1;
     }
 
 -- ---- printing
@@ -195,35 +213,47 @@ module _ {program : Program} {s : Shared} {f : Frame} {c : Linked} {b : Body} {i
   stack_there stack q = subst (AllByRecursion (IsThere program s.heap)) q (turn.there).stack
 
   -- operands are taken, and the heap grows or stays
-  pops : (vs rest : List Value) (wanted : List Want) (heap : List HeapObject) (output : List ℕ) → step_of b.uses (returns_of b) insn ≡ kinds.moves (form wanted [] ∷ []) → FallsThrough insn → f.stack ≡ vs ++ rest → length wanted ≡ length vs
+  pops : (vs rest : List Value) (wanted : List Want) (heap : List HeapObject) (output : List ℕ)
+      → step_of b.uses (returns_of b) insn ≡ kinds.moves (form wanted [] ∷ []) → FallsThrough insn → f.stack ≡ vs ++ rest
+      → length wanted ≡ length vs
       → length s.heap ≤ length heap → Fine program s f b (goes_with (record s { heap = heap; output = output }) f rest)
   pops vs rest wanted heap output e l d n g =
       takes_fine turn vs rest wanted (f.place + 1) (record s { heap = heap; output = output }) e (falls turn l) d n
-      (values_grow program s.heap heap g rest (each_behind (IsThere program s.heap) vs rest (stack_there (vs ++ rest) d))) (slots_grow program s.heap heap g f.locals (turn.there).locals)
+      (values_grow program s.heap heap g rest (each_behind (IsThere program s.heap) vs rest (stack_there (vs ++ rest) d)))
+      (slots_grow program s.heap heap g f.locals (turn.there).locals)
       (shared_grows program s heap output s.raised g turn.shared) g
 
-  turned : (vs rest : List Value) (wanted : List Want) (h : VerificationType) (v : Value) (heap : List HeapObject) → step_of b.uses (returns_of b) insn ≡ kinds.moves (form wanted (kind h ∷ []) ∷ []) → FallsThrough insn → f.stack ≡ vs ++ rest
-      → length wanted ≡ length vs → IsOfVerificationType v h → IsThere program heap v → length s.heap ≤ length heap → Fine program s f b (goes_with (record s { heap = heap }) f (v ∷ rest))
+  turned : (vs rest : List Value) (wanted : List Want) (h : VerificationType) (v : Value) (heap : List HeapObject)
+      → step_of b.uses (returns_of b) insn ≡ kinds.moves (form wanted (kind h ∷ []) ∷ []) → FallsThrough insn → f.stack ≡ vs ++ rest
+      → length wanted ≡ length vs → IsOfVerificationType v h → IsThere program heap v → length s.heap ≤ length heap
+      → Fine program s f b (goes_with (record s { heap = heap }) f (v ∷ rest))
   turned vs rest wanted h v heap e l d n p q g =
       turns_fine turn vs rest wanted h v (record s { heap = heap }) e l d n p q
-      (values_grow program s.heap heap g rest (each_behind (IsThere program s.heap) vs rest (stack_there (vs ++ rest) d))) (slots_grow program s.heap heap g f.locals (turn.there).locals)
+      (values_grow program s.heap heap g rest (each_behind (IsThere program s.heap) vs rest (stack_there (vs ++ rest) d)))
+      (slots_grow program s.heap heap g f.locals (turn.there).locals)
       (shared_grows program s heap s.output s.raised g turn.shared) g
 
   -- ---- arrays
 
-  pub reads_fine : (types : List FieldType) (h : VerificationType) → step_of b.uses (returns_of b) insn ≡ kinds.moves (form (wants.Reference ∷ wants.Int ∷ []) (kind h ∷ []) ∷ []) → FallsThrough insn
-      → ((el : FieldType) (x : ℤ) → has_elements types el ≡ true → IsOfVerificationType (element_value el x) h) → (stack : List Value) → f.stack ≡ stack → Fine program s f b (by_read types stack s f)
+  pub reads_fine : (types : List FieldType) (h : VerificationType)
+      → step_of b.uses (returns_of b) insn ≡ kinds.moves (form (wants.Reference ∷ wants.Int ∷ []) (kind h ∷ []) ∷ []) → FallsThrough insn
+      → ((el : FieldType) (x : ℤ) → has_elements types el ≡ true → IsOfVerificationType (element_value el x) h)
+      → (stack : List Value) → f.stack ≡ stack → Fine program s f b (by_read types stack s f)
   unfolding Fine
   reads_fine types h e l w (int i ∷ a ∷ stack) q = by (find_element types s.heap a i) refl
     where
       by : (r : Found) → find_element types s.heap a i ≡ r → Fine program s f b (read_found r stack s f)
-      by (found x) g = turned (int i ∷ a ∷ []) stack (wants.Reference ∷ wants.Int ∷ []) h (element_value x.element (slice_index_or x.elements x.index (pos 0))) s.heap e l q refl
-          (w x.element (slice_index_or x.elements x.index (pos 0)) (element_suits types s.heap a i x g)) (element_there program s.heap x.element (slice_index_or x.elements x.index (pos 0))) (le_refl (length s.heap))
+      by (found x) g =
+          turned (int i ∷ a ∷ []) stack (wants.Reference ∷ wants.Int ∷ []) h
+          (element_value x.element (slice_index_or x.elements x.index (pos 0))) s.heap e l q refl
+          (w x.element (slice_index_or x.elements x.index (pos 0)) (element_suits types s.heap a i x g))
+          (element_there program s.heap x.element (slice_index_or x.elements x.index (pos 0))) (le_refl (length s.heap))
       by (fails d) g = tt
       by unsuited g = tt
   reads_fine types h e l w stack q = tt
 
-  writes_to : (types : List FieldType) (w : Want) → step_of b.uses (returns_of b) insn ≡ kinds.moves (form (wants.Reference ∷ wants.Int ∷ w ∷ []) [] ∷ []) → FallsThrough insn
+  writes_to : (types : List FieldType) (w : Want)
+      → step_of b.uses (returns_of b) insn ≡ kinds.moves (form (wants.Reference ∷ wants.Int ∷ w ∷ []) [] ∷ []) → FallsThrough insn
       → (v : Value) (i : ℤ) (a : Value) (stack : List Value) → f.stack ≡ v ∷ int i ∷ a ∷ stack → Fine program s f b (write_to types a i v stack s f)
   unfolding Fine
   writes_to types w e l v i null stack q = tt
@@ -231,7 +261,9 @@ module _ {program : Program} {s : Shared} {f : Frame} {c : Linked} {b : Body} {i
     where
       number : (x : Element) (o : Option ℤ) → Fine program s f b (write_number x o j stack s f)
       number x None = tt
-      number x (Some n) = pops (v ∷ int i ∷ object j ∷ []) stack (wants.Reference ∷ wants.Int ∷ w ∷ []) (slice_set s.heap j (with_element x n)) s.output e l q refl (as_long s.heap j (with_element x n))
+      number x (Some n) =
+          pops (v ∷ int i ∷ object j ∷ []) stack (wants.Reference ∷ wants.Int ∷ w ∷ [])
+          (slice_set s.heap j (with_element x n)) s.output e l q refl (as_long s.heap j (with_element x n))
         where
           as_long : (xs : List HeapObject) (m : ℕ) (y : HeapObject) → length xs ≤ length (slice_set xs m y)
           as_long [] m y = omega arith
@@ -261,31 +293,42 @@ module _ {program : Program} {s : Shared} {f : Frame} {c : Linked} {b : Body} {i
       by false = tt
   writes_to types w e l v i a stack q = tt
 
-  pub writes_fine : (types : List FieldType) (w : Want) → step_of b.uses (returns_of b) insn ≡ kinds.moves (form (wants.Reference ∷ wants.Int ∷ w ∷ []) [] ∷ []) → FallsThrough insn
+  pub writes_fine : (types : List FieldType) (w : Want)
+      → step_of b.uses (returns_of b) insn ≡ kinds.moves (form (wants.Reference ∷ wants.Int ∷ w ∷ []) [] ∷ []) → FallsThrough insn
       → (stack : List Value) → f.stack ≡ stack → Fine program s f b (by_write types stack s f)
   unfolding Fine
   writes_fine types w e l (v ∷ int i ∷ a ∷ stack) q = writes_to types w e l v i a stack q
   writes_fine types w e l stack q = tt
 
-  pub makes_array_fine : (element : FieldType) (name : List ℕ) → step_of b.uses (returns_of b) insn ≡ kinds.moves (form (wants.Int ∷ []) (kind (verification.object name) ∷ []) ∷ []) → FallsThrough insn
+  pub makes_array_fine : (element : FieldType) (name : List ℕ)
+      → step_of b.uses (returns_of b) insn ≡ kinds.moves (form (wants.Int ∷ []) (kind (verification.object name) ∷ []) ∷ [])
+      → FallsThrough insn
       → (stack : List Value) → f.stack ≡ stack → Fine program s f b (by_make_array element stack s f)
   unfolding Fine
   makes_array_fine element name e l (int (negsuc n) ∷ stack) q = tt
   makes_array_fine element name e l (int (pos n) ∷ stack) q = by (has_room s.heap (n + 1))
     where
-      by : (z : Bool) → Fine program s f b (cond z (goes_with (record s { heap = s.heap ++ array element (replicate n (pos 0)) ∷ [] }) f (object (length s.heap) ∷ stack)) (raises thrown.OutOfMemoryError))
+      by : (z : Bool) → Fine program s f b
+          (cond z (goes_with (record s { heap = s.heap ++ array element (replicate n (pos 0)) ∷ [] }) f
+          (object (length s.heap) ∷ stack)) (raises thrown.OutOfMemoryError))
       by false = tt
-      by true = turned (int (pos n) ∷ []) stack (wants.Int ∷ []) (verification.object name) (object (length s.heap)) (s.heap ++ array element (replicate n (pos 0)) ∷ []) e l q refl refl
+      by true =
+          turned (int (pos n) ∷ []) stack (wants.Int ∷ []) (verification.object name) (object (length s.heap))
+          (s.heap ++ array element (replicate n (pos 0)) ∷ []) e l q refl refl
           (at_end s.heap (array element (replicate n (pos 0)))) (longer s.heap (array element (replicate n (pos 0))))
   makes_array_fine element name e l stack q = tt
 
-  pub measures_fine : step_of b.uses (returns_of b) insn ≡ kinds.moves (form (wants.Reference ∷ []) (kind verification.int ∷ []) ∷ []) → FallsThrough insn → (stack : List Value) → f.stack ≡ stack → Fine program s f b (by_measure stack s f)
+  pub measures_fine : step_of b.uses (returns_of b) insn ≡ kinds.moves
+      (form (wants.Reference ∷ []) (kind verification.int ∷ []) ∷ []) → FallsThrough insn → (stack : List Value) → f.stack ≡ stack
+      → Fine program s f b (by_measure stack s f)
   unfolding Fine
   measures_fine e l (null ∷ stack) q = tt
   measures_fine e l (object j ∷ stack) q = by (slice_get s.heap j)
     where
       by : (o : Option HeapObject) → Fine program s f b (measured o stack s f)
-      by (Some (array el els)) = turned (object j ∷ []) stack (wants.Reference ∷ []) verification.int (int (pos (length els))) s.heap e l q refl tt tt (le_refl (length s.heap))
+      by (Some (array el els)) =
+          turned (object j ∷ []) stack (wants.Reference ∷ []) verification.int (int (pos (length els))) s.heap e l q refl tt tt
+          (le_refl (length s.heap))
       by o = tt
   measures_fine e l stack q = tt
 
@@ -299,22 +342,30 @@ module _ {program : Program} {s : Shared} {f : Frame} {c : Linked} {b : Body} {i
       marked = k.stack ++ verification.uninit f.place ∷ []
 
       made_is : (limited b.max_stack marked ≡ Some t.stack) × (map (without f.place) k.locals ≡ t.locals)
-      made_is = with_stack_is (record { locals = map (without f.place) k.locals; stack = k.stack }) t (limited b.max_stack marked) (not_chosen (list_any (is_made f.place) k.stack) _ t (stepped turn kinds.makes e))
+      made_is =
+          with_stack_is (record { locals = map (without f.place) k.locals; stack = k.stack }) t (limited b.max_stack marked)
+          (not_chosen (list_any (is_made f.place) k.stack) _ t (stepped turn kinds.makes e))
 
       heap : List HeapObject
       heap = s.heap ++ throwable d ∷ []
 
-      by : (z : Bool) → Fine program s f b (cond z (goes_with (record s { heap = s.heap ++ throwable d ∷ [] }) f (object (length s.heap) ∷ f.stack)) (raises thrown.OutOfMemoryError))
+      by : (z : Bool) → Fine program s f b
+          (cond z (goes_with (record s { heap = s.heap ++ throwable d ∷ [] }) f (object (length s.heap) ∷ f.stack))
+          (raises thrown.OutOfMemoryError))
       by false = tt
       by true = let g = longer s.heap (throwable d) in
           going turn (record s { heap = s.heap ++ throwable d ∷ [] }) (f.place + 1) f.locals (object (length s.heap) ∷ f.stack) (falls turn l)
           (subst (AreInSlots f.locals) made_is.1 (slots_without f.place f.locals k.locals turn.locals))
-          (subst (IsStack (object (length s.heap) ∷ f.stack)) (some_is (k.stack ++ verification.uninit f.place ∷ []) t.stack (chosen _ (Some (k.stack ++ verification.uninit f.place ∷ [])) t.stack made_is.0).1) (pushed (object (length s.heap)) f.stack (verification.uninit f.place) k.stack refl turn.stack))
+          (subst (IsStack (object (length s.heap) ∷ f.stack))
+          (some_is (k.stack ++ verification.uninit f.place ∷ []) t.stack
+          (chosen _ (Some (k.stack ++ verification.uninit f.place ∷ [])) t.stack made_is.0).1)
+          (pushed (object (length s.heap)) f.stack (verification.uninit f.place) k.stack refl turn.stack))
           (slots_grow program s.heap (s.heap ++ throwable d ∷ []) g f.locals (turn.there).locals)
           (at_end s.heap (throwable d), values_grow program s.heap (s.heap ++ throwable d ∷ []) g f.stack (turn.there).stack)
           (shared_grows program s (s.heap ++ throwable d ∷ []) s.output s.raised g turn.shared) g
 
-  pub builds_fine : (d : Thrown) → step_of b.uses (returns_of b) insn ≡ kinds.builds (form [] []) → FallsThrough insn → (stack : List Value) → f.stack ≡ stack → Fine program s f b (by_build d stack s f)
+  pub builds_fine : (d : Thrown) → step_of b.uses (returns_of b) insn ≡ kinds.builds (form [] []) → FallsThrough insn
+      → (stack : List Value) → f.stack ≡ stack → Fine program s f b (by_build d stack s f)
   unfolding Fine
   builds_fine d e l [] q = tt
   builds_fine d e l (v ∷ stack) q = at (thrown_of s.heap v)
@@ -323,7 +374,9 @@ module _ {program : Program} {s : Shared} {f : Frame} {c : Linked} {b : Body} {i
       old = slice_index_or (upper 1 k.stack) 0 verification.top
 
       parts : Built k t
-      parts = built_is b.max_stack _ (class_built (ground_of b f.place) (slice_index_or (upper 1 k.stack) 0 verification.top)) k t (chosen (accepts_all (wants.Anything ∷ []) (upper 1 k.stack)) _ t (stepped turn (kinds.builds (form [] [])) e)).1
+      parts =
+          built_is b.max_stack _ (class_built (ground_of b f.place) (slice_index_or (upper 1 k.stack) 0 verification.top)) k t
+          (chosen (accepts_all (wants.Anything ∷ []) (upper 1 k.stack)) _ t (stepped turn (kinds.builds (form [] [])) e)).1
 
       top : Top v stack k.stack
       top = top_of v stack k.stack (subst (λ x. IsStack x k.stack) q turn.stack)
@@ -333,8 +386,11 @@ module _ {program : Program} {s : Shared} {f : Frame} {c : Linked} {b : Body} {i
 
       by : (z : Bool) → Fine program s f b (cond z (goes_with s f stack) gets_stuck)
       by false = tt
-      by true = going turn s (f.place + 1) f.locals stack (falls turn l) (subst (AreInSlots f.locals) parts.locals (slots_replaced parts.old parts.name f.locals k.locals turn.locals))
-          (subst (IsStack stack) parts.stack (stack_replaced parts.old parts.name stack (below 1 k.stack) rest)) (turn.there).locals (stack_there (v ∷ stack) q).1 turn.shared (le_refl (length s.heap))
+      by true =
+          going turn s (f.place + 1) f.locals stack (falls turn l)
+          (subst (AreInSlots f.locals) parts.locals (slots_replaced parts.old parts.name f.locals k.locals turn.locals))
+          (subst (IsStack stack) parts.stack (stack_replaced parts.old parts.name stack (below 1 k.stack) rest)) (turn.there).locals
+          (stack_there (v ∷ stack) q).1 turn.shared (le_refl (length s.heap))
 
       at : (o : Option Thrown) → Fine program s f b (built d o stack s f)
       at None = tt
@@ -353,7 +409,8 @@ module _ {program : Program} {s : Shared} {f : Frame} {c : Linked} {b : Body} {i
 
   -- ---- printing
 
-  prints_line : (line : List ℕ) (vs stack : List Value) (wanted : List Want) (stream : Value) → step_of b.uses (returns_of b) insn ≡ kinds.moves (form wanted [] ∷ []) → FallsThrough insn → f.stack ≡ vs ++ stack
+  prints_line : (line : List ℕ) (vs stack : List Value) (wanted : List Want) (stream : Value)
+      → step_of b.uses (returns_of b) insn ≡ kinds.moves (form wanted [] ∷ []) → FallsThrough insn → f.stack ≡ vs ++ stack
       → length wanted ≡ length vs → Fine program s f b (by_print line stream stack s f)
   unfolding Fine
   prints_line line vs stack wanted null e l d n = tt
@@ -364,7 +421,8 @@ module _ {program : Program} {s : Shared} {f : Frame} {c : Linked} {b : Body} {i
       by true = pops vs stack wanted s.heap (s.output ++ (line ++ 10 ∷ [])) e l d n (le_refl (length s.heap))
   prints_line line vs stack wanted v e l d n = tt
 
-  pub prints_fine : (printed : Printed) → step_of b.uses (returns_of b) insn ≡ kinds.moves (form (printed_wants printed) [] ∷ []) → FallsThrough insn → (stack : List Value) → f.stack ≡ stack → Fine program s f b (by_println printed stack s f)
+  pub prints_fine : (printed : Printed) → step_of b.uses (returns_of b) insn ≡ kinds.moves (form (printed_wants printed) [] ∷ [])
+      → FallsThrough insn → (stack : List Value) → f.stack ≡ stack → Fine program s f b (by_println printed stack s f)
   unfolding Fine printed_wants
   prints_fine an_int_line e l (int x ∷ stream ∷ stack) q = prints_line (signed_decimal x) (int x ∷ stream ∷ []) stack _ stream e l q refl
   prints_fine a_long_line e l (long x ∷ stream ∷ stack) q = prints_line (signed_decimal x) (long x ∷ stream ∷ []) stack _ stream e l q refl
@@ -374,12 +432,16 @@ module _ {program : Program} {s : Shared} {f : Frame} {c : Linked} {b : Body} {i
 
   -- ---- probe arrays
 
-  pub fetches_fine : (class : ℕ) (init : ProbeInit) (name : List ℕ) → step_of b.uses (returns_of b) insn ≡ kinds.moves (form (wants.Long ∷ wants.Reference ∷ wants.Int ∷ []) (kind (verification.object name) ∷ []) ∷ []) → FallsThrough insn
+  pub fetches_fine : (class : ℕ) (init : ProbeInit) (name : List ℕ)
+      → step_of b.uses (returns_of b) insn ≡ kinds.moves
+      (form (wants.Long ∷ wants.Reference ∷ wants.Int ∷ []) (kind (verification.object name) ∷ []) ∷ []) → FallsThrough insn
       → IsThere program s.heap (probes class init.count) → (stack : List Value) → f.stack ≡ stack → Fine program s f b (by_fetch class init stack s f)
   unfolding Fine
   fetches_fine class init name e l p (int count ∷ text of ∷ long id ∷ stack) q = by (is_fetched class init id of count)
     where
       by : (z : Bool) → Fine program s f b (cond z (goes_with s f (probes class init.count ∷ stack)) gets_stuck)
       by false = tt
-      by true = turned (int count ∷ text of ∷ long id ∷ []) stack (wants.Long ∷ wants.Reference ∷ wants.Int ∷ []) (verification.object name) (probes class init.count) s.heap e l q refl refl p (le_refl (length s.heap))
+      by true =
+          turned (int count ∷ text of ∷ long id ∷ []) stack (wants.Long ∷ wants.Reference ∷ wants.Int ∷ [])
+          (verification.object name) (probes class init.count) s.heap e l q refl refl p (le_refl (length s.heap))
   fetches_fine class init name e l p stack q = tt

@@ -1,5 +1,6 @@
 -- What a program without frames has at its places and by its names.
-use Rattle.std.proofs.Common.{◌≡◌, ℕ, ◌+◌, Bool, ◌&&◌, not, nat_lt, if◌then◌else◌, List, map, Option, None, Some, option_map, option_and_then, bytes_eq, refl, ap, ◌∙◌}
+use Rattle.std.proofs.Common.{◌≡◌, ℕ, ◌+◌, Bool, ◌&&◌, not, nat_lt, if◌then◌else◌, List, map, Option, None, Some, option_map}
+use Rattle.std.proofs.Common.{option_and_then, bytes_eq, refl, ap, ◌∙◌}
 use Rattle.std.proofs.lemmas.Option.{slice_get-map}
 use Rattle.std.specs.List.{slice_get}
 use Rattle.jc_methods.specs.declared.body.Body.{Body}
@@ -63,7 +64,9 @@ same_entry p thread =
   where
     at_class : (k : ℕ) (o : Option Linked) → option_and_then (entry_in thread k) (option_map frameless_class o) ≡ option_and_then (entry_in thread k) o
     at_class k None = refl
-    at_class k (Some c) = ap (option_map (λ (m : ℕ). let e : Entry = record { class = k; method = m } in e)) (position-map frameless_body (is_entry thread) c.bodies)
+    at_class k (Some c) =
+        ap (option_map (λ (m : ℕ). let e : Entry = record { class = k; method = m } in e))
+        (position-map frameless_body (is_entry thread) c.bodies)
 
     by : (o : Option ℕ) → option_and_then (λ (k : ℕ). option_and_then (entry_in thread k) (class_at (frameless p) k)) o
         ≡ option_and_then (λ (k : ℕ). option_and_then (entry_in thread k) (class_at p k)) o
@@ -74,5 +77,7 @@ same_entry p thread =
 
 pub same_enterable : (c : Linked) (b : Body) → is_enterable (frameless_class c) (frameless_body b) ≡ is_enterable c b
 same_enterable c b =
-    ap (λ (d : Bool). (is_static b.flags && (not (is_native b) && (not c.has_clinit && not (nat_lt (if d then 1004 else 1000) (b.max_locals + b.max_stack))))) && not (is_synchronized b))
+    ap (λ (d : Bool). (is_static b.flags && (not
+    (is_native b) && (not c.has_clinit && not (nat_lt (if d then 1004 else 1000) (b.max_locals + b.max_stack))))) && not
+    (is_synchronized b))
     (same_declares c)

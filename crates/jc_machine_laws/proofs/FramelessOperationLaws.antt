@@ -15,11 +15,14 @@ use Rattle.jc_programs.specs.Members.{class_named, class_at, static_named}
 use Rattle.jc_machine_model.specs.Methods.{is_enterable}
 use Rattle.jc_machine_model.specs.Operations.{Operation, outside, pushes}
 use Rattle.jc_machine_model.specs.Values as value
-use Rattle.jc_machine_model.specs.Profile.{Location, in_init, init_of, what_at, declared_field, linked_field, is_print_stream, field_named, callee_named, may_name_method, entered_if, body_entered, class_entered, method_entered, is_fetch, init_call, static_call, virtual_call, special_call, call_named, member_operation, operation_of}
+use Rattle.jc_machine_model.specs.Profile.{Location, in_init, init_of, what_at, declared_field, linked_field, is_print_stream}
+use Rattle.jc_machine_model.specs.Profile.{field_named, callee_named, may_name_method, entered_if, body_entered, class_entered}
+use Rattle.jc_machine_model.specs.Profile.{method_entered, is_fetch, init_call, static_call, virtual_call, special_call, call_named}
+use Rattle.jc_machine_model.specs.Profile.{member_operation, operation_of}
 use Rattle.jc_machine_laws.specs.Frameless.{frameless_body, frameless_class, frameless}
 use Rattle.jc_machine_laws.proofs.FramelessLookupLaws.{same_class_named, same_class_at, same_body_at, same_callee, same_enterable}
 
--- the same place in the class without frames
+-- the place that a location names, in the class without the frames of its bodies
 abbrev pub frameless_at : Location → Location
 frameless_at at = record { class = at.class; linked = frameless_class at.linked; body = frameless_body at.body; place = at.place }
 
@@ -39,7 +42,8 @@ module _ (p : Program) (at : Location) where
   same_linked : (op : ℕ) (name desc : List ℕ) (o : Option ℕ) → linked_field op (frameless_at at) (frameless p) name desc o ≡ linked_field op at p name desc o
   same_linked op name desc None = refl
   same_linked op name desc (Some k) =
-      ap (λ (o : Option Linked). declared_field op (frameless_at at) k name desc (option_and_then (λ (c : Linked). static_named c.statics name desc) o)) (same_class_at p k)
+      ap (λ (o : Option Linked). declared_field op (frameless_at at) k name desc
+      (option_and_then (λ (c : Linked). static_named c.statics name desc) o)) (same_class_at p k)
       ∙ same_declared op k name desc (class_at p k)
 
   same_field : (op : ℕ) (class name desc : List ℕ) → field_named op (frameless_at at) (frameless p) class name desc ≡ field_named op at p class name desc
@@ -49,10 +53,12 @@ module _ (p : Program) (at : Location) where
 
   -- ---- calls
 
-  same_body_entered : (method : Entry) (c : Linked) (o : Option Body) → body_entered (frameless_at at) method (frameless_class c) (option_map frameless_body o) ≡ body_entered at method c o
+  same_body_entered : (method : Entry) (c : Linked) (o : Option Body)
+      → body_entered (frameless_at at) method (frameless_class c) (option_map frameless_body o) ≡ body_entered at method c o
   same_body_entered method c None = refl
   same_body_entered method c (Some b) =
-      ap (λ (e : Bool). entered_if (e && may_name_method at method.class b.name) method (frameless_body b)) (same_enterable c b) ∙ by (is_enterable c b && may_name_method at method.class b.name)
+      ap (λ (e : Bool). entered_if (e && may_name_method at method.class b.name) method (frameless_body b)) (same_enterable c b)
+      ∙ by (is_enterable c b && may_name_method at method.class b.name)
     where
       by : (e : Bool) → entered_if e method (frameless_body b) ≡ entered_if e method b
       by true = refl
@@ -64,7 +70,9 @@ module _ (p : Program) (at : Location) where
     where
       by : (o : Option Linked) → class_entered (frameless_at at) method (option_map frameless_class o) ≡ class_entered at method o
       by None = refl
-      by (Some c) = ap (body_entered (frameless_at at) method (frameless_class c)) (same_body_at c method.method) ∙ same_body_entered method c (slice_get c.bodies method.method)
+      by (Some c) =
+          ap (body_entered (frameless_at at) method (frameless_class c)) (same_body_at c method.method)
+          ∙ same_body_entered method c (slice_get c.bodies method.method)
 
   same_static : (class name desc : List ℕ) → static_call (frameless_at at) (frameless p) class name desc ≡ static_call at p class name desc
   same_static class name desc =

@@ -1,5 +1,6 @@
 -- A turn in a program without frames.
-use Rattle.std.proofs.Common.{◌≡◌, ℕ, ℤ, Bool, true, false, ◌&&◌, not, List, [], ◌∷◌, length, filter, map, Option, None, Some, option_map, option_and_then, nat_le, refl, ap, ap₂, ◌∙◌, if◌then◌else◌}
+use Rattle.std.proofs.Common.{◌≡◌, ℕ, ℤ, Bool, true, false, ◌&&◌, not, List, [], ◌∷◌, length, filter, map, Option, None, Some}
+use Rattle.std.proofs.Common.{option_map, option_and_then, nat_le, refl, ap, ap₂, ◌∙◌, if◌then◌else◌}
 use Rattle.std.specs.List.{slice_get}
 use Rattle.jc_methods.specs.declared.body.Body.{Body}
 use Rattle.jc_methods.specs.declared.body.Handler.{Handler}
@@ -12,12 +13,16 @@ use Rattle.jc_programs.specs.declared.run_end.Thrown.TheVariants as thrown
 use Rattle.jc_programs.specs.declared.run_plan.Case.{Case}
 use Rattle.jc_programs.specs.declared.run_plan.ThreadLine.{ThreadLine}
 use Rattle.jc_programs.specs.Members.{class_at, body_of}
-use Rattle.jc_machine_model.specs.Begin.{first_value, thread_for, thread_in, first_frame, first_statics, first_thread, first_threads, begin, entries_of, begin_case}
+use Rattle.jc_machine_model.specs.Begin.{first_value, thread_for, thread_in, first_frame, first_statics, first_thread}
+use Rattle.jc_machine_model.specs.Begin.{first_threads, begin, entries_of, begin_case}
 use Rattle.jc_machine_model.specs.Operations.{Operation}
 use Rattle.jc_machine_model.specs.Perform.{perform}
 use Rattle.jc_machine_model.specs.Results.{Result, goes, hits, calls, leaves, raises, throws, gets_stuck}
 use Rattle.jc_machine_model.specs.Run.{run_from, run}
-use Rattle.jc_machine_model.specs.Step.{LocatedInsn, located_in_body, located_in_class, located, operation_at, result_of, handler_in, handler_of, caught, unwound, Raised, placed, named_init, is_init_method, counted_frames, overflows, most_frames, new_frame, After, after, thrown_in, after_result, turn_of, with_after, step_of, step}
+use Rattle.jc_machine_model.specs.Step.{LocatedInsn, located_in_body, located_in_class, located, operation_at, result_of}
+use Rattle.jc_machine_model.specs.Step.{handler_in, handler_of, caught, unwound, Raised, placed, named_init, is_init_method}
+use Rattle.jc_machine_model.specs.Step.{counted_frames, overflows, most_frames, new_frame, After, after, thrown_in, after_result}
+use Rattle.jc_machine_model.specs.Step.{turn_of, with_after, step_of, step}
 use Rattle.jc_machine_model.specs.Values.{Value}
 use Rattle.jc_machine_model.specs.World.{Frame, Thread, running, returned, threw, stuck, Shared, World}
 use Rattle.jc_machine_laws.specs.Frameless.{frameless_body, frameless_class, frameless}
@@ -42,15 +47,20 @@ module _ (p : Program) where
   same_located method place =
       ap (option_and_then (insn_at method place)) (same_class_at p method.class) ∙ by (class_at p method.class)
     where
-      in_body : (c : Linked) (b : Body) (o : Option Insn) → located_in_body method.class (frameless_class c) place (frameless_body b) o ≡ option_map frameless_insn (located_in_body method.class c place b o)
+      in_body : (c : Linked) (b : Body) (o : Option Insn)
+          → located_in_body method.class (frameless_class c) place (frameless_body b) o ≡ option_map frameless_insn
+          (located_in_body method.class c place b o)
       in_body c b None = refl
       in_body c b (Some i) = refl
 
-      in_class : (c : Linked) (o : Option Body) → located_in_class method.class place (frameless_class c) (option_map frameless_body o) ≡ option_map frameless_insn (located_in_class method.class place c o)
+      in_class : (c : Linked) (o : Option Body)
+          → located_in_class method.class place (frameless_class c) (option_map frameless_body o) ≡ option_map frameless_insn
+          (located_in_class method.class place c o)
       in_class c None = refl
       in_class c (Some b) = in_body c b (slice_get b.code place)
 
-      by : (o : Option Linked) → option_and_then (insn_at method place) (option_map frameless_class o) ≡ option_map frameless_insn (option_and_then (insn_at method place) o)
+      by : (o : Option Linked) → option_and_then (insn_at method place) (option_map frameless_class o) ≡ option_map frameless_insn
+          (option_and_then (insn_at method place) o)
       by None = refl
       by (Some c) = ap (located_in_class method.class place (frameless_class c)) (same_body_at c method.method) ∙ in_class c (slice_get c.bodies method.method)
 
@@ -129,7 +139,8 @@ module _ (p : Program) where
   same_statics : first_statics (frameless p) ≡ first_statics p
   same_statics = by p.classes
     where
-      by : (classes : List Linked) → map (λ (c : Linked). map first_value c.statics) (map frameless_class classes) ≡ map (λ (c : Linked). map first_value c.statics) classes
+      by : (classes : List Linked) → map (λ (c : Linked). map first_value c.statics) (map frameless_class classes) ≡ map
+          (λ (c : Linked). map first_value c.statics) classes
       by [] = refl
       by (c ∷ classes) = ap (λ (l : List (List Value)). map first_value c.statics ∷ l) (by classes)
 

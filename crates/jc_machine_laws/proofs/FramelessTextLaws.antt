@@ -17,7 +17,8 @@ use Rattle.jc_machine_model.specs.World.{Hit, World}
 use Rattle.jc_machine_laws.specs.Frameless.{frameless_class, frameless}
 use Rattle.jc_machine_laws.proofs.FramelessStepLaws.{same_run}
 
-same_class_ends : (k : ℕ) (classes : List Linked) (statics : List (List Value)) → class_ends k (map frameless_class classes) statics ≡ class_ends k classes statics
+same_class_ends : (k : ℕ) (classes : List Linked) (statics : List (List Value))
+    → class_ends k (map frameless_class classes) statics ≡ class_ends k classes statics
 same_class_ends k [] statics = refl
 same_class_ends k (c ∷ classes) [] = refl
 same_class_ends k (c ∷ classes) (values ∷ statics) = ap (λ (l : List StaticEnd). field_ends k 0 c.statics values ++ l) (same_class_ends (k + 1) classes statics)
@@ -33,9 +34,11 @@ module _ (p : Program) where
 
   same_static_text : (s : StaticEnd) → static_text (frameless p) s ≡ static_text p s
   same_static_text s =
-      ap (λ (o : Option Linked). elim o [ None ↦ [] | Some c ↦ field_line c s ]) (slice_get-map frameless_class p.classes s.class) ∙ by (slice_get p.classes s.class)
+      ap (λ (o : Option Linked). elim o [ None ↦ [] | Some c ↦ field_line c s ]) (slice_get-map frameless_class p.classes s.class)
+      ∙ by (slice_get p.classes s.class)
     where
-      by : (o : Option Linked) → ◌≡◌ {A = List ℕ} (elim (option_map frameless_class o) [ None ↦ [] | Some c ↦ field_line c s ]) (elim o [ None ↦ [] | Some c ↦ field_line c s ])
+      by : (o : Option Linked) → ◌≡◌ {A = List ℕ} (elim (option_map frameless_class o) [ None ↦ [] | Some c ↦ field_line c s ])
+          (elim o [ None ↦ [] | Some c ↦ field_line c s ])
       by None = refl
       by (Some c) = refl
 

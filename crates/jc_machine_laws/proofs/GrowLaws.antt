@@ -43,10 +43,12 @@ module _ (program : Program) (heap more : List HeapObject) (n : length heap ≤ 
   pub frames_grow : (frames : List Frame) → AllByRecursion (AreThereIn program heap) frames → AllByRecursion (AreThereIn program more) frames
   frames_grow frames p = each_to (AreThereIn program heap) (AreThereIn program more) frames frame_grows p
 
-  pub statics_grow : (statics : List (List Value)) → AllByRecursion (AllByRecursion (IsThere program heap)) statics → AllByRecursion (AllByRecursion (IsThere program more)) statics
+  pub statics_grow : (statics : List (List Value)) → AllByRecursion (AllByRecursion (IsThere program heap)) statics
+      → AllByRecursion (AllByRecursion (IsThere program more)) statics
   statics_grow statics p = each_to (AllByRecursion (IsThere program heap)) (AllByRecursion (IsThere program more)) statics values_grow p
 
 -- another heap, at least as long
-pub shared_grows : (program : Program) (s : Shared) (more : List HeapObject) (output : List ℕ) (raised : Bool) → length s.heap ≤ length more → SharedFits program s
+pub shared_grows : (program : Program) (s : Shared) (more : List HeapObject) (output : List ℕ) (raised : Bool)
+    → length s.heap ≤ length more → SharedFits program s
     → SharedFits program (record { statics = s.statics; heap = more; output = output; raised = raised })
 shared_grows program s more output raised n w = record { statics = w.statics; there = statics_grow program s.heap more n s.statics w.there }

@@ -1,5 +1,6 @@
 -- Local variables of the machine against those of the kind check.
-use Rattle.std.proofs.Common.{◌≡◌, ℕ, zero, suc, ◌+◌, ℤ, Bool, true, false, cond, List, [], ◌∷◌, Option, Some, None, refl, sym, subst, slice_set, slice_index_or}
+use Rattle.std.proofs.Common.{◌≡◌, ℕ, zero, suc, ◌+◌, ℤ, Bool, true, false, cond, List, [], ◌∷◌, Option, Some, None, refl, sym}
+use Rattle.std.proofs.Common.{subst, slice_set, slice_index_or}
 use Rattle.std.specs.List.{AllByRecursion}
 use Rattle.jc_methods.specs.VerificationTypes.{VerificationType}
 use Rattle.jc_methods.specs.VerificationTypes as verification
@@ -11,14 +12,16 @@ use Rattle.jc_machine_model.specs.Locals.{is_pair_there, clear_before, clear_beh
 use Rattle.jc_machine_model.specs.Fits.{IsInSlot, AreInSlots, IsOfVerificationType, IsThere, IsThereInSlot}
 use Rattle.jc_machine_model.proofs.BeginLaws.{false_true}
 
-pub read_fits : (locals : List (Option Value)) (ks : List VerificationType) (k : ℕ) → AreInSlots locals ks → IsInSlot (slice_index_or locals k None) (slice_index_or ks k verification.top)
+pub read_fits : (locals : List (Option Value)) (ks : List VerificationType) (k : ℕ) → AreInSlots locals ks
+    → IsInSlot (slice_index_or locals k None) (slice_index_or ks k verification.top)
 read_fits [] [] k p = tt
 read_fits [] (h ∷ ks) k p = absurd p
 read_fits (l ∷ locals) [] k p = absurd p
 read_fits (l ∷ locals) (h ∷ ks) zero p = p.0
 read_fits (l ∷ locals) (h ∷ ks) (suc k) p = read_fits locals ks k p.1
 
-pub set_fits : (locals : List (Option Value)) (ks : List VerificationType) (k : ℕ) (l : Option Value) (h : VerificationType) → AreInSlots locals ks → IsInSlot l h → AreInSlots (slice_set locals k l) (slice_set ks k h)
+pub set_fits : (locals : List (Option Value)) (ks : List VerificationType) (k : ℕ) (l : Option Value) (h : VerificationType)
+    → AreInSlots locals ks → IsInSlot l h → AreInSlots (slice_set locals k l) (slice_set ks k h)
 set_fits [] [] k l h p q = tt
 set_fits [] (g ∷ ks) k l h p q = absurd p
 set_fits (m ∷ locals) [] k l h p q = absurd p
@@ -37,7 +40,8 @@ slot_cleared l verification.uninit_this p = p
 slot_cleared l (verification.object name) p = p
 slot_cleared l (verification.uninit at) p = p
 
-keep_fits : (locals : List (Option Value)) (ks : List VerificationType) (k : ℕ) → AreInSlots locals ks → AreInSlots locals (slice_set ks k (kinds.cleared (slice_index_or ks k verification.top)))
+keep_fits : (locals : List (Option Value)) (ks : List VerificationType) (k : ℕ) → AreInSlots locals ks
+    → AreInSlots locals (slice_set ks k (kinds.cleared (slice_index_or ks k verification.top)))
 keep_fits [] [] k p = tt
 keep_fits [] (h ∷ ks) k p = absurd p
 keep_fits (l ∷ locals) [] k p = absurd p
@@ -61,16 +65,23 @@ long_cleared None h e p = absurd (false_true e)
 long_cleared (Some (long x)) h e p = long_in_slot x h p
 long_cleared (Some v) h e p = absurd (false_true e)
 
-clear_fits : (locals : List (Option Value)) (ks : List VerificationType) (k : ℕ) → AreInSlots locals ks → AreInSlots (clear_before k locals) (kinds.clear_before k ks)
+clear_fits : (locals : List (Option Value)) (ks : List VerificationType) (k : ℕ) → AreInSlots locals ks
+    → AreInSlots (clear_before k locals) (kinds.clear_before k ks)
 clear_fits locals ks zero p = p
 clear_fits locals ks (suc k) p = by (is_pair_there (slice_index_or locals k None)) refl
   where
-    by : (b : Bool) → is_pair_there (slice_index_or locals k None) ≡ b → AreInSlots (cond b (slice_set locals k None) locals) (slice_set ks k (kinds.cleared (slice_index_or ks k verification.top)))
-    by true e = set_fits locals ks k None (kinds.cleared (slice_index_or ks k verification.top)) p (long_cleared (slice_index_or locals k None) (slice_index_or ks k verification.top) e (read_fits locals ks k p))
+    by : (b : Bool) → is_pair_there (slice_index_or locals k None) ≡ b
+        → AreInSlots (cond b (slice_set locals k None) locals) (slice_set ks k (kinds.cleared (slice_index_or ks k verification.top)))
+    by true e =
+        set_fits locals ks k None (kinds.cleared (slice_index_or ks k verification.top)) p
+        (long_cleared (slice_index_or locals k None) (slice_index_or ks k verification.top) e (read_fits locals ks k p))
     by false e = keep_fits locals ks k p
 
-behind_fits : (locals : List (Option Value)) (ks : List VerificationType) (k : ℕ) (v : Value) (h : VerificationType) → is_pair v ≡ verification.is_pair h → AreInSlots locals ks → AreInSlots (clear_behind k v locals) (kinds.put_second h k ks)
-behind_fits locals ks k v h e p = subst (λ b. AreInSlots (cond b (slice_set locals (k + 1) None) locals) (cond (verification.is_pair h) (slice_set ks (k + 1) verification.top) ks)) (sym e) (by (verification.is_pair h))
+behind_fits : (locals : List (Option Value)) (ks : List VerificationType) (k : ℕ) (v : Value) (h : VerificationType)
+    → is_pair v ≡ verification.is_pair h → AreInSlots locals ks → AreInSlots (clear_behind k v locals) (kinds.put_second h k ks)
+behind_fits locals ks k v h e p =
+    subst (λ b. AreInSlots (cond b (slice_set locals (k + 1) None) locals)
+    (cond (verification.is_pair h) (slice_set ks (k + 1) verification.top) ks)) (sym e) (by (verification.is_pair h))
   where
     by : (b : Bool) → AreInSlots (cond b (slice_set locals (k + 1) None) locals) (cond b (slice_set ks (k + 1) verification.top) ks)
     by true = set_fits locals ks (k + 1) None verification.top p tt
@@ -85,19 +96,24 @@ from_slot v verification.top p = tt
 from_slot v h p = p
 
 -- a store of a value of a type
-pub put_fits : (locals : List (Option Value)) (ks : List VerificationType) (k : ℕ) (v : Value) (h : VerificationType) → AreInSlots locals ks → IsOfVerificationType v h → is_pair v ≡ verification.is_pair h → AreInSlots (put_local k v locals) (kinds.put_local k h ks)
+pub put_fits : (locals : List (Option Value)) (ks : List VerificationType) (k : ℕ) (v : Value) (h : VerificationType)
+    → AreInSlots locals ks → IsOfVerificationType v h → is_pair v ≡ verification.is_pair h
+    → AreInSlots (put_local k v locals) (kinds.put_local k h ks)
 put_fits locals ks k v h p q e =
     behind_fits (slice_set (clear_before k locals) k (Some v)) (slice_set (kinds.clear_before k ks) k h) k v h e
     (set_fits (clear_before k locals) (kinds.clear_before k ks) k (Some v) h (clear_fits locals ks k p) (to_slot v h q))
 
 -- ---- references
 
-pub set_there : (program : Program) (heap : List HeapObject) (locals : List (Option Value)) (k : ℕ) (l : Option Value) → AllByRecursion (IsThereInSlot program heap) locals → IsThereInSlot program heap l → AllByRecursion (IsThereInSlot program heap) (slice_set locals k l)
+pub set_there : (program : Program) (heap : List HeapObject) (locals : List (Option Value)) (k : ℕ) (l : Option Value)
+    → AllByRecursion (IsThereInSlot program heap) locals → IsThereInSlot program heap l
+    → AllByRecursion (IsThereInSlot program heap) (slice_set locals k l)
 set_there program heap [] k l p q = tt
 set_there program heap (m ∷ locals) zero l p q = (q, p.1)
 set_there program heap (m ∷ locals) (suc k) l p q = (p.0, set_there program heap locals k l p.1 q)
 
-clear_there : (program : Program) (heap : List HeapObject) (locals : List (Option Value)) (k : ℕ) → AllByRecursion (IsThereInSlot program heap) locals → AllByRecursion (IsThereInSlot program heap) (clear_before k locals)
+clear_there : (program : Program) (heap : List HeapObject) (locals : List (Option Value)) (k : ℕ)
+    → AllByRecursion (IsThereInSlot program heap) locals → AllByRecursion (IsThereInSlot program heap) (clear_before k locals)
 clear_there program heap locals zero p = p
 clear_there program heap locals (suc k) p = by (is_pair_there (slice_index_or locals k None))
   where
@@ -105,17 +121,21 @@ clear_there program heap locals (suc k) p = by (is_pair_there (slice_index_or lo
     by true = set_there program heap locals k None p tt
     by false = p
 
-pub put_there : (program : Program) (heap : List HeapObject) (locals : List (Option Value)) (k : ℕ) (v : Value) → AllByRecursion (IsThereInSlot program heap) locals → IsThere program heap v → AllByRecursion (IsThereInSlot program heap) (put_local k v locals)
+pub put_there : (program : Program) (heap : List HeapObject) (locals : List (Option Value)) (k : ℕ) (v : Value)
+    → AllByRecursion (IsThereInSlot program heap) locals → IsThere program heap v
+    → AllByRecursion (IsThereInSlot program heap) (put_local k v locals)
 put_there program heap locals k v p q = by (is_pair v)
   where
     set : AllByRecursion (IsThereInSlot program heap) (slice_set (clear_before k locals) k (Some v))
     set = set_there program heap (clear_before k locals) k (Some v) (clear_there program heap locals k p) q
 
-    by : (b : Bool) → AllByRecursion (IsThereInSlot program heap) (cond b (slice_set (slice_set (clear_before k locals) k (Some v)) (k + 1) None) (slice_set (clear_before k locals) k (Some v)))
+    by : (b : Bool) → AllByRecursion (IsThereInSlot program heap)
+        (cond b (slice_set (slice_set (clear_before k locals) k (Some v)) (k + 1) None) (slice_set (clear_before k locals) k (Some v)))
     by true = set_there program heap (slice_set (clear_before k locals) k (Some v)) (k + 1) None set tt
     by false = set
 
-pub read_there : (program : Program) (heap : List HeapObject) (locals : List (Option Value)) (k : ℕ) → AllByRecursion (IsThereInSlot program heap) locals → IsThereInSlot program heap (slice_index_or locals k None)
+pub read_there : (program : Program) (heap : List HeapObject) (locals : List (Option Value)) (k : ℕ)
+    → AllByRecursion (IsThereInSlot program heap) locals → IsThereInSlot program heap (slice_index_or locals k None)
 read_there program heap [] k p = tt
 read_there program heap (l ∷ locals) zero p = p.0
 read_there program heap (l ∷ locals) (suc k) p = read_there program heap locals k p.1

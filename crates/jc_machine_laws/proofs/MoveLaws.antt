@@ -1,6 +1,7 @@
 -- What pop, pop2, dup and its kin, and swap leave on the stack has the types of the kind check: its forms of each are the
 -- moves of the machine, with the same places.
-use Rattle.std.proofs.Common.{◌≡◌, ◌⊎◌, inl, inr, ℕ, ◌-◌, Bool, true, false, ◌&&◌, cond, if◌then◌else◌, List, [], ◌∷◌, ◌++◌, length, drop, reverse, map, Some, nat_eq, refl, sym, ◌∙◌, ap, subst, arith, take-append-drop, ⊎_elim}
+use Rattle.std.proofs.Common.{◌≡◌, ◌⊎◌, inl, inr, ℕ, ◌-◌, Bool, true, false, ◌&&◌, cond, if◌then◌else◌, List, [], ◌∷◌, ◌++◌, length}
+use Rattle.std.proofs.Common.{drop, reverse, map, Some, nat_eq, refl, sym, ◌∙◌, ap, subst, arith, take-append-drop, ⊎_elim}
 use Rattle.std.proofs.lemmas.Bool.{and_parts, and_from, eqb-true}
 use Rattle.std.proofs.lemmas.List.{reverse-append, reverse-reverse, length-reverse, length-map}
 use mathlib.Core.List.{reverse_aux}

@@ -1,5 +1,7 @@
 -- Frames that go on: where an instruction leads, and at a handler.
-use Rattle.std.proofs.Common.{◌≡◌, ◌⊎◌, inl, inr, ⊎_elim, ℕ, zero, suc, ◌+◌, ◌<◌, ◌≤◌, Bool, true, false, not, cond, List, [], ◌∷◌, ◌++◌, length, Option, Some, None, get_or, reverse, codes, le_trans, nat_eq, nat_le, nat_lt, refl, sym, ◌∙◌, ap, subst, arith}
+use Rattle.std.proofs.Common.{◌≡◌, ◌⊎◌, inl, inr, ⊎_elim, ℕ, zero, suc, ◌+◌, ◌<◌, ◌≤◌, Bool, true, false, not, cond, List, [], ◌∷◌}
+use Rattle.std.proofs.Common.{◌++◌, length, Option, Some, None, get_or, reverse, codes, le_trans, nat_eq, nat_le, nat_lt, refl, sym}
+use Rattle.std.proofs.Common.{◌∙◌, ap, subst, arith}
 use Rattle.std.proofs.lemmas.Bool.{ltb-true, leb-true}
 use Rattle.std.proofs.lemmas.List.{reverse-append}
 use Rattle.std.proofs.lemmas.Option.{slice_get_within}
@@ -28,7 +30,8 @@ use Rattle.jc_machine_model.specs.Heap.{HeapObject}
 use Rattle.jc_machine_model.specs.World.{Frame}
 use Rattle.jc_machine_model.specs.Methods.{is_plain}
 use Rattle.jc_machine_model.specs.Step.{handles, handler_in, handler_of, caught, unwound, is_init_method, counted_frames}
-use Rattle.jc_machine_model.specs.Fits.{IsReference, AreInSlots, IsOfVerificationType, AreOfVerificationTypes, IsStack, IsThere, AreThereIn, StandsIn, FitsTop, FitEachWaiting, FitsRunning, FitsThread}
+use Rattle.jc_machine_model.specs.Fits.{IsReference, AreInSlots, IsOfVerificationType, AreOfVerificationTypes, IsStack, IsThere}
+use Rattle.jc_machine_model.specs.Fits.{AreThereIn, StandsIn, FitsTop, FitEachWaiting, FitsRunning, FitsThread}
 use Rattle.jc_machine_model.proofs.BeginLaws.{both, all_at, slot_fits, slots_fit, there_is, none_some, some_is}
 use Rattle.jc_machine_laws.proofs.LocalLaws.{to_slot, from_slot}
 
@@ -83,12 +86,25 @@ item_at [] k lt = let l = lt in absurd (omega (arith, l))
 item_at (x ∷ xs) zero lt = (x, refl)
 item_at (x ∷ xs) (suc k) lt = item_at xs k (let l = lt in omega (arith, l))
 
-pub whole_body : (program : Program) (f : Frame) (c : Linked) (b : Body) → IsProgram program → class_at program f.method.class ≡ Some c → slice_get c.bodies f.method.method ≡ Some b → IsProgramBody program.names b
-whole_body program f c b p e g = all_at (IsProgramBody program.names) c.bodies f.method.method b (all_at (IsLinked program.names) program.classes f.method.class c p.classes e).bodies g
+pub whole_body : (program : Program) (f : Frame) (c : Linked) (b : Body) → IsProgram program
+    → class_at program f.method.class ≡ Some c → slice_get c.bodies f.method.method ≡ Some b → IsProgramBody program.names b
+whole_body program f c b p e g =
+    all_at (IsProgramBody program.names) c.bodies f.method.method b
+    (all_at (IsLinked program.names) program.classes f.method.class c p.classes e).bodies g
 
-pub here_of : (program : Program) (f : Frame) (s : TypeState) → IsProgram program → (st : StandsIn program f s) → (insn : Insn) × Here program f st.linked st.body insn s
-here_of program f s p st = let i = item_at st.body.code f.place st.within in
-    (i.0, record { class_is = st.class_is; body_is = st.body_is; plain = st.plain; insn_is = i.1; state_is = st.state_is; whole = whole_body program f st.linked st.body p st.class_is st.body_is })
+pub here_of : (program : Program) (f : Frame) (s : TypeState) → IsProgram program → (st : StandsIn program f s)
+    → (insn : Insn) × Here program f st.linked st.body insn s
+here_of program f s p st = let i = item_at st.body.code f.place st.within in (
+  i.0,
+  record {
+    class_is = st.class_is;
+    body_is = st.body_is;
+    plain = st.plain;
+    insn_is = i.1;
+    state_is = st.state_is;
+    whole = whole_body program f st.linked st.body p st.class_is st.body_is;
+  },
+)
 
 -- ---- where an instruction leads
 
@@ -96,13 +112,16 @@ goes_within : (b : Body) (i : ℕ) → IsWellMade b → GoesOnFrom b i → i + 1
 goes_within b i w g = ⊎_elim (λ lt. lt) (λ p. absurd (w.of_any_size.code.ends p.0 g.insn p.1 g.falls)) (split_last b.code i g.insn g.stands)
 
 jumps_within : (b : Body) (i j : ℕ) → IsWellMade b → JumpsTo b i j → j < length b.code
-jumps_within b i j w g = each_in (λ to. to < length b.code) (targets_of g.insn) j (all_at (LeadsWithin (length b.code)) b.code i g.insn w.of_any_size.code.places g.stands) g.target
+jumps_within b i j w g =
+    each_in (λ to. to < length b.code) (targets_of g.insn) j
+    (all_at (LeadsWithin (length b.code)) b.code i g.insn w.of_any_size.code.places g.stands) g.target
 
 leads_within : (b : Body) (i j : ℕ) → IsWellMade b → LeadsTo b i j → j < length b.code
 leads_within b i j w (inl p) = subst (λ k. k < length b.code) (sym p.1) (goes_within b i w p.0)
 leads_within b i j w (inr p) = jumps_within b i j w p
 
-pub after_there : (program : Program) (f : Frame) (c : Linked) (b : Body) (insn : Insn) (s : TypeState) → Here program f c b insn s → after_at program.names b f.place ≡ after_of b f.place s
+pub after_there : (program : Program) (f : Frame) (c : Linked) (b : Body) (insn : Insn) (s : TypeState) → Here program f c b insn s
+    → after_at program.names b f.place ≡ after_of b f.place s
 after_there program f c b insn s h = ap (option_and_then (after_of b f.place)) h.state_is
 
 pub kind_fits : (v : Value) (h k : VerificationType) → IsOfVerificationType v h → Fits h k → IsOfVerificationType v k
@@ -128,7 +147,8 @@ fit_reverse [] (k ∷ y) p = absurd p
 fit_reverse (h ∷ x) [] p = absurd p
 fit_reverse (h ∷ x) (k ∷ y) p =
     subst (λ l. FitEach l (reverse (k ∷ y))) (sym (reverse-append (h ∷ []) x))
-    (subst (λ l. FitEach (reverse x ++ h ∷ []) l) (sym (reverse-append (k ∷ []) y)) (fit_append (reverse x) (h ∷ []) (reverse y) (k ∷ []) (fit_reverse x y p.1) (p.0, tt)))
+    (subst (λ l. FitEach (reverse x ++ h ∷ []) l) (sym (reverse-append (k ∷ []) y))
+    (fit_append (reverse x) (h ∷ []) (reverse y) (k ∷ []) (fit_reverse x y p.1) (p.0, tt)))
 
 pub stack_fits : (stack : List Value) (x y : List VerificationType) → IsStack stack x → FitEach x y → IsStack stack y
 stack_fits stack x y p e = are_fit stack (reverse x) (reverse y) p (fit_reverse x y e)
@@ -137,14 +157,25 @@ frame_at : Frame → ℕ → List (Option Value) → List Value → Frame
 frame_at f place locals stack = record { method = f.method; place = place; locals = locals; stack = stack }
 
 -- values that fit the state after the instruction fit where it leads
-pub onward : (program : Program) (f : Frame) (c : Linked) (b : Body) (insn : Insn) (s t : TypeState) (j : ℕ) (locals : List (Option Value)) (stack : List Value) → Here program f c b insn s → after_of b f.place s ≡ Some t
-    → LeadsTo b f.place j → AreInSlots locals t.locals → IsStack stack t.stack → FitsTop program (record { method = f.method; place = j; locals = locals; stack = stack })
+pub onward : (program : Program) (f : Frame) (c : Linked) (b : Body) (insn : Insn) (s t : TypeState) (j : ℕ)
+    (locals : List (Option Value)) (stack : List Value) → Here program f c b insn s → after_of b f.place s ≡ Some t
+    → LeadsTo b f.place j → AreInSlots locals t.locals → IsStack stack t.stack
+    → FitsTop program (record { method = f.method; place = j; locals = locals; stack = stack })
 onward program f c b insn s t j locals stack h e l p q =
     let o = h.whole.checked.branches f.place j l in
     let r = there_is t (state_of program.names b j) (subst (λ x. FitsThere x (state_of program.names b j)) (after_there program f c b insn s h ∙ e) o) in
     record {
       state = r.0;
-      stands = record { linked = c; class_is = h.class_is; body = b; body_is = h.body_is; plain = h.plain; within = leads_within b f.place j h.whole.well_made l; state_is = r.1 };
+      stands =
+          record {
+            linked = c;
+            class_is = h.class_is;
+            body = b;
+            body_is = h.body_is;
+            plain = h.plain;
+            within = leads_within b f.place j h.whole.well_made l;
+            state_is = r.1;
+          };
       locals = slots_fit locals t.locals r.0.locals p r.2.locals;
       stack = stack_fits stack t.stack r.0.stack q r.2.stack;
     }
@@ -154,7 +185,9 @@ onward program f c b insn s t j locals stack h e l p q =
 caught_reference : (v : Value) (b : Body) (row : Handler) → IsReference v → IsOfVerificationType v (caught_kind b row)
 caught_reference v b row r = by (nat_eq row.class 0) r
   where
-    by : (t : Bool) → IsReference v → IsOfVerificationType v (cond t (verification.object (codes "java/lang/Throwable")) (verification.object (class_in (what_used b.uses row.class))))
+    by : (t : Bool) → IsReference v
+        → IsOfVerificationType v (cond t (verification.object (codes "java/lang/Throwable"))
+        (verification.object (class_in (what_used b.uses row.class))))
     by true r = r
     by false r = r
 
@@ -168,12 +201,14 @@ guarded b place c row e =
     let r = both (nat_lt place row.end) _ q.1 in
     record { row = p.1; start = leb-true row.start place q.0; end = ltb-true place row.end r.0 }
 
-pub caught_fits : (program : Program) (f : Frame) (c : Linked) (b : Body) (insn : Insn) (s : TypeState) (thrown : Thrown) (row : Handler) (v : Value) → Here program f c b insn s → AreInSlots f.locals s.locals
+pub caught_fits : (program : Program) (f : Frame) (c : Linked) (b : Body) (insn : Insn) (s : TypeState) (thrown : Thrown)
+    (row : Handler) (v : Value) → Here program f c b insn s → AreInSlots f.locals s.locals
     → handler_in f.place thrown b ≡ Some row → IsReference v → FitsTop program (record f { place = row.target; stack = v ∷ [] })
 caught_fits program f c b insn s thrown row v h p e r =
     let g = guarded b f.place thrown row e in
     let o = h.whole.checked.handlers row f.place g (slice_get_within b.code f.place insn h.insn_is) in
-    let k = there_is (record s { stack = caught_kind b row ∷ [] }) (state_of program.names b row.target) (subst (λ x. FitsThere (at_handler b row x) (state_of program.names b row.target)) h.state_is o) in
+    let k = there_is (record s { stack = caught_kind b row ∷ [] }) (state_of program.names b row.target)
+    (subst (λ x. FitsThere (at_handler b row x) (state_of program.names b row.target)) h.state_is o) in
     let w = all_in (IsHandler (length b.code)) b.handlers row h.whole.well_made.of_any_size.handlers g.row in
     record {
       state = k.0;
@@ -183,37 +218,50 @@ caught_fits program f c b insn s thrown row v h p e r =
     }
 
 -- the handler of a frame is that of its body
-handler_there : (program : Program) (f : Frame) (c : Linked) (b : Body) (insn : Insn) (s : TypeState) (thrown : Thrown) → Here program f c b insn s → handler_of program thrown f ≡ handler_in f.place thrown b
+handler_there : (program : Program) (f : Frame) (c : Linked) (b : Body) (insn : Insn) (s : TypeState) (thrown : Thrown)
+    → Here program f c b insn s → handler_of program thrown f ≡ handler_in f.place thrown b
 handler_there program f c b insn s thrown h =
     ap (option_and_then (handler_in f.place thrown)) (ap (option_and_then (λ (d : Linked). slice_get d.bodies f.method.method)) h.class_is ∙ h.body_is)
 
 -- ---- unwinding
 
-pub counted_step : (program : Program) (f : Frame) (waiting : List Frame) → is_init_method program f.method ≡ false → counted_frames program (f ∷ waiting) ≡ suc (counted_frames program waiting)
-counted_step program f waiting e = ap (λ b. length (cond (not b) (f ∷ filter (λ (g : Frame). not (is_init_method program g.method)) waiting) (filter (λ (g : Frame). not (is_init_method program g.method)) waiting))) e
+pub counted_step : (program : Program) (f : Frame) (waiting : List Frame) → is_init_method program f.method ≡ false
+    → counted_frames program (f ∷ waiting) ≡ suc (counted_frames program waiting)
+counted_step program f waiting e =
+    ap (λ b. length (cond (not b) (f ∷ filter (λ (g : Frame). not (is_init_method program g.method)) waiting)
+    (filter (λ (g : Frame). not (is_init_method program g.method)) waiting))) e
 
 pub counted_more : (program : Program) (f : Frame) (waiting : List Frame) → counted_frames program waiting ≤ counted_frames program (f ∷ waiting)
 counted_more program f waiting = by (is_init_method program f.method)
   where
-    by : (b : Bool) → counted_frames program waiting ≤ length (cond (not b) (f ∷ filter (λ (g : Frame). not (is_init_method program g.method)) waiting) (filter (λ (g : Frame). not (is_init_method program g.method)) waiting))
+    by : (b : Bool) → counted_frames program waiting ≤ length
+        (cond (not b) (f ∷ filter (λ (g : Frame). not (is_init_method program g.method)) waiting)
+        (filter (λ (g : Frame). not (is_init_method program g.method)) waiting))
     by true = omega arith
     by false = omega arith
 
 -- frames count by their methods
-counted_same : (program : Program) (f : Frame) (place : ℕ) (stack : List Value) (waiting : List Frame) → counted_frames program (record f { place = place; stack = stack } ∷ waiting) ≡ counted_frames program (f ∷ waiting)
+counted_same : (program : Program) (f : Frame) (place : ℕ) (stack : List Value) (waiting : List Frame)
+    → counted_frames program (record f { place = place; stack = stack } ∷ waiting) ≡ counted_frames program (f ∷ waiting)
 counted_same program f place stack waiting = by (is_init_method program f.method)
   where
-    by : (b : Bool) → length (cond (not b) (record f { place = place; stack = stack } ∷ filter (λ (g : Frame). not (is_init_method program g.method)) waiting) (filter (λ (g : Frame). not (is_init_method program g.method)) waiting))
-        ≡ length (cond (not b) (f ∷ filter (λ (g : Frame). not (is_init_method program g.method)) waiting) (filter (λ (g : Frame). not (is_init_method program g.method)) waiting))
+    by : (b : Bool) → length (cond (not b)
+        (record f { place = place; stack = stack } ∷ filter (λ (g : Frame). not (is_init_method program g.method)) waiting)
+        (filter (λ (g : Frame). not (is_init_method program g.method)) waiting))
+        ≡ length (cond (not b) (f ∷ filter (λ (g : Frame). not (is_init_method program g.method)) waiting)
+        (filter (λ (g : Frame). not (is_init_method program g.method)) waiting))
     by true = refl
     by false = refl
 
-there_caught : (program : Program) (heap : List HeapObject) (f : Frame) (place : ℕ) (v : Value) → AreThereIn program heap f → IsThere program heap v → AreThereIn program heap (record f { place = place; stack = v ∷ [] })
+there_caught : (program : Program) (heap : List HeapObject) (f : Frame) (place : ℕ) (v : Value) → AreThereIn program heap f
+    → IsThere program heap v → AreThereIn program heap (record f { place = place; stack = v ∷ [] })
 there_caught program heap f place v a t = record { locals = a.locals; stack = (t, tt) }
 
 -- a throwable that unwinds waiting frames finds a handler whose frame fits, or ends the thread
-pub waiting_unwinds : (program : Program) (heap : List HeapObject) (thrown : Thrown) (v : Value) (callee : Entry) (waiting : List Frame) → IsProgram program → IsReference v → IsThere program heap v
-    → FitEachWaiting program callee waiting → AllByRecursion (AreThereIn program heap) waiting → counted_frames program waiting ≤ 128 → FitsThread program heap (unwound program thrown v waiting)
+pub waiting_unwinds : (program : Program) (heap : List HeapObject) (thrown : Thrown) (v : Value) (callee : Entry)
+    (waiting : List Frame) → IsProgram program → IsReference v → IsThere program heap v
+    → FitEachWaiting program callee waiting → AllByRecursion (AreThereIn program heap) waiting
+    → counted_frames program waiting ≤ 128 → FitsThread program heap (unwound program thrown v waiting)
 waiting_unwinds program heap thrown v callee [] p r t w a n = tt
 waiting_unwinds program heap thrown v callee (f ∷ waiting) p r t w a n =
     let few = le_trans (counted_more program f waiting) n in
@@ -222,18 +270,22 @@ waiting_unwinds program heap thrown v callee (f ∷ waiting) p r t w a n =
     k : (insn : Insn) × Here program f w.0.stands.linked w.0.stands.body insn w.0.state
     k = here_of program f w.0.state p w.0.stands
 
-    by : FitsThread program heap (unwound program thrown v waiting) → (o : Option Handler) → handler_of program thrown f ≡ o → FitsThread program heap (caught o v f waiting (unwound program thrown v waiting))
+    by : FitsThread program heap (unwound program thrown v waiting) → (o : Option Handler) → handler_of program thrown f ≡ o
+        → FitsThread program heap (caught o v f waiting (unwound program thrown v waiting))
     by others None e = others
     by others (Some row) e = let one = counted_step program (record f { place = row.target; stack = v ∷ [] }) waiting w.0.no_init in record {
       some = omega (arith, one);
       few = subst (λ m. m ≤ 128) (sym (counted_same program f row.target (v ∷ []) waiting)) n;
-      top = caught_fits program f w.0.stands.linked w.0.stands.body k.0 w.0.state thrown row v k.1 w.0.locals (sym (handler_there program f w.0.stands.linked w.0.stands.body k.0 w.0.state thrown k.1) ∙ e) r;
+      top =
+          caught_fits program f w.0.stands.linked w.0.stands.body k.0 w.0.state thrown row v k.1 w.0.locals
+          (sym (handler_there program f w.0.stands.linked w.0.stands.body k.0 w.0.state thrown k.1) ∙ e) r;
       below = w.1;
       there = (there_caught program heap f row.target v a.0 t, a.1);
     }
 
--- the same of the frames of a running thread
-pub thread_unwinds : (program : Program) (heap : List HeapObject) (thrown : Thrown) (v : Value) (f : Frame) (waiting : List Frame) → IsProgram program → IsReference v → IsThere program heap v
+-- a throwable that unwinds the frames of a running thread finds a handler whose frame fits, or ends the thread
+pub thread_unwinds : (program : Program) (heap : List HeapObject) (thrown : Thrown) (v : Value) (f : Frame) (waiting : List Frame)
+    → IsProgram program → IsReference v → IsThere program heap v
     → FitsRunning program heap f waiting → FitsThread program heap (unwound program thrown v (f ∷ waiting))
 thread_unwinds program heap thrown v f waiting p r t w =
     let few = le_trans (counted_more program f waiting) w.few in
@@ -242,12 +294,15 @@ thread_unwinds program heap thrown v f waiting p r t w =
     k : (insn : Insn) × Here program f w.top.stands.linked w.top.stands.body insn w.top.state
     k = here_of program f w.top.state p w.top.stands
 
-    by : FitsThread program heap (unwound program thrown v waiting) → (o : Option Handler) → handler_of program thrown f ≡ o → FitsThread program heap (caught o v f waiting (unwound program thrown v waiting))
+    by : FitsThread program heap (unwound program thrown v waiting) → (o : Option Handler) → handler_of program thrown f ≡ o
+        → FitsThread program heap (caught o v f waiting (unwound program thrown v waiting))
     by others None e = others
     by others (Some row) e = record {
       some = subst (λ m. 1 ≤ m) (sym (counted_same program f row.target (v ∷ []) waiting)) w.some;
       few = subst (λ m. m ≤ 128) (sym (counted_same program f row.target (v ∷ []) waiting)) w.few;
-      top = caught_fits program f w.top.stands.linked w.top.stands.body k.0 w.top.state thrown row v k.1 w.top.locals (sym (handler_there program f w.top.stands.linked w.top.stands.body k.0 w.top.state thrown k.1) ∙ e) r;
+      top =
+          caught_fits program f w.top.stands.linked w.top.stands.body k.0 w.top.state thrown row v k.1 w.top.locals
+          (sym (handler_there program f w.top.stands.linked w.top.stands.body k.0 w.top.state thrown k.1) ∙ e) r;
       below = w.below;
       there = (there_caught program heap f row.target v w.there.0 t, w.there.1);
     }

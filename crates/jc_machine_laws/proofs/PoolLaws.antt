@@ -1,5 +1,6 @@
 -- Each turn keeps a world fitting: each instruction that names something in the pool.
-use Rattle.std.proofs.Common.{◌≡◌, ◌≢◌, inl, ℕ, Bool, true, false, not, ◌&&◌, ◌||◌, cond, List, [], ◌∷◌, Option, Some, None, is_some, codes, nat_eq, refl, sym, ◌∙◌, ap, subst}
+use Rattle.std.proofs.Common.{◌≡◌, ◌≢◌, inl, ℕ, Bool, true, false, not, ◌&&◌, ◌||◌, cond, List, [], ◌∷◌, Option, Some, None}
+use Rattle.std.proofs.Common.{is_some, codes, nat_eq, refl, sym, ◌∙◌, ap, subst}
 use Rattle.std.proofs.lemmas.Bool.{eqb-true}
 use Rattle.std.proofs.lemmas.Slice.Eq.{bytes_eq-Decides}
 use Rattle.std.specs.Prelude.{slice_get, option_and_then, bytes_eq}
@@ -30,7 +31,12 @@ use Rattle.jc_machine_model.specs.Programs.{IsProgram}
 use Rattle.jc_machine_model.specs.Values.{int, long, print_stream, text, computational_type}
 use Rattle.jc_machine_model.specs.World.{Frame, Shared}
 use Rattle.jc_machine_model.specs.Operations.{Printed, an_int_line, a_long_line, a_boolean_line, an_empty_line, pushes, gets, puts, outside}
-use Rattle.jc_machine_model.specs.Profile.{Location, in_init, init_of, constant_operation, long_operation, may_name_field, field_operation, declared_field, linked_field, is_print_stream, field_named, may_name_method, entered_if, body_entered, class_entered, method_entered, callee_named, is_fetch, init_call, static_call, printed_by, print_operation, virtual_call, made_class, build_operation, special_call, call_named, member_operation, make_operation, class_operation}
+use Rattle.jc_machine_model.specs.Profile.{Location, in_init, init_of, constant_operation, long_operation, may_name_field}
+use Rattle.jc_machine_model.specs.Profile.{field_operation, declared_field, linked_field, is_print_stream, field_named}
+use Rattle.jc_machine_model.specs.Profile.{may_name_method, entered_if, body_entered, class_entered, method_entered, callee_named}
+use Rattle.jc_machine_model.specs.Profile.{is_fetch, init_call, static_call, printed_by, print_operation, virtual_call, made_class}
+use Rattle.jc_machine_model.specs.Profile.{build_operation, special_call, call_named, member_operation, make_operation}
+use Rattle.jc_machine_model.specs.Profile.{class_operation}
 use Rattle.jc_machine_model.specs.Perform.{perform}
 use Rattle.jc_machine_model.specs.Fits.{HasProbes, HasText, IsThere, named_by, StandsAtCall}
 use Rattle.jc_machine_model.proofs.BeginLaws.{both, none_some, some_is, false_true, then_some}
@@ -69,7 +75,8 @@ stream_type : field_type_in (codes "Ljava/io/PrintStream;") ≡ Some (Object (co
 unfolding types_from
 stream_type = refl
 
-asked : method_step opcode.invokestatic [] (method_type_in fetch_type) ≡ kinds.moves (form (wants.Long ∷ wants.Reference ∷ wants.Int ∷ []) (kind (verification.object (field_text (Array Boolean))) ∷ []) ∷ [])
+asked : method_step opcode.invokestatic [] (method_type_in fetch_type) ≡ kinds.moves
+    (form (wants.Long ∷ wants.Reference ∷ wants.Int ∷ []) (kind (verification.object (field_text (Array Boolean))) ∷ []) ∷ [])
 unfolding types_from rest_from
 asked = refl
 
@@ -77,15 +84,25 @@ built_by : method_step opcode.invokespecial (codes "<init>") (method_type_in (co
 unfolding types_from rest_from
 built_by = refl
 
-printed_step : (name desc : List ℕ) (printed : Printed) → printed_by desc ≡ Some printed → method_step opcode.invokevirtual name (method_type_in desc) ≡ kinds.moves (form (printed_wants printed) [] ∷ [])
+printed_step : (name desc : List ℕ) (printed : Printed) → printed_by desc ≡ Some printed
+    → method_step opcode.invokevirtual name (method_type_in desc) ≡ kinds.moves (form (printed_wants printed) [] ∷ [])
 unfolding types_from rest_from printed_wants
-printed_step name desc printed e = by (bytes_eq desc (codes "(I)V")) refl (bytes_eq desc (codes "(J)V")) refl (bytes_eq desc (codes "(Z)V")) refl (bytes_eq desc (codes "()V")) refl e
+printed_step name desc printed e =
+    by (bytes_eq desc (codes "(I)V")) refl (bytes_eq desc (codes "(J)V")) refl (bytes_eq desc (codes "(Z)V")) refl
+    (bytes_eq desc (codes "()V")) refl e
   where
-    to : (d : List ℕ) (x : Printed) → bytes_eq desc d ≡ true → Some x ≡ Some printed → method_step opcode.invokevirtual name (method_type_in d) ≡ kinds.moves (form (printed_wants x) [] ∷ []) → method_step opcode.invokevirtual name (method_type_in desc) ≡ kinds.moves (form (printed_wants printed) [] ∷ [])
-    to d x q g h = ap (λ y. method_step opcode.invokevirtual name (method_type_in y)) (bytes_are desc d q) ∙ h ∙ ap (λ y. kinds.moves (form (printed_wants y) [] ∷ [])) (some_is x printed g)
+    to : (d : List ℕ) (x : Printed) → bytes_eq desc d ≡ true → Some x ≡ Some printed
+        → method_step opcode.invokevirtual name (method_type_in d) ≡ kinds.moves (form (printed_wants x) [] ∷ [])
+        → method_step opcode.invokevirtual name (method_type_in desc) ≡ kinds.moves (form (printed_wants printed) [] ∷ [])
+    to d x q g h =
+        ap (λ y. method_step opcode.invokevirtual name (method_type_in y)) (bytes_are desc d q) ∙ h
+        ∙ ap (λ y. kinds.moves (form (printed_wants y) [] ∷ [])) (some_is x printed g)
 
-    by : (b1 : Bool) → bytes_eq desc (codes "(I)V") ≡ b1 → (b2 : Bool) → bytes_eq desc (codes "(J)V") ≡ b2 → (b3 : Bool) → bytes_eq desc (codes "(Z)V") ≡ b3 → (b4 : Bool) → bytes_eq desc (codes "()V") ≡ b4
-        → cond b1 (Some an_int_line) (cond b2 (Some a_long_line) (cond b3 (Some a_boolean_line) (cond b4 (Some an_empty_line) None))) ≡ Some printed → method_step opcode.invokevirtual name (method_type_in desc) ≡ kinds.moves (form (printed_wants printed) [] ∷ [])
+    by : (b1 : Bool) → bytes_eq desc (codes "(I)V") ≡ b1 → (b2 : Bool) → bytes_eq desc (codes "(J)V") ≡ b2 → (b3 : Bool)
+        → bytes_eq desc (codes "(Z)V") ≡ b3 → (b4 : Bool) → bytes_eq desc (codes "()V") ≡ b4
+        → cond b1 (Some an_int_line) (cond b2 (Some a_long_line)
+        (cond b3 (Some a_boolean_line) (cond b4 (Some an_empty_line) None))) ≡ Some printed
+        → method_step opcode.invokevirtual name (method_type_in desc) ≡ kinds.moves (form (printed_wants printed) [] ∷ [])
     by true p b2 q b3 r b4 u e = to (codes "(I)V") an_int_line p e refl
     by false p true q b3 r b4 u e = to (codes "(J)V") a_long_line q e refl
     by false p false q true r b4 u e = to (codes "(Z)V") a_boolean_line r e refl
@@ -95,14 +112,16 @@ printed_step name desc printed e = by (bytes_eq desc (codes "(I)V")) refl (bytes
 module _ {program : Program} {s : Shared} {f : Frame} {c : Linked} {b : Body} {k t : TypeState} where
   -- ---- constants
 
-  pub constant_at : (place : ℕ) → Turn program s f c b (insns.Constant place) k t → Fine program s f b (perform (constant_operation (at_of f c b) (what_used b.uses place)) s f)
+  pub constant_at : (place : ℕ) → Turn program s f c b (insns.Constant place) k t
+      → Fine program s f b (perform (constant_operation (at_of f c b) (what_used b.uses place)) s f)
   unfolding perform Fine
   constant_at place turn = by (what_used b.uses place) refl
     where
       there : is_some (init_of (at_of f c b)) ≡ true → IsThere program s.heap (text f.method.class)
       there e = subst HasText (sym (turn.here).class_is) (text_there (at_of f c b) e)
 
-      texts : (z : Bool) → is_some (init_of (at_of f c b)) ≡ z → what_used b.uses place ≡ Some whats.Text → Fine program s f b (perform (cond z (pushes (text f.method.class)) outside) s f)
+      texts : (z : Bool) → is_some (init_of (at_of f c b)) ≡ z → what_used b.uses place ≡ Some whats.Text
+          → Fine program s f b (perform (cond z (pushes (text f.method.class)) outside) s f)
       texts false e q = tt
       texts true e q = pushes_fine turn (text f.method.class) (verification.object (codes "java/lang/String")) (ap constant_step q) (inl refl) refl (there e)
 
@@ -121,15 +140,18 @@ module _ {program : Program} {s : Shared} {f : Frame} {c : Linked} {b : Body} {k
 
   -- ---- throwables
 
-  pub of_class_at : (op place : ℕ) → Turn program s f c b (insns.OfClass op place) k t → Fine program s f b (perform (class_operation op (what_used b.uses place)) s f)
+  pub of_class_at : (op place : ℕ) → Turn program s f c b (insns.OfClass op place) k t
+      → Fine program s f b (perform (class_operation op (what_used b.uses place)) s f)
   unfolding perform Fine
   of_class_at op place turn = by (what_used b.uses place) refl
     where
-      make : (name : List ℕ) → what_used b.uses place ≡ Some (whats.Class name) → nat_eq op opcode.new ≡ true → (o : Option Thrown) → Fine program s f b (perform (make_operation o) s f)
+      make : (name : List ℕ) → what_used b.uses place ≡ Some (whats.Class name) → nat_eq op opcode.new ≡ true → (o : Option Thrown)
+          → Fine program s f b (perform (make_operation o) s f)
       make name q e None = tt
       make name q e (Some d) = makes_fine turn d (ap (class_step op) q ∙ ap (λ n. class_step n (Some (whats.Class name))) (eqb-true op opcode.new e)) (inl refl)
 
-      named : (name : List ℕ) → what_used b.uses place ≡ Some (whats.Class name) → (z : Bool) → nat_eq op opcode.new ≡ z → Fine program s f b (perform (cond z (make_operation (made_class name)) outside) s f)
+      named : (name : List ℕ) → what_used b.uses place ≡ Some (whats.Class name) → (z : Bool) → nat_eq op opcode.new ≡ z
+          → Fine program s f b (perform (cond z (make_operation (made_class name)) outside) s f)
       named name q true e = make name q e (made_class name)
       named name q false e = tt
 
@@ -144,19 +166,27 @@ module _ {program : Program} {s : Shared} {f : Frame} {c : Linked} {b : Body} {k
       field_is : (n : ℕ) → nat_eq op n ≡ true → step_of b.uses (returns_of b) (insns.Member op place) ≡ member_step n (Some (whats.Field class name desc))
       field_is n e = ap (member_step op) used ∙ ap (λ m. member_step m (Some (whats.Field class name desc))) (eqb-true op n e)
 
-      typed_field : (j field : ℕ) (d : Linked) → class_at program j ≡ Some d → static_named d.statics name desc ≡ Some field → (o : Option FieldType) → field_type_in desc ≡ o → Fine program s f b (perform (field_operation op (record { class = j; field = field }) o) s f)
+      typed_field : (j field : ℕ) (d : Linked) → class_at program j ≡ Some d → static_named d.statics name desc ≡ Some field
+          → (o : Option FieldType) → field_type_in desc ≡ o
+          → Fine program s f b (perform (field_operation op (record { class = j; field = field }) o) s f)
       unfolding perform Fine
       typed_field j field d e g None q = tt
       typed_field j field d e g (Some type) q = by (is_some (computational_type type)) refl (nat_eq op opcode.getstatic) refl (nat_eq op opcode.putstatic) refl
         where
           by : (x : Bool) → is_some (computational_type type) ≡ x → (y : Bool) → nat_eq op opcode.getstatic ≡ y → (z : Bool) → nat_eq op opcode.putstatic ≡ z
-              → Fine program s f b (perform (cond (not x) outside (cond y (gets (record { class = j; field = field }) type) (cond z (puts (record { class = j; field = field }) type) outside))) s f)
+              → Fine program s f b (perform (cond (not x) outside
+              (cond y (gets (record { class = j; field = field }) type)
+              (cond z (puts (record { class = j; field = field }) type) outside))) s f)
           by false o y p z r = tt
           by true o true p z r = gets_fine turn j field type d name desc (field_is opcode.getstatic p ∙ ap (field_step opcode.getstatic) q) (inl refl) e g q o
-          by true o false p true r = puts_fine turn j field type d name desc (want_of type) (field_is opcode.putstatic r ∙ ap (field_step opcode.putstatic) q) (inl refl) e g q f.stack refl
+          by true o false p true r =
+              puts_fine turn j field type d name desc (want_of type)
+              (field_is opcode.putstatic r ∙ ap (field_step opcode.putstatic) q) (inl refl) e g q f.stack refl
           by true o false p false r = tt
 
-      declared : (j : ℕ) (o : Option ℕ) → option_and_then (λ (d : Linked). static_named d.statics name desc) (class_at program j) ≡ o → Fine program s f b (perform (declared_field op (at_of f c b) j name desc o) s f)
+      declared : (j : ℕ) (o : Option ℕ)
+          → option_and_then (λ (d : Linked). static_named d.statics name desc) (class_at program j) ≡ o
+          → Fine program s f b (perform (declared_field op (at_of f c b) j name desc o) s f)
       unfolding perform Fine
       declared j None e = tt
       declared j (Some field) e = by (may_name_field (at_of f c b) j name)
@@ -173,18 +203,23 @@ module _ {program : Program} {s : Shared} {f : Frame} {c : Linked} {b : Body} {k
       linked None = tt
       linked (Some j) = declared j (option_and_then (λ (d : Linked). static_named d.statics name desc) (class_at program j)) refl
 
-      stream_is : is_print_stream op class name desc ≡ true → step_of b.uses (returns_of b) (insns.Member op place) ≡ kinds.moves (form [] (kind (verification.object (codes "java/io/PrintStream")) ∷ []) ∷ [])
+      stream_is : is_print_stream op class name desc ≡ true
+          → step_of b.uses (returns_of b) (insns.Member op place) ≡ kinds.moves
+          (form [] (kind (verification.object (codes "java/io/PrintStream")) ∷ []) ∷ [])
       stream_is e =
           let p = both (nat_eq op opcode.getstatic) _ e in
           let q = both (bytes_eq class (codes "java/lang/System")) _ p.1 in
           let r = both (bytes_eq name (codes "out")) (bytes_eq desc (codes "Ljava/io/PrintStream;")) q.1 in
-          field_is opcode.getstatic p.0 ∙ ap (λ x. field_step opcode.getstatic (field_type_in x)) (bytes_are desc (codes "Ljava/io/PrintStream;") r.1) ∙ ap (field_step opcode.getstatic) stream_type
+          field_is opcode.getstatic p.0 ∙ ap (λ x. field_step opcode.getstatic (field_type_in x))
+          (bytes_are desc (codes "Ljava/io/PrintStream;") r.1) ∙ ap (field_step opcode.getstatic) stream_type
 
       fields : Fine program s f b (perform (field_named op (at_of f c b) program class name desc) s f)
       unfolding perform Fine
       fields = by (is_print_stream op class name desc) refl
         where
-          by : (z : Bool) → is_print_stream op class name desc ≡ z → Fine program s f b (perform (cond z (pushes print_stream) (linked_field op (at_of f c b) program name desc (class_named program class))) s f)
+          by : (z : Bool) → is_print_stream op class name desc ≡ z
+              → Fine program s f b (perform (cond z (pushes print_stream)
+              (linked_field op (at_of f c b) program name desc (class_named program class))) s f)
           by true e = pushes_fine turn print_stream (verification.object (codes "java/io/PrintStream")) (stream_is e) (inl refl) refl tt
           by false e = linked (class_named program class)
 
@@ -195,9 +230,11 @@ module _ {program : Program} {s : Shared} {f : Frame} {c : Linked} {b : Body} {k
       method_is n e = ap (member_step op) used ∙ ap (λ m. member_step m (Some (whats.Method class name desc))) (eqb-true op n e)
 
       -- the first instruction of a method of its class calls `$jacocoInit`
-      may_name : (callee : Entry) (body : Body) → may_name_method (at_of f c b) callee.class body.name ≡ true → is_init_name body.name ≡ true → (f.place ≡ 0) × (f.method.class ≡ callee.class)
+      may_name : (callee : Entry) (body : Body) → may_name_method (at_of f c b) callee.class body.name ≡ true
+          → is_init_name body.name ≡ true → (f.place ≡ 0) × (f.method.class ≡ callee.class)
       may_name callee body e g =
-          let p : (nat_eq f.place 0 && nat_eq f.method.class callee.class) ≡ true = ap (λ z. not z || (nat_eq f.place 0 && nat_eq f.method.class callee.class)) (sym g) ∙ e in
+          let p : (nat_eq f.place 0 && nat_eq f.method.class callee.class) ≡ true =
+          ap (λ z. not z || (nat_eq f.place 0 && nat_eq f.method.class callee.class)) (sym g) ∙ e in
           let q = both (nat_eq f.place 0) (nat_eq f.method.class callee.class) p in
           (eqb-true f.place 0 q.0, eqb-true f.method.class callee.class q.1)
 
@@ -208,19 +245,23 @@ module _ {program : Program} {s : Shared} {f : Frame} {c : Linked} {b : Body} {k
         calls = ap (λ z. cond z (named_by program (what_used b.uses place)) None) e ∙ ap (named_by program) used ∙ g;
       }
 
-      entered : nat_eq op opcode.invokestatic ≡ true → in_init (at_of f c b) ≡ false → (o : Option Entry) → callee_named program class name desc ≡ o → Fine program s f b (perform (method_entered (at_of f c b) program o) s f)
+      entered : nat_eq op opcode.invokestatic ≡ true → in_init (at_of f c b) ≡ false → (o : Option Entry)
+          → callee_named program class name desc ≡ o → Fine program s f b (perform (method_entered (at_of f c b) program o) s f)
       unfolding perform Fine
       entered e n None g = tt
       entered e n (Some callee) g = in_class (class_at program callee.class) refl
         where
-          in_body : (d : Linked) → class_at program callee.class ≡ Some d → (body : Body) → slice_get d.bodies callee.method ≡ Some body → (z : Bool) → (is_enterable d body && may_name_method (at_of f c b) callee.class body.name) ≡ z
+          in_body : (d : Linked) → class_at program callee.class ≡ Some d → (body : Body)
+              → slice_get d.bodies callee.method ≡ Some body → (z : Bool)
+              → (is_enterable d body && may_name_method (at_of f c b) callee.class body.name) ≡ z
               → Fine program s f b (perform (entered_if z callee body) s f)
           in_body d p body q false r = tt
           in_body d p body q true r =
               let y = both (is_enterable d body) (may_name_method (at_of f c b) callee.class body.name) r in
               calls_fine turn callee d body whole p q y.0 n (may_name callee body y.1) (at_call callee e g)
 
-          in_bodies : (d : Linked) → class_at program callee.class ≡ Some d → (o : Option Body) → slice_get d.bodies callee.method ≡ o → Fine program s f b (perform (body_entered (at_of f c b) callee d o) s f)
+          in_bodies : (d : Linked) → class_at program callee.class ≡ Some d → (o : Option Body)
+              → slice_get d.bodies callee.method ≡ o → Fine program s f b (perform (body_entered (at_of f c b) callee d o) s f)
           in_bodies d p None q = tt
           in_bodies d p (Some body) q = in_body d p body q (is_enterable d body && may_name_method (at_of f c b) callee.class body.name) refl
 
@@ -228,12 +269,15 @@ module _ {program : Program} {s : Shared} {f : Frame} {c : Linked} {b : Body} {k
           in_class None p = tt
           in_class (Some d) p = in_bodies d p (slice_get d.bodies callee.method) refl
 
-      asking : nat_eq op opcode.invokestatic ≡ true → (z : Bool) → is_fetch class name desc ≡ z → (o : Option ProbeInit) → init_of (at_of f c b) ≡ o → Fine program s f b (perform (init_call (at_of f c b) z o) s f)
+      asking : nat_eq op opcode.invokestatic ≡ true → (z : Bool) → is_fetch class name desc ≡ z → (o : Option ProbeInit)
+          → init_of (at_of f c b) ≡ o → Fine program s f b (perform (init_call (at_of f c b) z o) s f)
       unfolding perform Fine
       asking e true g (Some init) i =
           let p = both (bytes_eq class runtime_class) _ g in
           let q = both (bytes_eq name fetch_name) (bytes_eq desc fetch_type) p.1 in
-          fetches_fine turn f.method.class init (field_text (Array Boolean)) (method_is opcode.invokestatic e ∙ ap (λ x. method_step opcode.invokestatic name (method_type_in x)) (bytes_are desc fetch_type q.1) ∙ asked) (inl refl)
+          fetches_fine turn f.method.class init (field_text (Array Boolean))
+          (method_is opcode.invokestatic e
+          ∙ ap (λ x. method_step opcode.invokestatic name (method_type_in x)) (bytes_are desc fetch_type q.1) ∙ asked) (inl refl)
           (subst (λ o. HasProbes o init.count) (sym (turn.here).class_is) (init, init_there (at_of f c b) init i, refl)) f.stack refl
       asking e true g None i = tt
       asking e false g o i = tt
@@ -243,7 +287,8 @@ module _ {program : Program} {s : Shared} {f : Frame} {c : Linked} {b : Body} {k
       statics e = by (in_init (at_of f c b)) refl
         where
           by : (z : Bool) → in_init (at_of f c b) ≡ z
-              → Fine program s f b (perform (cond z (init_call (at_of f c b) (is_fetch class name desc) (init_of (at_of f c b))) (method_entered (at_of f c b) program (callee_named program class name desc))) s f)
+              → Fine program s f b (perform (cond z (init_call (at_of f c b) (is_fetch class name desc) (init_of (at_of f c b)))
+              (method_entered (at_of f c b) program (callee_named program class name desc))) s f)
           by true n = asking e (is_fetch class name desc) refl (init_of (at_of f c b)) refl
           by false n = entered e n (callee_named program class name desc) refl
 
@@ -263,14 +308,19 @@ module _ {program : Program} {s : Shared} {f : Frame} {c : Linked} {b : Body} {k
       unfolding perform Fine
       specials e = by (not (in_init (at_of f c b)) && (bytes_eq name (codes "<init>") && bytes_eq desc (codes "()V"))) refl
         where
-          builds : (not (in_init (at_of f c b)) && (bytes_eq name (codes "<init>") && bytes_eq desc (codes "()V"))) ≡ true → (o : Option Thrown) → Fine program s f b (perform (build_operation o) s f)
+          builds : (not (in_init (at_of f c b)) && (bytes_eq name (codes "<init>") && bytes_eq desc (codes "()V"))) ≡ true
+              → (o : Option Thrown) → Fine program s f b (perform (build_operation o) s f)
           builds g None = tt
           builds g (Some d) =
               let p = both (not (in_init (at_of f c b))) _ g in
               let q = both (bytes_eq name (codes "<init>")) (bytes_eq desc (codes "()V")) p.1 in
-              builds_fine turn d (method_is opcode.invokespecial e ∙ ap (λ x. method_step opcode.invokespecial x (method_type_in desc)) (bytes_are name (codes "<init>") q.0) ∙ ap (λ x. method_step opcode.invokespecial (codes "<init>") (method_type_in x)) (bytes_are desc (codes "()V") q.1) ∙ built_by) (inl refl) f.stack refl
+              builds_fine turn d (method_is opcode.invokespecial e
+              ∙ ap (λ x. method_step opcode.invokespecial x (method_type_in desc)) (bytes_are name (codes "<init>") q.0)
+              ∙ ap (λ x. method_step opcode.invokespecial (codes "<init>") (method_type_in x))
+              (bytes_are desc (codes "()V") q.1) ∙ built_by) (inl refl) f.stack refl
 
-          by : (z : Bool) → (not (in_init (at_of f c b)) && (bytes_eq name (codes "<init>") && bytes_eq desc (codes "()V"))) ≡ z → Fine program s f b (perform (cond z (build_operation (made_class class)) outside) s f)
+          by : (z : Bool) → (not (in_init (at_of f c b)) && (bytes_eq name (codes "<init>") && bytes_eq desc (codes "()V"))) ≡ z
+              → Fine program s f b (perform (cond z (build_operation (made_class class)) outside) s f)
           by true g = builds g (made_class class)
           by false g = tt
 
@@ -278,14 +328,17 @@ module _ {program : Program} {s : Shared} {f : Frame} {c : Linked} {b : Body} {k
       unfolding perform Fine
       methods = by (nat_eq op opcode.invokestatic) refl (nat_eq op opcode.invokevirtual) refl (nat_eq op opcode.invokespecial) refl
         where
-          by : (x : Bool) → nat_eq op opcode.invokestatic ≡ x → (y : Bool) → nat_eq op opcode.invokevirtual ≡ y → (z : Bool) → nat_eq op opcode.invokespecial ≡ z
-              → Fine program s f b (perform (cond x (static_call (at_of f c b) program class name desc) (cond y (virtual_call (at_of f c b) class name desc) (cond z (special_call (at_of f c b) class name desc) outside))) s f)
+          by : (x : Bool) → nat_eq op opcode.invokestatic ≡ x → (y : Bool) → nat_eq op opcode.invokevirtual ≡ y → (z : Bool)
+              → nat_eq op opcode.invokespecial ≡ z
+              → Fine program s f b (perform (cond x (static_call (at_of f c b) program class name desc)
+              (cond y (virtual_call (at_of f c b) class name desc) (cond z (special_call (at_of f c b) class name desc) outside))) s f)
           by true p y q z r = statics p
           by false p true q z r = virtuals q
           by false p false q true r = specials r
           by false p false q false r = tt
 
-  pub member_at : (op place : ℕ) → IsProgram program → Turn program s f c b (insns.Member op place) k t → Fine program s f b (perform (member_operation op (at_of f c b) program (what_used b.uses place)) s f)
+  pub member_at : (op place : ℕ) → IsProgram program → Turn program s f c b (insns.Member op place) k t
+      → Fine program s f b (perform (member_operation op (at_of f c b) program (what_used b.uses place)) s f)
   unfolding perform Fine
   member_at op place whole turn = by (what_used b.uses place) refl
     where

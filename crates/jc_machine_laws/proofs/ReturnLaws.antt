@@ -1,5 +1,6 @@
 -- Each turn keeps a world fitting: a frame that waited goes on behind its call.
-use Rattle.std.proofs.Common.{◌≡◌, inl, ℕ, ◌+◌, is_some, Bool, true, false, ◌&&◌, cond, List, [], ◌∷◌, ◌++◌, length, map, Option, Some, None, nat_eq, refl, sym, ◌∙◌, ap, subst, arith, append-nil}
+use Rattle.std.proofs.Common.{◌≡◌, inl, ℕ, ◌+◌, is_some, Bool, true, false, ◌&&◌, cond, List, [], ◌∷◌, ◌++◌, length, map, Option}
+use Rattle.std.proofs.Common.{Some, None, nat_eq, refl, sym, ◌∙◌, ap, subst, arith, append-nil}
 use Rattle.std.proofs.lemmas.Bool.{eqb-true}
 use Rattle.std.proofs.lemmas.Option.{slice_get_within}
 use Rattle.std.proofs.lemmas.Slice.Eq.{bytes_eq-Decides}
@@ -43,18 +44,23 @@ use Rattle.jc_machine_laws.proofs.StaticLaws.{position_found, some_of}
 abbrev pub at_of : Frame → Linked → Body → Location
 at_of f c b = record { class = f.method.class; linked = c; body = b; place = f.place }
 
-pub located_is : (program : Program) (f : Frame) (c : Linked) (b : Body) (insn : Insn) (k : TypeState) → Here program f c b insn k → located program f.method f.place ≡ Some (record { at = at_of f c b; insn = insn })
+pub located_is : (program : Program) (f : Frame) (c : Linked) (b : Body) (insn : Insn) (k : TypeState) → Here program f c b insn k
+    → located program f.method f.place ≡ Some (record { at = at_of f c b; insn = insn })
 located_is program f c b insn k h =
     ap (option_and_then (λ (d : Linked). located_in_class f.method.class f.place d (slice_get d.bodies f.method.method))) h.class_is
     ∙ ap (located_in_class f.method.class f.place c) h.body_is
     ∙ ap (located_in_body f.method.class c f.place b) h.insn_is
 
 -- the state after an instruction of a body that was checked
-pub after_is : (program : Program) (f : Frame) (c : Linked) (b : Body) (insn : Insn) (k : TypeState) → Here program f c b insn k → (t : TypeState) × (after_of b f.place k ≡ Some t)
+pub after_is : (program : Program) (f : Frame) (c : Linked) (b : Body) (insn : Insn) (k : TypeState) → Here program f c b insn k
+    → (t : TypeState) × (after_of b f.place k ≡ Some t)
 after_is program f c b insn k h =
-    some_of (after_of b f.place k) (subst (λ o. is_some o ≡ true) (after_there program f c b insn k h) (h.whole.checked.after f.place (slice_get_within b.code f.place insn h.insn_is)))
+    some_of (after_of b f.place k)
+    (subst (λ o. is_some o ≡ true) (after_there program f c b insn k h)
+    (h.whole.checked.after f.place (slice_get_within b.code f.place insn h.insn_is)))
 
-applied_at : (program : Program) (f : Frame) (c : Linked) (b : Body) (insn : Insn) (k t : TypeState) → Here program f c b insn k → after_of b f.place k ≡ Some t → apply (ground_of b f.place) (step_of b.uses (returns_of b) insn) k ≡ Some t
+applied_at : (program : Program) (f : Frame) (c : Linked) (b : Body) (insn : Insn) (k t : TypeState) → Here program f c b insn k
+    → after_of b f.place k ≡ Some t → apply (ground_of b f.place) (step_of b.uses (returns_of b) insn) k ≡ Some t
 unfolding after_of
 applied_at program f c b insn k t h e = ap (option_and_then (λ i. apply (ground_of b f.place) (step_of b.uses (returns_of b) i) k)) (sym h.insn_is) ∙ e
 
@@ -68,7 +74,8 @@ pub record Named (program : Program) (name desc : List ℕ) (callee : Entry) : T
   pub name_is : body.name ≡ name
   pub desc_is : body.desc ≡ desc
 
-pub named_is : (program : Program) (class name desc : List ℕ) (callee : Entry) → callee_named program class name desc ≡ Some callee → Named program name desc callee
+pub named_is : (program : Program) (class name desc : List ℕ) (callee : Entry) → callee_named program class name desc ≡ Some callee
+    → Named program name desc callee
 named_is program class name desc callee e =
     let p = then_some (λ (j : ℕ). option_and_then (method_in name desc j) (class_at program j)) (class_named program class) callee e in
     let q = then_some (method_in name desc p.0) (class_at program p.0) callee p.2 in
@@ -85,7 +92,8 @@ named_is program class name desc callee e =
     })
 
 -- the descriptor is that of the method
-desc_of : (program : Program) (name desc : List ℕ) (callee : Entry) (d : Linked) (body : Body) → Named program name desc callee → class_at program callee.class ≡ Some d → slice_get d.bodies callee.method ≡ Some body → body.desc ≡ desc
+desc_of : (program : Program) (name desc : List ℕ) (callee : Entry) (d : Linked) (body : Body) → Named program name desc callee
+    → class_at program callee.class ≡ Some d → slice_get d.bodies callee.method ≡ Some body → body.desc ≡ desc
 desc_of program name desc callee d body n e g =
     let o = sym (body_is program callee d body e g) ∙ body_is program callee n.linked n.body n.class_is n.body_is in
     ap (λ (x : Body). x.desc) (some_is body n.body o) ∙ n.desc_is
@@ -99,10 +107,12 @@ record CallsIt (program : Program) (uses : List Use) (insn : Insn) (callee : Ent
   step : (r : Option FieldType) → step_of uses r insn ≡ kinds.moves (call_form (method_type_in desc) ∷ [])
   falls : FallsThrough insn
 
-calls_it : (program : Program) (at : Location) (insn : Insn) (callee : Entry) → called_by program at insn ≡ Some callee → CallsIt program at.body.uses insn callee
+calls_it : (program : Program) (at : Location) (insn : Insn) (callee : Entry) → called_by program at insn ≡ Some callee
+    → CallsIt program at.body.uses insn callee
 calls_it program at (insns.Member op place) callee e = by (nat_eq op opcode.invokestatic) refl (what_used at.body.uses place) refl e
   where
-    by : (z : Bool) → nat_eq op opcode.invokestatic ≡ z → (o : Option What) → what_used at.body.uses place ≡ o → cond z (named_by program o) None ≡ Some callee → CallsIt program at.body.uses (insns.Member op place) callee
+    by : (z : Bool) → nat_eq op opcode.invokestatic ≡ z → (o : Option What) → what_used at.body.uses place ≡ o
+        → cond z (named_by program o) None ≡ Some callee → CallsIt program at.body.uses (insns.Member op place) callee
     by true q (Some (whats.Method class name desc)) g e = record {
       class = class;
       name = name;
@@ -122,15 +132,18 @@ map_length g [] = refl
 map_length g (x ∷ xs) = let e = map_length g xs in grind (arith, e)
 
 -- what comes back stands in the place of the arguments
-stack_back : (program : Program) (heap : List HeapObject) (type : Option FieldType) (v : Option Value) (stack : List Value) (low : List VerificationType) → ReturnFits program heap type v → IsStack stack low → (verification_type : List VerificationType)
-    → IsStack (given_back v (record { method = record { class = 0; method = 0 }; place = 0; locals = []; stack = stack })).stack (low ++ map (given_of verification_type) (result_of type))
+stack_back : (program : Program) (heap : List HeapObject) (type : Option FieldType) (v : Option Value) (stack : List Value)
+    (low : List VerificationType) → ReturnFits program heap type v → IsStack stack low → (verification_type : List VerificationType)
+    → IsStack (given_back v (record { method = record { class = 0; method = 0 }; place = 0; locals = []; stack = stack })).stack
+    (low ++ map (given_of verification_type) (result_of type))
 unfolding ReturnFits
 stack_back program heap None None stack low p q verification_type = subst (IsStack stack) (sym (append-nil low)) q
 stack_back program heap (Some type) (Some v) stack low p q verification_type = pushed v stack (held_of type) low p.0 q
 stack_back program heap None (Some v) stack low p q verification_type = absurd p
 stack_back program heap (Some type) None stack low p q verification_type = absurd p
 
-pub back_fits : (program : Program) (heap : List HeapObject) (callee : Entry) (d : Linked) (body : Body) (f : Frame) (v : Option Value) → IsProgram program → class_at program callee.class ≡ Some d → slice_get d.bodies callee.method ≡ Some body
+pub back_fits : (program : Program) (heap : List HeapObject) (callee : Entry) (d : Linked) (body : Body) (f : Frame)
+    (v : Option Value) → IsProgram program → class_at program callee.class ≡ Some d → slice_get d.bodies callee.method ≡ Some body
     → FitsWaiting program f callee → ReturnFits program heap (returns_of body) v → FitsTop program (given_back v f)
 back_fits program heap callee d body f v p e g w r = by v r
   where
@@ -144,33 +157,51 @@ back_fits program heap callee d body f v p e g w r = by v r
     stood_there = some_is _ _ (sym w.at_call.stands ∙ located_is program f w.stands.linked w.stands.body h.0 w.state h.1)
 
     call : CallsIt program w.stands.body.uses h.0 callee
-    call = calls_it program (at_of f w.stands.linked w.stands.body) h.0 callee (subst (λ (x : LocatedInsn). called_by program x.at x.insn ≡ Some callee) stood_there w.at_call.calls)
+    call =
+        calls_it program (at_of f w.stands.linked w.stands.body) h.0 callee
+        (subst (λ (x : LocatedInsn). called_by program x.at x.insn ≡ Some callee) stood_there w.at_call.calls)
 
     type_is : body.desc ≡ call.desc
     type_is = desc_of program call.name call.desc callee d body (named_is program call.class call.name call.desc callee call.named) e g
 
-    moved_to : (moved_by w.stands.body.max_stack (call_form (method_type_in call.desc) ∷ []) w.state.stack ≡ Some after.0.stack) × (w.state.locals ≡ after.0.locals)
+    moved_to : (moved_by w.stands.body.max_stack (call_form (method_type_in call.desc) ∷ []) w.state.stack ≡ Some after.0.stack)
+        × (w.state.locals ≡ after.0.locals)
     moved_to = with_stack_is w.state after.0 (moved_by w.stands.body.max_stack (call_form (method_type_in call.desc) ∷ []) w.state.stack)
-        (ap (λ x. apply (ground_of w.stands.body f.place) x w.state) (sym (call.step (returns_of w.stands.body))) ∙ applied_at program f w.stands.linked w.stands.body h.0 w.state after.0 h.1 after.1)
+        (ap (λ x. apply (ground_of w.stands.body f.place) x w.state) (sym (call.step (returns_of w.stands.body)))
+        ∙ applied_at program f w.stands.linked w.stands.body h.0 w.state after.0 h.1 after.1)
 
     count : length w.given ≡ length (map want_of (method_type_in call.desc).parameters)
-    count = w.count ∙ ap parameter_count (body_is program callee d body e g) ∙ ap (λ x. length (method_type_in x).parameters) type_is ∙ sym (map_length want_of (method_type_in call.desc).parameters)
+    count =
+        w.count ∙ ap parameter_count (body_is program callee d body e g) ∙ ap (λ x. length (method_type_in x).parameters) type_is
+        ∙ sym (map_length want_of (method_type_in call.desc).parameters)
 
     low_is : below (length (map want_of (method_type_in call.desc).parameters)) w.state.stack ≡ w.left
-    low_is = ap (below (length (map want_of (method_type_in call.desc).parameters))) w.parts ∙ below_is w.left w.given (length (map want_of (method_type_in call.desc).parameters)) count
+    low_is =
+        ap (below (length (map want_of (method_type_in call.desc).parameters))) w.parts
+        ∙ below_is w.left w.given (length (map want_of (method_type_in call.desc).parameters)) count
 
-    stack_is : w.left ++ map (given_of (upper (length (map want_of (method_type_in call.desc).parameters)) w.state.stack)) (result_of (method_type_in call.desc).returns) ≡ after.0.stack
-    stack_is = ap (λ l. l ++ map (given_of (upper (length (map want_of (method_type_in call.desc).parameters)) w.state.stack)) (result_of (method_type_in call.desc).returns)) (sym low_is)
+    stack_is : w.left ++ map (given_of (upper (length (map want_of (method_type_in call.desc).parameters)) w.state.stack))
+        (result_of (method_type_in call.desc).returns) ≡ after.0.stack
+    stack_is =
+        ap (λ l. l ++ map (given_of (upper (length (map want_of (method_type_in call.desc).parameters)) w.state.stack))
+        (result_of (method_type_in call.desc).returns)) (sym low_is)
         ∙ one_moved w.stands.body.max_stack (call_form (method_type_in call.desc)) w.state.stack after.0.stack moved_to.0
 
-    goes_on : (stack : List Value) → IsStack stack (w.left ++ map (given_of (upper (length (map want_of (method_type_in call.desc).parameters)) w.state.stack)) (result_of (method_type_in call.desc).returns))
+    goes_on : (stack : List Value)
+        → IsStack stack (w.left ++ map (given_of (upper (length (map want_of (method_type_in call.desc).parameters)) w.state.stack))
+        (result_of (method_type_in call.desc).returns))
         → FitsTop program (record { method = f.method; place = f.place + 1; locals = f.locals; stack = stack })
     goes_on stack q = onward program f w.stands.linked w.stands.body h.0 w.state after.0 (f.place + 1) f.locals stack h.1 after.1
-        (inl (record { insn = h.0; stands = h.1.insn_is; falls = call.falls }, refl)) (subst (AreInSlots f.locals) moved_to.1 w.locals) (subst (IsStack stack) stack_is q)
+        (inl (record { insn = h.0; stands = h.1.insn_is; falls = call.falls }, refl))
+        (subst (AreInSlots f.locals) moved_to.1 w.locals) (subst (IsStack stack) stack_is q)
 
     typed : (x : Option Value) → ReturnFits program heap (returns_of body) x → ReturnFits program heap (method_type_in call.desc).returns x
     typed x q = subst (λ y. ReturnFits program heap (method_type_in y).returns x) type_is q
 
     by : (x : Option Value) → ReturnFits program heap (returns_of body) x → FitsTop program (given_back x f)
-    by None q = goes_on f.stack (stack_back program heap (method_type_in call.desc).returns None f.stack w.left (typed None q) w.stack (upper (length (map want_of (method_type_in call.desc).parameters)) w.state.stack))
-    by (Some x) q = goes_on (x ∷ f.stack) (stack_back program heap (method_type_in call.desc).returns (Some x) f.stack w.left (typed (Some x) q) w.stack (upper (length (map want_of (method_type_in call.desc).parameters)) w.state.stack))
+    by None q =
+        goes_on f.stack (stack_back program heap (method_type_in call.desc).returns None f.stack w.left (typed None q) w.stack
+        (upper (length (map want_of (method_type_in call.desc).parameters)) w.state.stack))
+    by (Some x) q =
+        goes_on (x ∷ f.stack) (stack_back program heap (method_type_in call.desc).returns (Some x) f.stack w.left
+        (typed (Some x) q) w.stack (upper (length (map want_of (method_type_in call.desc).parameters)) w.state.stack))

@@ -1,5 +1,6 @@
 -- The values on a stack are at most as many as the stack has slots.
-use Rattle.std.proofs.Common.{◌≡◌, ℕ, zero, suc, ◌+◌, ◌≤◌, Bool, true, false, cond, List, [], ◌∷◌, ◌++◌, length, map, reverse, Option, Some, None, nat_eq, nat_le, refl, sym, ◌∙◌, subst, arith}
+use Rattle.std.proofs.Common.{◌≡◌, ℕ, zero, suc, ◌+◌, ◌≤◌, Bool, true, false, cond, List, [], ◌∷◌, ◌++◌, length, map, reverse}
+use Rattle.std.proofs.Common.{Option, Some, None, nat_eq, nat_le, refl, sym, ◌∙◌, subst, arith}
 use Rattle.std.proofs.lemmas.Bool.{leb-true}
 use Rattle.std.proofs.lemmas.List.{length-reverse}
 use Rattle.std.proofs.lemmas.List.Sums.{sum_by-cons}
@@ -16,7 +17,9 @@ use Rattle.jc_methods.specs.Flow.{falls_at}
 use Rattle.jc_methods.specs.declared.kind.Kind.TheVariants as kinds
 use Rattle.jc_methods.specs.VerificationTypes as verification
 use Rattle.jc_kinds_after.specs.Wants.{is_int, accepts, accepts_all}
-use Rattle.jc_kinds_after.specs.Step.{Gives, StackEffect, Step, moves, loads, stores, counts, picks, makes, builds, fails, Ground, below, upper, last, limited, has_form, moved, moved_by, with_stack, put_local, element_of, is_made, without, class_built, replaced, built_as, given_of, apply}
+use Rattle.jc_kinds_after.specs.Step.{Gives, StackEffect, Step, moves, loads, stores, counts, picks, makes, builds, fails, Ground}
+use Rattle.jc_kinds_after.specs.Step.{below, upper, last, limited, has_form, moved, moved_by, with_stack, put_local, element_of}
+use Rattle.jc_kinds_after.specs.Step.{is_made, without, class_built, replaced, built_as, given_of, apply}
 use Rattle.jc_kinds_after.specs.After.{step_of, returns_of, insn_at, ground_of, after_of}
 use Rattle.jc_kinds_after.specs.declared.want.Want.TheVariants as wants
 use Rattle.jc_kinds.specs.States.{frames_of, frame_at, or_else, state_of}
@@ -58,7 +61,8 @@ as_many (h ∷ ks) = let e = some_width h in let r = as_many ks in omega (arith,
 -- ---- the state after an instruction
 
 limited_room : (most : ℕ) (ks t : List VerificationType) → limited most ks ≡ Some t → slots t ≤ most
-limited_room most ks t e = let p = chosen (nat_le (slots ks) most) (Some ks) t e in subst (λ l. slots l ≤ most) (some_is ks t p.1) (leb-true (slots ks) most p.0)
+limited_room most ks t e =
+    let p = chosen (nat_le (slots ks) most) (Some ks) t e in subst (λ l. slots l ≤ most) (some_is ks t p.1) (leb-true (slots ks) most p.0)
 
 moved_room : (most : ℕ) (fs : List StackEffect) (ks t : List VerificationType) → moved_by most fs ks ≡ Some t → slots t ≤ most
 moved_room most [] ks t e = absurd (none_some e)
@@ -71,20 +75,32 @@ moved_room most (f ∷ fs) ks t e = by (has_form f ks) (λ g. moved_room most fs
 with_room : (most : ℕ) (k t : TypeState) (ks : List VerificationType) → with_stack k (limited most ks) ≡ Some t → slots t.stack ≤ most
 with_room most k t ks e = limited_room most ks t.stack (with_stack_is k t (limited most ks) e).0
 
-built_room : (most : ℕ) (old : VerificationType) (rest given : List VerificationType) (o : Option (List ℕ)) (k t : TypeState) (gs : List Gives) → built_as most old rest gs o k ≡ Some t → slots t.stack ≤ most
+built_room : (most : ℕ) (old : VerificationType) (rest given : List VerificationType) (o : Option (List ℕ)) (k t : TypeState)
+    (gs : List Gives) → built_as most old rest gs o k ≡ Some t → slots t.stack ≤ most
 built_room most old rest given None k t gs e = absurd (none_some e)
-built_room most old rest given (Some name) k t gs e = with_room most (record { locals = map (replaced old name) k.locals; stack = k.stack }) t (map (replaced old name) rest ++ map (given_of []) gs) e
+built_room most old rest given (Some name) k t gs e =
+    with_room most (record { locals = map (replaced old name) k.locals; stack = k.stack }) t
+    (map (replaced old name) rest ++ map (given_of []) gs) e
 
 step_room : (g : Ground) (step : Step) (k t : TypeState) → apply g step k ≡ Some t → slots t.stack ≤ g.most
 step_room g (moves forms) k t e = moved_room g.most forms k.stack t.stack (with_stack_is k t (moved_by g.most forms k.stack) e).0
-step_room g (loads n want) k t e = with_room g.most k t (k.stack ++ slice_index_or k.locals n verification.top ∷ []) (chosen (accepts want (slice_index_or k.locals n verification.top)) _ t e).1
+step_room g (loads n want) k t e =
+    with_room g.most k t (k.stack ++ slice_index_or k.locals n verification.top ∷ [])
+    (chosen (accepts want (slice_index_or k.locals n verification.top)) _ t e).1
 step_room g (stores n want) k t e =
-    with_room g.most (record { locals = put_local n (last k.stack) k.locals; stack = k.stack }) t (below 1 k.stack) (chosen (accepts want (last k.stack)) _ t e).1
+    with_room g.most (record { locals = put_local n (last k.stack) k.locals; stack = k.stack }) t (below 1 k.stack)
+    (chosen (accepts want (last k.stack)) _ t e).1
 step_room g (counts n) k t e = with_room g.most k t k.stack (chosen (is_int (slice_index_or k.locals n verification.top)) _ t e).1
-step_room g picks k t e = with_room g.most k t _ (chosen _ (with_stack k (limited g.most (below 2 k.stack ++ element_of (slice_index_or (upper 2 k.stack) 0 verification.top) ∷ []))) t e).1
-step_room g makes k t e = with_room g.most (record { locals = map (without g.place) k.locals; stack = k.stack }) t (k.stack ++ verification.uninit g.place ∷ []) (not_chosen (list_any (is_made g.place) k.stack) _ t e)
+step_room g picks k t e =
+    with_room g.most k t _ (chosen _
+    (with_stack k (limited g.most (below 2 k.stack ++ element_of (slice_index_or (upper 2 k.stack) 0 verification.top) ∷ []))) t e).1
+step_room g makes k t e =
+    with_room g.most (record { locals = map (without g.place) k.locals; stack = k.stack }) t
+    (k.stack ++ verification.uninit g.place ∷ []) (not_chosen (list_any (is_made g.place) k.stack) _ t e)
 step_room g (builds f) k t e =
-    built_room g.most (slice_index_or (upper (suc (length f.wanted)) k.stack) 0 verification.top) (below (suc (length f.wanted)) k.stack) [] (class_built g (slice_index_or (upper (suc (length f.wanted)) k.stack) 0 verification.top)) k t f.given
+    built_room g.most (slice_index_or (upper (suc (length f.wanted)) k.stack) 0 verification.top)
+    (below (suc (length f.wanted)) k.stack) []
+    (class_built g (slice_index_or (upper (suc (length f.wanted)) k.stack) 0 verification.top)) k t f.given
     (chosen (accepts_all (wants.Anything ∷ f.wanted) (upper (suc (length f.wanted)) k.stack)) _ t e).1
 step_room g fails k t e = absurd (none_some e)
 
@@ -99,7 +115,8 @@ module _ (names : Names) (code : List Insn) (most_locals most : ℕ) where
       room : slots (map (verification_type names) f.state.stack) ≤ most
       room = subst (λ n. n ≤ most) (sym (stack_width names f.state.stack)) (w.2).stack
 
-      by : (z : Bool) → (frame_at (map (type_state_at names) frames) i ≡ Some s → slots s.stack ≤ most) → cond z (Some (type_state_at names f).state) (frame_at (map (type_state_at names) frames) i) ≡ Some s → slots s.stack ≤ most
+      by : (z : Bool) → (frame_at (map (type_state_at names) frames) i ≡ Some s → slots s.stack ≤ most)
+          → cond z (Some (type_state_at names f).state) (frame_at (map (type_state_at names) frames) i) ≡ Some s → slots s.stack ≤ most
       by true again g = subst (λ (x : TypeState). slots x.stack ≤ most) (some_is (type_state_at names f).state s g) room
       by false again g = again g
 
@@ -119,7 +136,9 @@ state_room names b w (suc i) s e = by (frame_at (frames_of names b) (suc i)) ref
         step_room (ground_of b i) (step_of b.uses (returns_of b) q.0) p.0 s q.2
     after false g = absurd (none_some g)
 
-    by : (o : Option TypeState) → frame_at (frames_of names b) (suc i) ≡ o → or_else o (cond (falls_at (insn_at b i)) (option_and_then (after_of b i) (state_of names b i)) None) ≡ Some s → slots s.stack ≤ b.max_stack
+    by : (o : Option TypeState) → frame_at (frames_of names b) (suc i) ≡ o
+        → or_else o (cond (falls_at (insn_at b i)) (option_and_then (after_of b i) (state_of names b i)) None) ≡ Some s
+        → slots s.stack ≤ b.max_stack
     by None q g = after (falls_at (insn_at b i)) g
     by (Some k) q g = frame_room names b.code b.max_locals b.max_stack 0 b.frames (suc i) s w.of_any_size.frames (q ∙ g)
 
@@ -139,4 +158,5 @@ room_fits program f b p w e =
     let l = as_many w.state.stack in
     let r = state_room program.names w.stands.body (h.1).whole.well_made f.place w.state w.stands.state_is in
     let all : length f.stack ≤ w.stands.body.max_stack = omega (arith, n, m, l, r) in
-    subst (λ (x : Body). length f.stack ≤ x.max_stack) (some_is w.stands.body b (sym (body_is program f.method w.stands.linked w.stands.body w.stands.class_is w.stands.body_is) ∙ e)) all
+    subst (λ (x : Body). length f.stack ≤ x.max_stack)
+    (some_is w.stands.body b (sym (body_is program f.method w.stands.linked w.stands.body w.stands.class_is w.stands.body_is) ∙ e)) all

@@ -1,5 +1,6 @@
 -- Each turn keeps a world fitting: each instruction that names nothing in the pool.
-use Rattle.std.proofs.Common.{◌≡◌, ◌⊎◌, inl, inr, ⊎_elim, ℕ, ◌+◌, ◌-◌, ◌<◌, ◌≤◌, ℤ, Bool, true, false, ◌&&◌, ◌||◌, cond, List, [], ◌∷◌, Option, Some, None, nat_eq, nat_le, nat_lt, refl, sym, ◌∙◌, ap, subst, arith, slice_index_or}
+use Rattle.std.proofs.Common.{◌≡◌, ◌⊎◌, inl, inr, ⊎_elim, ℕ, ◌+◌, ◌-◌, ◌<◌, ◌≤◌, ℤ, Bool, true, false, ◌&&◌, ◌||◌, cond, List, []}
+use Rattle.std.proofs.Common.{◌∷◌, Option, Some, None, nat_eq, nat_le, nat_lt, refl, sym, ◌∙◌, ap, subst, arith, slice_index_or}
 use Rattle.std.proofs.lemmas.Bool.{eqb-true, cases_lt}
 use Rattle.jc_bytes.specs.Descriptor.{FieldType, Byte, Char, Double, Float, Int, Long, Short, Boolean, Object, Array}
 use Rattle.jc_methods.specs.declared.form.Form.{Form as OpForm}
@@ -24,8 +25,10 @@ use Rattle.jc_kinds_after.specs.declared.want.Want.TheVariants as wants
 use Rattle.jc_kinds_after.specs.Step as kinds
 use Rattle.jc_machine_model.specs.Values.{int, ComputationalType, int_type, long_type, reference_type, computational_type}
 use Rattle.jc_machine_model.specs.World.{Frame, Shared}
-use Rattle.jc_machine_model.specs.Operations.{pushes, computes, counts, tests, jumps, indexes, matches, measures, makes_array, returns, returns_nothing, throws_top, outside}
-use Rattle.jc_machine_model.specs.Profile.{elements_of, read_operation, write_operation, return_operation, simple_operation, local_type, load_operation, store_operation, local_operation, array_operation}
+use Rattle.jc_machine_model.specs.Operations.{pushes, computes, counts, tests, jumps, indexes, matches, measures, makes_array}
+use Rattle.jc_machine_model.specs.Operations.{returns, returns_nothing, throws_top, outside}
+use Rattle.jc_machine_model.specs.Profile.{elements_of, read_operation, write_operation, return_operation, simple_operation}
+use Rattle.jc_machine_model.specs.Profile.{local_type, load_operation, store_operation, local_operation, array_operation}
 use Rattle.jc_machine_model.specs.Perform.{perform}
 use Rattle.jc_machine_model.specs.Calls.{by_return}
 use Rattle.jc_machine_model.specs.Jumps.{test_of}
@@ -41,7 +44,8 @@ true_false e = cc
 
 -- ---- returns
 
-int_return : (r : Option FieldType) → nat_eq opcode.ireturn (return_op r) ≡ true → (type : FieldType) × (r ≡ Some type) × (computational_type type ≡ Some int_type)
+int_return : (r : Option FieldType) → nat_eq opcode.ireturn (return_op r) ≡ true
+    → (type : FieldType) × (r ≡ Some type) × (computational_type type ≡ Some int_type)
 int_return (Some Byte) e = (Byte, refl, refl)
 int_return (Some Char) e = (Char, refl, refl)
 int_return (Some Int) e = (Int, refl, refl)
@@ -49,11 +53,13 @@ int_return (Some Short) e = (Short, refl, refl)
 int_return (Some Boolean) e = (Boolean, refl, refl)
 int_return r e = absurd (false_true e)
 
-long_return : (r : Option FieldType) → nat_eq opcode.lreturn (return_op r) ≡ true → (type : FieldType) × (r ≡ Some type) × (computational_type type ≡ Some long_type)
+long_return : (r : Option FieldType) → nat_eq opcode.lreturn (return_op r) ≡ true
+    → (type : FieldType) × (r ≡ Some type) × (computational_type type ≡ Some long_type)
 long_return (Some Long) e = (Long, refl, refl)
 long_return r e = absurd (false_true e)
 
-reference_return : (r : Option FieldType) → nat_eq opcode.areturn (return_op r) ≡ true → (type : FieldType) × (r ≡ Some type) × (computational_type type ≡ Some reference_type)
+reference_return : (r : Option FieldType) → nat_eq opcode.areturn (return_op r) ≡ true
+    → (type : FieldType) × (r ≡ Some type) × (computational_type type ≡ Some reference_type)
 reference_return (Some (Object name)) e = (Object name, refl, refl)
 reference_return (Some (Array component)) e = (Array component, refl, refl)
 reference_return r e = absurd (false_true e)
@@ -116,7 +122,9 @@ either_is false b e = inr e
 
 pushes_int : (op : ℕ) → (nat_eq op opcode.bipush || nat_eq op opcode.sipush) ≡ true → forms_at op ≡ form [] (kind verification.int ∷ []) ∷ []
 unfolding forms_at table
-pushes_int op e = ⊎_elim (λ q. ap forms_at (eqb-true op opcode.bipush q)) (λ q. ap forms_at (eqb-true op opcode.sipush q)) (either_is (nat_eq op opcode.bipush) (nat_eq op opcode.sipush) e)
+pushes_int op e =
+    ⊎_elim (λ q. ap forms_at (eqb-true op opcode.bipush q)) (λ q. ap forms_at (eqb-true op opcode.sipush q))
+    (either_is (nat_eq op opcode.bipush) (nat_eq op opcode.sipush) e)
 
 pushes_well : (op : ℕ) (value : ℤ) → IsWellFormed (insns.Push op value) → forms_at op ≡ form [] (kind verification.int ∷ []) ∷ []
 unfolding is_push
@@ -128,18 +136,27 @@ module _ {program : Program} {s : Shared} {f : Frame} {c : Linked} {b : Body} {k
 
   reads_at : (op : ℕ) → Turn program s f c b (insns.Simple op) k t → Fine program s f b (perform (read_operation (elements_of op)) s f)
   unfolding perform Fine forms_at table
-  reads_at op turn = by (nat_eq op opcode.iaload) refl (nat_eq op opcode.laload) refl (nat_eq op opcode.baload) refl (nat_eq op opcode.caload) refl (nat_eq op opcode.saload) refl
+  reads_at op turn =
+      by (nat_eq op opcode.iaload) refl (nat_eq op opcode.laload) refl (nat_eq op opcode.baload) refl (nat_eq op opcode.caload) refl
+      (nat_eq op opcode.saload) refl
     where
       to : (n : ℕ) → nat_eq op n ≡ true → Turn program s f c b (insns.Simple n) k t
       to n e = subst (λ o. Turn program s f c b (insns.Simple o) k t) (eqb-true op n e) turn
 
-      by : (b1 : Bool) → nat_eq op opcode.iaload ≡ b1 → (b2 : Bool) → nat_eq op opcode.laload ≡ b2 → (b3 : Bool) → nat_eq op opcode.baload ≡ b3 → (b4 : Bool) → nat_eq op opcode.caload ≡ b4 → (b5 : Bool) → nat_eq op opcode.saload ≡ b5
-          → Fine program s f b (perform (read_operation (cond b1 (Int ∷ []) (cond b2 (Long ∷ []) (cond b3 (Byte ∷ Boolean ∷ []) (cond b4 (Char ∷ []) (cond b5 (Short ∷ []) [])))))) s f)
+      by : (b1 : Bool) → nat_eq op opcode.iaload ≡ b1 → (b2 : Bool) → nat_eq op opcode.laload ≡ b2 → (b3 : Bool)
+          → nat_eq op opcode.baload ≡ b3 → (b4 : Bool) → nat_eq op opcode.caload ≡ b4 → (b5 : Bool) → nat_eq op opcode.saload ≡ b5
+          → Fine program s f b (perform (read_operation
+          (cond b1 (Int ∷ []) (cond b2 (Long ∷ [])
+          (cond b3 (Byte ∷ Boolean ∷ []) (cond b4 (Char ∷ []) (cond b5 (Short ∷ []) [])))))) s f)
       by true p b2 q b3 r b4 u b5 v = reads_fine (to opcode.iaload p) (Int ∷ []) verification.int refl (inl refl) (int_element (Int ∷ []) refl) f.stack refl
       by false p true q b3 r b4 u b5 v = reads_fine (to opcode.laload q) (Long ∷ []) verification.long refl (inl refl) long_element f.stack refl
-      by false p false q true r b4 u b5 v = reads_fine (to opcode.baload r) (Byte ∷ Boolean ∷ []) verification.int refl (inl refl) (int_element (Byte ∷ Boolean ∷ []) refl) f.stack refl
-      by false p false q false r true u b5 v = reads_fine (to opcode.caload u) (Char ∷ []) verification.int refl (inl refl) (int_element (Char ∷ []) refl) f.stack refl
-      by false p false q false r false u true v = reads_fine (to opcode.saload v) (Short ∷ []) verification.int refl (inl refl) (int_element (Short ∷ []) refl) f.stack refl
+      by false p false q true r b4 u b5 v =
+          reads_fine (to opcode.baload r) (Byte ∷ Boolean ∷ []) verification.int refl (inl refl)
+          (int_element (Byte ∷ Boolean ∷ []) refl) f.stack refl
+      by false p false q false r true u b5 v =
+          reads_fine (to opcode.caload u) (Char ∷ []) verification.int refl (inl refl) (int_element (Char ∷ []) refl) f.stack refl
+      by false p false q false r false u true v =
+          reads_fine (to opcode.saload v) (Short ∷ []) verification.int refl (inl refl) (int_element (Short ∷ []) refl) f.stack refl
       by false p false q false r false u false v = tt
 
   writes_at : (op : ℕ) → Turn program s f c b (insns.Simple op) k t → Fine program s f b (perform (write_operation (elements_of (op - 33))) s f)
@@ -149,8 +166,11 @@ module _ {program : Program} {s : Shared} {f : Frame} {c : Linked} {b : Body} {k
       to : (m n : ℕ) → nat_eq (op - 33) m ≡ true → m + 33 ≡ n → 1 ≤ m → Turn program s f c b (insns.Simple n) k t
       to m n e g l = let q : op - 33 ≡ m = eqb-true (op - 33) m e in subst (λ o. Turn program s f c b (insns.Simple o) k t) (omega (arith, q, g, l)) turn
 
-      by : (b1 : Bool) → nat_eq (op - 33) 46 ≡ b1 → (b2 : Bool) → nat_eq (op - 33) 47 ≡ b2 → (b3 : Bool) → nat_eq (op - 33) 51 ≡ b3 → (b4 : Bool) → nat_eq (op - 33) 52 ≡ b4 → (b5 : Bool) → nat_eq (op - 33) 53 ≡ b5
-          → Fine program s f b (perform (write_operation (cond b1 (Int ∷ []) (cond b2 (Long ∷ []) (cond b3 (Byte ∷ Boolean ∷ []) (cond b4 (Char ∷ []) (cond b5 (Short ∷ []) [])))))) s f)
+      by : (b1 : Bool) → nat_eq (op - 33) 46 ≡ b1 → (b2 : Bool) → nat_eq (op - 33) 47 ≡ b2 → (b3 : Bool) → nat_eq (op - 33) 51 ≡ b3
+          → (b4 : Bool) → nat_eq (op - 33) 52 ≡ b4 → (b5 : Bool) → nat_eq (op - 33) 53 ≡ b5
+          → Fine program s f b (perform (write_operation
+          (cond b1 (Int ∷ []) (cond b2 (Long ∷ [])
+          (cond b3 (Byte ∷ Boolean ∷ []) (cond b4 (Char ∷ []) (cond b5 (Short ∷ []) [])))))) s f)
       by true p b2 q b3 r b4 u b5 v = writes_fine (to 46 79 p refl (omega arith)) (Int ∷ []) wants.Int refl (inl refl) f.stack refl
       by false p true q b3 r b4 u b5 v = writes_fine (to 47 80 q refl (omega arith)) (Long ∷ []) wants.Long refl (inl refl) f.stack refl
       by false p false q true r b4 u b5 v = writes_fine (to 51 84 r refl (omega arith)) (Byte ∷ Boolean ∷ []) wants.Int refl (inl refl) f.stack refl
@@ -159,15 +179,20 @@ module _ {program : Program} {s : Shared} {f : Frame} {c : Linked} {b : Body} {k
       by false p false q false r false u false v = tt
 
   -- a return is the one for the method's type
-  right_return : (n : ℕ) → step_of b.uses (returns_of b) (insns.Simple n) ≡ return_step (returns_of b) n → Turn program s f c b (insns.Simple n) k t → nat_eq n (return_op (returns_of b)) ≡ true
+  right_return : (n : ℕ) → step_of b.uses (returns_of b) (insns.Simple n) ≡ return_step (returns_of b) n
+      → Turn program s f c b (insns.Simple n) k t → nat_eq n (return_op (returns_of b)) ≡ true
   right_return n e turn = by (nat_eq n (return_op (returns_of b))) (ap (λ x. apply (ground_of b f.place) x k) (sym e) ∙ applied turn)
     where
       by : (z : Bool) → apply (ground_of b f.place) (cond z (kinds.moves (forms_at n)) kinds.fails) k ≡ Some t → z ≡ true
       by true g = refl
       by false g = absurd (none_some g)
 
-  returns_typed : (computational : ComputationalType) (n : ℕ) → Turn program s f c b (insns.Simple n) k t → (type : FieldType) × (returns_of b ≡ Some type) × (computational_type type ≡ Some computational) → Fine program s f b (by_return computational (returns_of b) f.stack)
-  returns_typed computational n turn r = subst (λ x. Fine program s f b (by_return computational x f.stack)) (sym r.1) (returns_fine turn computational r.0 r.1 r.2 f.stack refl)
+  returns_typed : (computational : ComputationalType) (n : ℕ) → Turn program s f c b (insns.Simple n) k t
+      → (type : FieldType) × (returns_of b ≡ Some type) × (computational_type type ≡ Some computational)
+      → Fine program s f b (by_return computational (returns_of b) f.stack)
+  returns_typed computational n turn r =
+      subst (λ x. Fine program s f b (by_return computational x f.stack)) (sym r.1)
+      (returns_fine turn computational r.0 r.1 r.2 f.stack refl)
 
   returns_at : (op : ℕ) → Turn program s f c b (insns.Simple op) k t → Fine program s f b (perform (return_operation op b) s f)
   unfolding perform Fine
@@ -176,35 +201,52 @@ module _ {program : Program} {s : Shared} {f : Frame} {c : Linked} {b : Body} {k
       to : (n : ℕ) → nat_eq op n ≡ true → Turn program s f c b (insns.Simple n) k t
       to n e = subst (λ o. Turn program s f c b (insns.Simple o) k t) (eqb-true op n e) turn
 
-      by : (b1 : Bool) → nat_eq op opcode.ireturn ≡ b1 → (b2 : Bool) → nat_eq op opcode.lreturn ≡ b2 → (b3 : Bool) → nat_eq op opcode.areturn ≡ b3 → (b4 : Bool) → nat_eq op opcode.return ≡ b4
-          → Fine program s f b (perform (cond b1 (returns int_type (returns_of b)) (cond b2 (returns long_type (returns_of b)) (cond b3 (returns reference_type (returns_of b)) (cond b4 returns_nothing outside)))) s f)
-      by true p b2 q b3 r b4 u = returns_typed int_type opcode.ireturn (to opcode.ireturn p) (int_return (returns_of b) (right_return opcode.ireturn refl (to opcode.ireturn p)))
-      by false p true q b3 r b4 u = returns_typed long_type opcode.lreturn (to opcode.lreturn q) (long_return (returns_of b) (right_return opcode.lreturn refl (to opcode.lreturn q)))
-      by false p false q true r b4 u = returns_typed reference_type opcode.areturn (to opcode.areturn r) (reference_return (returns_of b) (right_return opcode.areturn refl (to opcode.areturn r)))
+      by : (b1 : Bool) → nat_eq op opcode.ireturn ≡ b1 → (b2 : Bool) → nat_eq op opcode.lreturn ≡ b2 → (b3 : Bool)
+          → nat_eq op opcode.areturn ≡ b3 → (b4 : Bool) → nat_eq op opcode.return ≡ b4
+          → Fine program s f b (perform (cond b1 (returns int_type (returns_of b))
+          (cond b2 (returns long_type (returns_of b))
+          (cond b3 (returns reference_type (returns_of b)) (cond b4 returns_nothing outside)))) s f)
+      by true p b2 q b3 r b4 u =
+          returns_typed int_type opcode.ireturn (to opcode.ireturn p)
+          (int_return (returns_of b) (right_return opcode.ireturn refl (to opcode.ireturn p)))
+      by false p true q b3 r b4 u =
+          returns_typed long_type opcode.lreturn (to opcode.lreturn q)
+          (long_return (returns_of b) (right_return opcode.lreturn refl (to opcode.lreturn q)))
+      by false p false q true r b4 u =
+          returns_typed reference_type opcode.areturn (to opcode.areturn r)
+          (reference_return (returns_of b) (right_return opcode.areturn refl (to opcode.areturn r)))
       by false p false q false r true u = leaves_fine (to opcode.return u) (no_return (returns_of b) (right_return opcode.return refl (to opcode.return u)))
       by false p false q false r false u = tt
 
-  pub simple_at : (op class : ℕ) → Turn program s f c b (insns.Simple op) k t → Fine program s f b (perform (simple_operation op (record { class = class; linked = c; body = b; place = f.place })) s f)
+  pub simple_at : (op class : ℕ) → Turn program s f c b (insns.Simple op) k t
+      → Fine program s f b (perform (simple_operation op (record { class = class; linked = c; body = b; place = f.place })) s f)
   unfolding perform Fine forms_at table
-  simple_at op class turn = by (nat_le opcode.iaload op && nat_le op opcode.saload) refl (nat_le opcode.iastore op && nat_le op opcode.sastore) (is_return op) refl (nat_eq op opcode.arraylength) refl (nat_eq op opcode.athrow) refl
+  simple_at op class turn =
+      by (nat_le opcode.iaload op && nat_le op opcode.saload) refl (nat_le opcode.iastore op && nat_le op opcode.sastore)
+      (is_return op) refl (nat_eq op opcode.arraylength) refl (nat_eq op opcode.athrow) refl
     where
       to : (n : ℕ) → nat_eq op n ≡ true → Turn program s f c b (insns.Simple n) k t
       to n e = subst (λ o. Turn program s f c b (insns.Simple o) k t) (eqb-true op n e) turn
 
-      by : (b1 : Bool) → (nat_le opcode.iaload op && nat_le op opcode.saload) ≡ b1 → (b2 b3 : Bool) → (is_return op) ≡ b3 → (b4 : Bool) → nat_eq op opcode.arraylength ≡ b4 → (b5 : Bool) → nat_eq op opcode.athrow ≡ b5
-          → Fine program s f b (perform (cond b1 (read_operation (elements_of op)) (cond b2 (write_operation (elements_of (op - 33))) (cond b3 (return_operation op b) (cond b4 measures (cond b5 throws_top (computes op)))))) s f)
+      by : (b1 : Bool) → (nat_le opcode.iaload op && nat_le op opcode.saload) ≡ b1 → (b2 b3 : Bool) → (is_return op) ≡ b3
+          → (b4 : Bool) → nat_eq op opcode.arraylength ≡ b4 → (b5 : Bool) → nat_eq op opcode.athrow ≡ b5
+          → Fine program s f b (perform (cond b1 (read_operation (elements_of op))
+          (cond b2 (write_operation (elements_of (op - 33)))
+          (cond b3 (return_operation op b) (cond b4 measures (cond b5 throws_top (computes op)))))) s f)
       by true p b2 b3 q b4 r b5 u = reads_at op turn
       by false p true b3 q b4 r b5 u = writes_at op turn
       by false p false true q b4 r b5 u = returns_at op turn
       by false p false false q true r b5 u = measures_fine (to opcode.arraylength r) refl (inl refl) f.stack refl
       by false p false false q false r true u = throws_fine (to opcode.athrow u) f.stack refl
       by false p false false q false r false u =
-          computes_fine turn op (moves_on (nat_eq op opcode.aaload) (is_return op) kinds.picks (return_step (returns_of b) op) (kinds.moves (forms_at op)) (not_pick op p) q)
+          computes_fine turn op (moves_on (nat_eq op opcode.aaload) (is_return op) kinds.picks (return_step (returns_of b) op)
+          (kinds.moves (forms_at op)) (not_pick op p) q)
           (inl (goes_on (is_return op) (nat_eq op opcode.athrow) q u)) (effect_there program s.heap op f.stack (turn.there).stack)
 
   -- ---- the others
 
-  pub push_at : (op : ℕ) (value : ℤ) → IsWellFormed (insns.Push op value) → Turn program s f c b (insns.Push op value) k t → Fine program s f b (perform (pushes (int value)) s f)
+  pub push_at : (op : ℕ) (value : ℤ) → IsWellFormed (insns.Push op value) → Turn program s f c b (insns.Push op value) k t
+      → Fine program s f b (perform (pushes (int value)) s f)
   unfolding perform
   push_at op value w turn = pushes_fine turn (int value) verification.int (ap kinds.moves (pushes_well op value w)) (inl refl) tt tt
 
@@ -212,15 +254,20 @@ module _ {program : Program} {s : Shared} {f : Frame} {c : Linked} {b : Body} {k
   unfolding perform Fine
   local_at op slot turn = by (nat_lt op opcode.istore) refl
     where
-      loaded : (o : Option ComputationalType) → step_of b.uses (returns_of b) (insns.Local op slot) ≡ kinds.loads slot (local_want op) → Fine program s f b (perform (load_operation slot o) s f)
+      loaded : (o : Option ComputationalType)
+          → step_of b.uses (returns_of b) (insns.Local op slot) ≡ kinds.loads slot (local_want op)
+          → Fine program s f b (perform (load_operation slot o) s f)
       loaded None e = tt
       loaded (Some computational) e = loads_fine turn computational slot (local_want op) e (inl refl) (slice_index_or f.locals slot None) refl
 
-      stored : (o : Option ComputationalType) → local_type op ≡ o → step_of b.uses (returns_of b) (insns.Local op slot) ≡ kinds.stores slot (local_want op) → Fine program s f b (perform (store_operation slot o) s f)
+      stored : (o : Option ComputationalType) → local_type op ≡ o
+          → step_of b.uses (returns_of b) (insns.Local op slot) ≡ kinds.stores slot (local_want op)
+          → Fine program s f b (perform (store_operation slot o) s f)
       stored None g e = tt
       stored (Some computational) g e = stores_fine turn computational slot (local_want op) e (inl refl) f.stack refl
 
-      by : (z : Bool) → nat_lt op opcode.istore ≡ z → Fine program s f b (perform (cond z (load_operation slot (local_type op)) (store_operation slot (local_type op))) s f)
+      by : (z : Bool) → nat_lt op opcode.istore ≡ z
+          → Fine program s f b (perform (cond z (load_operation slot (local_type op)) (store_operation slot (local_type op))) s f)
       by true e = loaded (local_type op) (ap (λ z. cond z (kinds.loads slot (local_want op)) (kinds.stores slot (local_want op))) e)
       by false e = stored (local_type op) refl (ap (λ z. cond z (kinds.loads slot (local_want op)) (kinds.stores slot (local_want op))) e)
 
@@ -235,7 +282,10 @@ module _ {program : Program} {s : Shared} {f : Frame} {c : Linked} {b : Body} {k
       one : (element : FieldType) → Fine program s f b (perform (makes_array element) s f)
       one element = makes_array_fine turn element (91 ∷ element_letter elem ∷ []) refl (inl refl) f.stack refl
 
-      by : (b1 b2 b3 b4 b5 b6 : Bool) → Fine program s f b (perform (cond b1 (makes_array Boolean) (cond b2 (makes_array Char) (cond b3 (makes_array Byte) (cond b4 (makes_array Short) (cond b5 (makes_array Int) (cond b6 (makes_array Long) outside)))))) s f)
+      by : (b1 b2 b3 b4 b5 b6 : Bool)
+          → Fine program s f b (perform (cond b1 (makes_array Boolean)
+          (cond b2 (makes_array Char) (cond b3 (makes_array Byte)
+          (cond b4 (makes_array Short) (cond b5 (makes_array Int) (cond b6 (makes_array Long) outside)))))) s f)
       by true b2 b3 b4 b5 b6 = one Boolean
       by false true b3 b4 b5 b6 = one Char
       by false false true b4 b5 b6 = one Byte
@@ -244,7 +294,8 @@ module _ {program : Program} {s : Shared} {f : Frame} {c : Linked} {b : Body} {k
       by false false false false false true = one Long
       by false false false false false false = tt
 
-  pub jump_at : (op to : ℕ) → IsWellFormed (insns.Jump op to) → Turn program s f c b (insns.Jump op to) k t → Fine program s f b (perform (cond (nat_eq op opcode.goto) (jumps to) (tests op to)) s f)
+  pub jump_at : (op to : ℕ) → IsWellFormed (insns.Jump op to) → Turn program s f c b (insns.Jump op to) k t
+      → Fine program s f b (perform (cond (nat_eq op opcode.goto) (jumps to) (tests op to)) s f)
   unfolding perform forms_at table
   jump_at op to w turn = by (nat_eq op opcode.goto) refl
     where
@@ -253,12 +304,16 @@ module _ {program : Program} {s : Shared} {f : Frame} {c : Linked} {b : Body} {k
 
       by : (z : Bool) → nat_eq op opcode.goto ≡ z → Fine program s f b (perform (cond z (jumps to) (tests op to)) s f)
       by true e = jumps_fine turn to (ap (λ o. kinds.moves (forms_at o)) (eqb-true op opcode.goto e)) (leads turn to (0, omega arith, refl))
-      by false e = tests_fine turn op to refl (tested e) (below_all op forms.Jump w (λ g. cc)) (leads turn to (0, omega arith, refl)) (inr (ap (λ z. cond z flows.Jumps flows.Branches) e)) (test_of op f.stack) refl
+      by false e =
+          tests_fine turn op to refl (tested e) (below_all op forms.Jump w (λ g. cc)) (leads turn to (0, omega arith, refl))
+          (inr (ap (λ z. cond z flows.Jumps flows.Branches) e)) (test_of op f.stack) refl
 
-  pub table_at : (low : ℤ) (default : ℕ) (arms : List ℕ) → Turn program s f c b (insns.Table low default arms) k t → Fine program s f b (perform (indexes low default arms) s f)
+  pub table_at : (low : ℤ) (default : ℕ) (arms : List ℕ) → Turn program s f c b (insns.Table low default arms) k t
+      → Fine program s f b (perform (indexes low default arms) s f)
   unfolding perform forms_at table
   table_at low default arms turn = switches_fine turn (table_target low default arms) refl (λ key. table_among low default arms key) f.stack refl
 
-  pub lookup_at : (default : ℕ) (arms : List Arm) → Turn program s f c b (insns.Lookup default arms) k t → Fine program s f b (perform (matches default arms) s f)
+  pub lookup_at : (default : ℕ) (arms : List Arm) → Turn program s f c b (insns.Lookup default arms) k t
+      → Fine program s f b (perform (matches default arms) s f)
   unfolding perform forms_at table
   lookup_at default arms turn = switches_fine turn (lookup_target default arms) refl (λ key. lookup_among default arms key) f.stack refl

@@ -1,5 +1,6 @@
 -- Values on a stack against types.
-use Rattle.std.proofs.Common.{◌≡◌, ℕ, ◌-◌, Bool, true, false, cond, List, [], ◌∷◌, ◌++◌, length, take, drop, reverse, map, Option, Some, None, refl, sym, ◌∙◌, ap, subst, arith, append_assoc, append-nil, length-append}
+use Rattle.std.proofs.Common.{◌≡◌, ℕ, ◌-◌, Bool, true, false, cond, List, [], ◌∷◌, ◌++◌, length, take, drop, reverse, map, Option}
+use Rattle.std.proofs.Common.{Some, None, refl, sym, ◌∙◌, ap, subst, arith, append_assoc, append-nil, length-append}
 use Rattle.std.proofs.lemmas.List.{map-append, reverse-append, reverse-reverse}
 use Rattle.jc_methods.specs.VerificationTypes.{VerificationType}
 use Rattle.jc_methods.specs.VerificationTypes as verification
@@ -49,7 +50,8 @@ pair_as_type want v h k a = reference_single v k
 
 -- ---- pushing and popping
 
-pub pushed : (v : Value) (stack : List Value) (h : VerificationType) (ks : List VerificationType) → IsOfVerificationType v h → IsStack stack ks → IsStack (v ∷ stack) (ks ++ h ∷ [])
+pub pushed : (v : Value) (stack : List Value) (h : VerificationType) (ks : List VerificationType) → IsOfVerificationType v h
+    → IsStack stack ks → IsStack (v ∷ stack) (ks ++ h ∷ [])
 pushed v stack h ks p q = subst (λ l. AreOfVerificationTypes (v ∷ stack) l) (sym (reverse-append ks (h ∷ []))) (p, q)
 
 -- the type of the value on top, and the types below it
@@ -134,7 +136,8 @@ pub one_moved : (most : ℕ) (f : StackEffect) (ks t : List VerificationType) �
 one_moved most f ks t e = let p = chosen (has_form f ks) (limited most (moved_kinds f ks)) t e in limited_is _ (moved_kinds f ks) t p.1
 
 -- values that are taken from the top, and one that stands in their place
-pub leaf : (most : ℕ) (vs stack : List Value) (ks : List VerificationType) (wanted : List Want) (h : VerificationType) (v : Value) → length wanted ≡ length vs → IsStack (vs ++ stack) ks → IsOfVerificationType v h
+pub leaf : (most : ℕ) (vs stack : List Value) (ks : List VerificationType) (wanted : List Want) (h : VerificationType) (v : Value)
+    → length wanted ≡ length vs → IsStack (vs ++ stack) ks → IsOfVerificationType v h
     → (t : List VerificationType) → moved_by most (form wanted (kind h ∷ []) ∷ []) ks ≡ Some t → IsStack (v ∷ stack) t
 leaf most vs stack ks wanted h v n p q t e =
     let r = tops_of vs stack ks p in

@@ -1,5 +1,6 @@
 -- Each turn keeps a world fitting: what one instruction leaves.
-use Rattle.std.proofs.Common.{◌≡◌, inl, inr, ℕ, zero, suc, ◌+◌, ◌≤◌, ℤ, Bool, true, false, cond, List, [], ◌∷◌, ◌++◌, length, drop, Option, Some, None, le_refl, refl, sym, ◌∙◌, ap, subst, slice_set, slice_index_or}
+use Rattle.std.proofs.Common.{◌≡◌, inl, inr, ℕ, zero, suc, ◌+◌, ◌≤◌, ℤ, Bool, true, false, cond, List, [], ◌∷◌, ◌++◌, length, drop}
+use Rattle.std.proofs.Common.{Option, Some, None, le_refl, refl, sym, ◌∙◌, ap, subst, slice_set, slice_index_or}
 use Rattle.std.specs.Prelude.{⊤, Contains, option_and_then}
 use Rattle.std.specs.List.{AllByRecursion}
 use Rattle.std.specs.Int.{w32, int_wrapping_add}
@@ -28,7 +29,8 @@ use Rattle.jc_machine_model.specs.Results.{Result, goes, hits, calls, leaves, ra
 use Rattle.jc_machine_model.specs.Perform.{by_effect}
 use Rattle.jc_machine_model.specs.Locals.{by_load, by_store, by_count, put_local}
 use Rattle.jc_machine_model.specs.Step.{new_frame}
-use Rattle.jc_machine_model.specs.Fits.{IsReference, IsInSlot, AreInSlots, IsOfVerificationType, IsStack, IsThere, IsThereInSlot, AreThereIn, AreStatics, FitsTop, FitsWaiting, IsProbe}
+use Rattle.jc_machine_model.specs.Fits.{IsReference, IsInSlot, AreInSlots, IsOfVerificationType, IsStack, IsThere, IsThereInSlot}
+use Rattle.jc_machine_model.specs.Fits.{AreThereIn, AreStatics, FitsTop, FitsWaiting, IsProbe}
 use Rattle.jc_machine_model.proofs.BeginLaws.{none_some, some_is, false_true}
 use Rattle.jc_machine_model.specs.Effects as effects
 use Rattle.jc_machine_laws.specs.Laws.{Leaves}
@@ -93,8 +95,10 @@ module _ {program : Program} {s : Shared} {f : Frame} {c : Linked} {b : Body} {i
   leads j h = inr (record { insn = insn; stands = (turn.here).insn_is; target = h })
 
   -- the frame goes on with these values
-  pub going : (s' : Shared) (j : ℕ) (locals : List (Option Value)) (stack : List Value) → LeadsTo b f.place j → AreInSlots locals t.locals → IsStack stack t.stack
-      → AllByRecursion (IsThereInSlot program s'.heap) locals → AllByRecursion (IsThere program s'.heap) stack → SharedFits program s' → length s.heap ≤ length s'.heap
+  pub going : (s' : Shared) (j : ℕ) (locals : List (Option Value)) (stack : List Value) → LeadsTo b f.place j
+      → AreInSlots locals t.locals → IsStack stack t.stack
+      → AllByRecursion (IsThereInSlot program s'.heap) locals → AllByRecursion (IsThere program s'.heap) stack
+      → SharedFits program s' → length s.heap ≤ length s'.heap
       → Fine program s f b (goes s' (record { method = f.method; place = j; locals = locals; stack = stack }))
   unfolding Fine
   going s' j locals stack l p q a d w n = record {
@@ -108,12 +112,15 @@ module _ {program : Program} {s : Shared} {f : Frame} {c : Linked} {b : Body} {i
   -- the stack alone changes
   pub stacked : (j : ℕ) (stack : List Value) → LeadsTo b f.place j → k.locals ≡ t.locals → IsStack stack t.stack → AllByRecursion (IsThere program s.heap) stack
       → Fine program s f b (goes s (record { method = f.method; place = j; locals = f.locals; stack = stack }))
-  stacked j stack l e q d = going s j f.locals stack l (subst (λ x. AreInSlots f.locals x) e turn.locals) q (turn.there).locals d turn.shared (le_refl (length s.heap))
+  stacked j stack l e q d =
+      going s j f.locals stack l (subst (λ x. AreInSlots f.locals x) e turn.locals) q (turn.there).locals d turn.shared
+      (le_refl (length s.heap))
 
 -- the state that an instruction leaves which moves operands
 pub with_stack_is : (k t : TypeState) (o : Option (List VerificationType)) → with_stack k o ≡ Some t → (o ≡ Some t.stack) × (k.locals ≡ t.locals)
 with_stack_is k t None e = absurd (none_some e)
-with_stack_is k t (Some stack) e = let q = some_is (record k { stack = stack }) t e in (ap (λ (x : TypeState). Some x.stack) q, ap (λ (x : TypeState). x.locals) q)
+with_stack_is k t (Some stack) e =
+    let q = some_is (record k { stack = stack }) t e in (ap (λ (x : TypeState). Some x.stack) q, ap (λ (x : TypeState). x.locals) q)
 
 pub each_append : {X : Type 0} (P : X → Type 0) (xs ys : List X) → AllByRecursion P xs → AllByRecursion P ys → AllByRecursion P (xs ++ ys)
 each_append P [] ys h g = g
@@ -132,50 +139,67 @@ EffectThere P (gives taken results) = AllByRecursion P results
 EffectThere P (effects.raises c) = ⊤
 EffectThere P unfit = ⊤
 
-effect_goes : {program : Program} {s : Shared} {f : Frame} {c : Linked} {b : Body} {insn : Insn} {k t : TypeState} → Turn program s f c b insn k t → (e : Effect) → FallsThrough insn → k.locals ≡ t.locals → Leaves t.stack f.stack e
+effect_goes : {program : Program} {s : Shared} {f : Frame} {c : Linked} {b : Body} {insn : Insn} {k t : TypeState}
+    → Turn program s f c b insn k t → (e : Effect) → FallsThrough insn → k.locals ≡ t.locals → Leaves t.stack f.stack e
     → EffectThere (IsThere program s.heap) e → Fine program s f b (by_effect e s f)
 unfolding Fine EffectThere
 effect_goes {program = program} {s = s} {f = f} turn (gives taken results) h l p q =
-    stacked turn (f.place + 1) (results ++ drop taken f.stack) (falls turn h) l p (each_append (IsThere program s.heap) results (drop taken f.stack) q (each_drop (IsThere program s.heap) taken f.stack (turn.there).stack))
+    stacked turn (f.place + 1) (results ++ drop taken f.stack) (falls turn h) l p
+    (each_append (IsThere program s.heap) results (drop taken f.stack) q
+    (each_drop (IsThere program s.heap) taken f.stack (turn.there).stack))
 effect_goes turn (effects.raises c) h l p q = tt
 effect_goes turn unfit h l p q = tt
 
 module _ {program : Program} {s : Shared} {f : Frame} {c : Linked} {b : Body} {insn : Insn} {k t : TypeState} (turn : Turn program s f c b insn k t) where
   -- the instruction moves operands by the forms
-  by_forms : (forms : List StackEffect) → step_of b.uses (returns_of b) insn ≡ kinds.moves forms → (moved_by b.max_stack forms k.stack ≡ Some t.stack) × (k.locals ≡ t.locals)
+  by_forms : (forms : List StackEffect) → step_of b.uses (returns_of b) insn ≡ kinds.moves forms
+      → (moved_by b.max_stack forms k.stack ≡ Some t.stack) × (k.locals ≡ t.locals)
   by_forms forms e = with_stack_is k t (moved_by b.max_stack forms k.stack) (ap (λ x. apply (ground_of b f.place) x k) (sym e) ∙ applied turn)
 
-  pub computes_fine : (op : ℕ) → step_of b.uses (returns_of b) insn ≡ kinds.moves (forms_at op) → FallsThrough insn → EffectThere (IsThere program s.heap) (effect op f.stack) → Fine program s f b (by_effect (effect op f.stack) s f)
+  pub computes_fine : (op : ℕ) → step_of b.uses (returns_of b) insn ≡ kinds.moves (forms_at op) → FallsThrough insn
+      → EffectThere (IsThere program s.heap) (effect op f.stack) → Fine program s f b (by_effect (effect op f.stack) s f)
   computes_fine op e h q =
       let m = by_forms (forms_at op) e in
       effect_goes turn (effect op f.stack) h m.1 (effects_fit b.max_stack op f.stack k.stack t.stack turn.stack m.0) q
 
   -- a value of a type is pushed
-  pub pushes_fine : (v : Value) (h : VerificationType) → step_of b.uses (returns_of b) insn ≡ kinds.moves (form [] (kind h ∷ []) ∷ []) → FallsThrough insn → IsOfVerificationType v h → IsThere program s.heap v → Fine program s f b (goes_with s f (v ∷ f.stack))
+  pub pushes_fine : (v : Value) (h : VerificationType)
+      → step_of b.uses (returns_of b) insn ≡ kinds.moves (form [] (kind h ∷ []) ∷ []) → FallsThrough insn → IsOfVerificationType v h
+      → IsThere program s.heap v → Fine program s f b (goes_with s f (v ∷ f.stack))
   pushes_fine v h e l p q =
       let m = by_forms (form [] (kind h ∷ []) ∷ []) e in
-      stacked turn (f.place + 1) (v ∷ f.stack) (falls turn l) m.1 (leaf b.max_stack [] f.stack k.stack [] h v refl turn.stack p t.stack m.0) (q, (turn.there).stack)
+      stacked turn (f.place + 1) (v ∷ f.stack) (falls turn l) m.1
+      (leaf b.max_stack [] f.stack k.stack [] h v refl turn.stack p t.stack m.0) (q, (turn.there).stack)
 
   -- operands are taken, and a value of a type stands in their place
-  pub turns_fine : (vs rest : List Value) (wanted : List Want) (h : VerificationType) (v : Value) (s' : Shared) → step_of b.uses (returns_of b) insn ≡ kinds.moves (form wanted (kind h ∷ []) ∷ []) → FallsThrough insn → f.stack ≡ vs ++ rest → length wanted ≡ length vs → IsOfVerificationType v h
-      → IsThere program s'.heap v → AllByRecursion (IsThere program s'.heap) rest → AllByRecursion (IsThereInSlot program s'.heap) f.locals → SharedFits program s' → length s.heap ≤ length s'.heap → Fine program s f b (goes_with s' f (v ∷ rest))
+  pub turns_fine : (vs rest : List Value) (wanted : List Want) (h : VerificationType) (v : Value) (s' : Shared)
+      → step_of b.uses (returns_of b) insn ≡ kinds.moves (form wanted (kind h ∷ []) ∷ []) → FallsThrough insn → f.stack ≡ vs ++ rest
+      → length wanted ≡ length vs → IsOfVerificationType v h
+      → IsThere program s'.heap v → AllByRecursion (IsThere program s'.heap) rest
+      → AllByRecursion (IsThereInSlot program s'.heap) f.locals → SharedFits program s' → length s.heap ≤ length s'.heap
+      → Fine program s f b (goes_with s' f (v ∷ rest))
   turns_fine vs rest wanted h v s' e l d n p q r a w g =
       let m = by_forms (form wanted (kind h ∷ []) ∷ []) e in
       going turn s' (f.place + 1) f.locals (v ∷ rest) (falls turn l) (subst (λ x. AreInSlots f.locals x) m.1 turn.locals)
       (leaf b.max_stack vs rest k.stack wanted h v n (subst (λ x. IsStack x k.stack) d turn.stack) p t.stack m.0) a (q, r) w g
 
   -- operands are taken, and nothing stands in their place
-  pub takes_fine : (vs rest : List Value) (wanted : List Want) (j : ℕ) (s' : Shared) → step_of b.uses (returns_of b) insn ≡ kinds.moves (form wanted [] ∷ []) → LeadsTo b f.place j → f.stack ≡ vs ++ rest → length wanted ≡ length vs
-      → AllByRecursion (IsThere program s'.heap) rest → AllByRecursion (IsThereInSlot program s'.heap) f.locals → SharedFits program s' → length s.heap ≤ length s'.heap
+  pub takes_fine : (vs rest : List Value) (wanted : List Want) (j : ℕ) (s' : Shared)
+      → step_of b.uses (returns_of b) insn ≡ kinds.moves (form wanted [] ∷ []) → LeadsTo b f.place j → f.stack ≡ vs ++ rest
+      → length wanted ≡ length vs
+      → AllByRecursion (IsThere program s'.heap) rest → AllByRecursion (IsThereInSlot program s'.heap) f.locals
+      → SharedFits program s' → length s.heap ≤ length s'.heap
       → Fine program s f b (goes s' (record { method = f.method; place = j; locals = f.locals; stack = rest }))
   takes_fine vs rest wanted j s' e l d n r a w g =
       let m = by_forms (form wanted [] ∷ []) e in
-      going turn s' j f.locals rest l (subst (λ x. AreInSlots f.locals x) m.1 turn.locals) (leaf_none b.max_stack vs rest k.stack wanted n (subst (λ x. IsStack x k.stack) d turn.stack) t.stack m.0) a r w g
+      going turn s' j f.locals rest l (subst (λ x. AreInSlots f.locals x) m.1 turn.locals)
+      (leaf_none b.max_stack vs rest k.stack wanted n (subst (λ x. IsStack x k.stack) d turn.stack) t.stack m.0) a r w g
 
 -- ---- local variables
 
 -- an int in a slot becomes another
-count_fits : (locals : List (Option Value)) (ks : List VerificationType) (j : ℕ) (x : ℤ) → AreInSlots locals ks → slice_index_or ks j verification.top ≡ verification.int → AreInSlots (slice_set locals j (Some (int x))) ks
+count_fits : (locals : List (Option Value)) (ks : List VerificationType) (j : ℕ) (x : ℤ) → AreInSlots locals ks
+    → slice_index_or ks j verification.top ≡ verification.int → AreInSlots (slice_set locals j (Some (int x))) ks
 count_fits [] [] j x p e = tt
 count_fits [] (h ∷ ks) j x p e = absurd p
 count_fits (l ∷ locals) [] j x p e = absurd p
@@ -190,7 +214,9 @@ module _ {program : Program} {s : Shared} {f : Frame} {c : Linked} {b : Body} {i
   pub stepped : (step : Step) → step_of b.uses (returns_of b) insn ≡ step → apply (ground_of b f.place) step k ≡ Some t
   stepped step e = ap (λ x. apply (ground_of b f.place) x k) (sym e) ∙ applied turn
 
-  pub loads_fine : (computational : ComputationalType) (slot : ℕ) (want : Want) → step_of b.uses (returns_of b) insn ≡ kinds.loads slot want → FallsThrough insn → (l : Option Value) → slice_index_or f.locals slot None ≡ l → Fine program s f b (by_load computational l s f)
+  pub loads_fine : (computational : ComputationalType) (slot : ℕ) (want : Want)
+      → step_of b.uses (returns_of b) insn ≡ kinds.loads slot want → FallsThrough insn → (l : Option Value)
+      → slice_index_or f.locals slot None ≡ l → Fine program s f b (by_load computational l s f)
   unfolding Fine
   loads_fine computational slot want e h None q = tt
   loads_fine computational slot want e h (Some v) q = by (is_of computational v)
@@ -199,7 +225,10 @@ module _ {program : Program} {s : Shared} {f : Frame} {c : Linked} {b : Body} {i
       top_kind = slice_index_or k.locals slot verification.top
 
       loaded_is : (limited b.max_stack (k.stack ++ top_kind ∷ []) ≡ Some t.stack) × (k.locals ≡ t.locals)
-      loaded_is = with_stack_is k t (limited b.max_stack (k.stack ++ top_kind ∷ [])) (chosen (accepts want top_kind) (with_stack k (limited b.max_stack (k.stack ++ top_kind ∷ []))) t (stepped (kinds.loads slot want) e)).1
+      loaded_is =
+          with_stack_is k t (limited b.max_stack (k.stack ++ top_kind ∷ []))
+          (chosen (accepts want top_kind) (with_stack k (limited b.max_stack (k.stack ++ top_kind ∷ []))) t
+          (stepped (kinds.loads slot want) e)).1
 
       value_is : IsOfVerificationType v top_kind
       value_is = from_slot v top_kind (subst (λ l. IsInSlot l top_kind) q (read_fits f.locals k.locals slot turn.locals))
@@ -209,21 +238,29 @@ module _ {program : Program} {s : Shared} {f : Frame} {c : Linked} {b : Body} {i
 
       by : (x : Bool) → Fine program s f b (cond x (goes_with s f (v ∷ f.stack)) gets_stuck)
       by false = tt
-      by true = stacked turn (f.place + 1) (v ∷ f.stack) (falls turn h) loaded_is.1 (subst (λ l. IsStack (v ∷ f.stack) l) stack_is (pushed v f.stack top_kind k.stack value_is turn.stack))
+      by true =
+          stacked turn (f.place + 1) (v ∷ f.stack) (falls turn h) loaded_is.1
+          (subst (λ l. IsStack (v ∷ f.stack) l) stack_is (pushed v f.stack top_kind k.stack value_is turn.stack))
           (subst (λ l. IsThereInSlot program s.heap l) q (read_there program s.heap f.locals slot (turn.there).locals), (turn.there).stack)
 
-  pub counts_fine : (slot : ℕ) (by : ℤ) → step_of b.uses (returns_of b) insn ≡ kinds.counts slot → FallsThrough insn → (l : Option Value) → Fine program s f b (by_count slot by l s f)
+  pub counts_fine : (slot : ℕ) (by : ℤ) → step_of b.uses (returns_of b) insn ≡ kinds.counts slot → FallsThrough insn
+      → (l : Option Value) → Fine program s f b (by_count slot by l s f)
   unfolding Fine
   counts_fine slot n e h None = tt
   counts_fine slot n e h (Some (int x)) =
       let p = chosen (is_int (slice_index_or k.locals slot verification.top)) (with_stack k (limited b.max_stack k.stack)) t (stepped (kinds.counts slot) e) in
       let w = with_stack_is k t (limited b.max_stack k.stack) p.1 in
       let same : k.stack ≡ t.stack = some_is k.stack t.stack (chosen _ (Some k.stack) t.stack w.0).1 in
-      going turn s (f.place + 1) _ f.stack (falls turn h) (subst (λ l. AreInSlots (slice_set f.locals slot (Some (int (int_wrapping_add w32 x n)))) l) w.1 (count_fits f.locals k.locals slot (int_wrapping_add w32 x n) turn.locals (int_is _ p.0)))
-      (subst (λ l. IsStack f.stack l) same turn.stack) (set_there program s.heap f.locals slot _ (turn.there).locals tt) (turn.there).stack turn.shared (le_refl (length s.heap))
+      going turn s (f.place + 1) _ f.stack (falls turn h)
+      (subst (λ l. AreInSlots (slice_set f.locals slot (Some (int (int_wrapping_add w32 x n)))) l) w.1
+      (count_fits f.locals k.locals slot (int_wrapping_add w32 x n) turn.locals (int_is _ p.0)))
+      (subst (λ l. IsStack f.stack l) same turn.stack) (set_there program s.heap f.locals slot _ (turn.there).locals tt)
+      (turn.there).stack turn.shared (le_refl (length s.heap))
   counts_fine slot n e h (Some v) = tt
 
-  pub stores_fine : (computational : ComputationalType) (slot : ℕ) (want : Want) → step_of b.uses (returns_of b) insn ≡ kinds.stores slot want → FallsThrough insn → (stack : List Value) → f.stack ≡ stack → Fine program s f b (by_store computational slot stack s f)
+  pub stores_fine : (computational : ComputationalType) (slot : ℕ) (want : Want)
+      → step_of b.uses (returns_of b) insn ≡ kinds.stores slot want → FallsThrough insn → (stack : List Value) → f.stack ≡ stack
+      → Fine program s f b (by_store computational slot stack s f)
   unfolding Fine
   stores_fine computational slot want e h [] q = tt
   stores_fine computational slot want e h (v ∷ stack) q = by (is_of computational v)
@@ -255,8 +292,17 @@ module _ {program : Program} {s : Shared} {f : Frame} {c : Linked} {b : Body} {i
       there : AllByRecursion (IsThere program s.heap) (v ∷ stack)
       there = subst (AllByRecursion (IsThere program s.heap)) q (turn.there).stack
 
-      by : (x : Bool) → Fine program s f b (cond x (goes s (record { method = f.method; place = f.place + 1; locals = put_local slot v f.locals; stack = stack })) gets_stuck)
+      by : (x : Bool) → Fine program s f b
+          (cond x (goes s (record {
+            method = f.method;
+            place = f.place + 1;
+            locals = put_local slot v f.locals;
+            stack = stack;
+          })) gets_stuck)
       by false = tt
       by true = going turn s (f.place + 1) (put_local slot v f.locals) stack (falls turn h)
-          (subst (λ x. AreInSlots (put_local slot v f.locals) x) locals_are (put_fits f.locals k.locals slot v top.kind turn.locals top.is (pair_as_type want v top.kind top.is (subst (λ x. accepts want x ≡ true) last_is stored.0))))
-          (subst (λ x. IsStack stack x) stack_is top.below) (put_there program s.heap f.locals slot v (turn.there).locals there.0) there.1 turn.shared (le_refl (length s.heap))
+          (subst (λ x. AreInSlots (put_local slot v f.locals) x) locals_are
+          (put_fits f.locals k.locals slot v top.kind turn.locals top.is
+          (pair_as_type want v top.kind top.is (subst (λ x. accepts want x ≡ true) last_is stored.0))))
+          (subst (λ x. IsStack stack x) stack_is top.below)
+          (put_there program s.heap f.locals slot v (turn.there).locals there.0) there.1 turn.shared (le_refl (length s.heap))

@@ -1,5 +1,6 @@
 -- Each turn keeps a world fitting: threads.
-use Rattle.std.proofs.Common.{◌≡◌, ℕ, suc, ◌≤◌, ◌<◌, Bool, true, false, not, ◌&&◌, cond, List, [], ◌∷◌, ◌++◌, length, Option, Some, None, le_refl, le_trans, nat_le, refl, sym, ◌∙◌, ap, subst, arith}
+use Rattle.std.proofs.Common.{◌≡◌, ℕ, suc, ◌≤◌, ◌<◌, Bool, true, false, not, ◌&&◌, cond, List, [], ◌∷◌, ◌++◌, length, Option, Some}
+use Rattle.std.proofs.Common.{None, le_refl, le_trans, nat_le, refl, sym, ◌∙◌, ap, subst, arith}
 use Rattle.std.proofs.lemmas.Bool.{leb-false}
 use Rattle.std.specs.Prelude.{filter}
 use Rattle.std.specs.List.{AllByRecursion}
@@ -18,7 +19,8 @@ use Rattle.jc_machine_model.specs.Values.{Value, object}
 use Rattle.jc_machine_model.specs.Heap.{throwable, HeapObject, has_room}
 use Rattle.jc_machine_model.specs.World.{Frame, running, Shared, Hit}
 use Rattle.jc_machine_model.specs.Results.{Result, goes, hits, calls, leaves, raises, throws, gets_stuck}
-use Rattle.jc_machine_model.specs.Step.{Raised, out_of_memory, placed, is_init_method, most_frames, counted_frames, overflows, new_frame, given_back, left, After, thrown_in, after_result}
+use Rattle.jc_machine_model.specs.Step.{Raised, out_of_memory, placed, is_init_method, most_frames, counted_frames, overflows}
+use Rattle.jc_machine_model.specs.Step.{new_frame, given_back, left, After, thrown_in, after_result}
 use Rattle.jc_machine_model.specs.Fits.{IsReference, IsThere, AreThereIn, FitsTop, FitEachWaiting, FitsRunning, FitsThread, IsProbe}
 use Rattle.jc_machine_laws.proofs.OnwardLaws.{Here, counted_step, counted_more, thread_unwinds}
 use Rattle.jc_machine_laws.proofs.StepLaws.{Fine, SharedFits, Goes, Calls, ReturnFits}
@@ -31,15 +33,20 @@ abbrev one_more : Bool → ℕ → ℕ
 one_more true n = n
 one_more false n = suc n
 
-counted_is : (program : Program) (f : Frame) (waiting : List Frame) → counted_frames program (f ∷ waiting) ≡ one_more (is_init_method program f.method) (counted_frames program waiting)
+counted_is : (program : Program) (f : Frame) (waiting : List Frame)
+    → counted_frames program (f ∷ waiting) ≡ one_more (is_init_method program f.method) (counted_frames program waiting)
 counted_is program f waiting = by (is_init_method program f.method)
   where
-    by : (z : Bool) → length (cond (not z) (f ∷ filter (λ (g : Frame). not (is_init_method program g.method)) waiting) (filter (λ (g : Frame). not (is_init_method program g.method)) waiting)) ≡ one_more z (counted_frames program waiting)
+    by : (z : Bool) → length (cond (not z) (f ∷ filter (λ (g : Frame). not (is_init_method program g.method)) waiting)
+        (filter (λ (g : Frame). not (is_init_method program g.method)) waiting)) ≡ one_more z (counted_frames program waiting)
     by true = refl
     by false = refl
 
-counted_like : (program : Program) (f g : Frame) (waiting : List Frame) → g.method ≡ f.method → counted_frames program (g ∷ waiting) ≡ counted_frames program (f ∷ waiting)
-counted_like program f g waiting e = counted_is program g waiting ∙ ap (λ m. one_more (is_init_method program m) (counted_frames program waiting)) e ∙ sym (counted_is program f waiting)
+counted_like : (program : Program) (f g : Frame) (waiting : List Frame) → g.method ≡ f.method
+    → counted_frames program (g ∷ waiting) ≡ counted_frames program (f ∷ waiting)
+counted_like program f g waiting e =
+    counted_is program g waiting ∙ ap (λ m. one_more (is_init_method program m) (counted_frames program waiting)) e
+    ∙ sym (counted_is program f waiting)
 
 -- one frame more isn't too many
 room_for : (x : Bool) (n : ℕ) → n ≤ 128 → (not x && nat_le most_frames n) ≡ false → one_more x n ≤ 128
@@ -68,7 +75,9 @@ placed_fits : (program : Program) (c : Thrown) (s : Shared) → SharedFits progr
 placed_fits program thrown.OutOfMemoryError s w = no_room_fits program s w
 placed_fits program c s w = by (has_room s.heap 1)
   where
-    by : (z : Bool) → RaisedFits program s (cond z (record { thrown = c; value = object (length s.heap); shared = record s { heap = s.heap ++ throwable c ∷ [] } }) (out_of_memory s))
+    by : (z : Bool) → RaisedFits program s
+        (cond z (record { thrown = c; value = object (length s.heap); shared = record s { heap = s.heap ++ throwable c ∷ [] } })
+        (out_of_memory s))
     by false = no_room_fits program s w
     by true = record {
       reference = refl;
@@ -77,21 +86,27 @@ placed_fits program c s w = by (has_room s.heap 1)
       grows = longer s.heap (throwable c);
     }
 
-pub running_grows : (program : Program) (heap more : List HeapObject) (f : Frame) (waiting : List Frame) → length heap ≤ length more → FitsRunning program heap f waiting → FitsRunning program more f waiting
-running_grows program heap more f waiting n r = record { some = r.some; few = r.few; top = r.top; below = r.below; there = frames_grow program heap more n (f ∷ waiting) r.there }
+pub running_grows : (program : Program) (heap more : List HeapObject) (f : Frame) (waiting : List Frame) → length heap ≤ length more
+    → FitsRunning program heap f waiting → FitsRunning program more f waiting
+running_grows program heap more f waiting n r =
+    record { some = r.some; few = r.few; top = r.top; below = r.below; there = frames_grow program heap more n (f ∷ waiting) r.there }
 
-module _ {program : Program} {s : Shared} {f : Frame} {c : Linked} {b : Body} {insn : Insn} {k : TypeState} (p : IsProgram program) (here : Here program f c b insn k) (shared : SharedFits program s) (waiting : List Frame)
+module _ {program : Program} {s : Shared} {f : Frame} {c : Linked} {b : Body} {insn : Insn} {k : TypeState} (p : IsProgram program)
+    (here : Here program f c b insn k) (shared : SharedFits program s) (waiting : List Frame)
     (run : FitsRunning program s.heap f waiting) where
   thrown_lands : (r : Raised) → RaisedFits program s r → Lands program s (thrown_in program r (f ∷ waiting))
   thrown_lands r w = record {
-    thread = thread_unwinds program r.shared.heap r.thrown r.value f waiting p w.reference w.there (running_grows program s.heap r.shared.heap f waiting w.grows run);
+    thread =
+        thread_unwinds program r.shared.heap r.thrown r.value f waiting p w.reference w.there
+        (running_grows program s.heap r.shared.heap f waiting w.grows run);
     shared = shared_grows program r.shared r.shared.heap r.shared.output true (le_refl (length r.shared.heap)) w.shared;
     grows = w.grows;
     hits = tt;
   }
 
   -- the frame goes on
-  goes_lands : (s' : Shared) (g : Frame) (hit : List Hit) → AllByRecursion (IsProbe program) hit → Goes program s s' f g → Lands program s (record { thread = running g waiting; shared = s'; hits = hit })
+  goes_lands : (s' : Shared) (g : Frame) (hit : List Hit) → AllByRecursion (IsProbe program) hit → Goes program s s' f g
+      → Lands program s (record { thread = running g waiting; shared = s'; hits = hit })
   goes_lands s' g hit h w = record {
     thread = record {
       some = subst (λ n. 1 ≤ n) (sym (counted_like program f g waiting w.method)) run.some;
@@ -106,13 +121,16 @@ module _ {program : Program} {s : Shared} {f : Frame} {c : Linked} {b : Body} {i
   }
 
   -- a method is entered
-  calls_lands : (callee : Entry) (locals : List (Option Value)) (g : Frame) → Calls program s.heap f callee locals g → overflows program callee (f ∷ waiting) ≡ false → FitsRunning program s.heap (new_frame callee locals) (g ∷ waiting)
+  calls_lands : (callee : Entry) (locals : List (Option Value)) (g : Frame) → Calls program s.heap f callee locals g
+      → overflows program callee (f ∷ waiting) ≡ false → FitsRunning program s.heap (new_frame callee locals) (g ∷ waiting)
   calls_lands callee locals g w e =
       let one = counted_step program g waiting w.waits.no_init in
       let more = counted_more program (new_frame callee locals) (g ∷ waiting) in
       record {
         some = omega (arith, one, more);
-        few = subst (λ n. n ≤ 128) (sym (counted_is program (new_frame callee locals) (g ∷ waiting) ∙ ap (one_more (is_init_method program callee)) (counted_like program f g waiting w.method)))
+        few =
+            subst (λ n. n ≤ 128) (sym (counted_is program (new_frame callee locals) (g ∷ waiting)
+            ∙ ap (one_more (is_init_method program callee)) (counted_like program f g waiting w.method)))
             (room_for (is_init_method program callee) (counted_frames program (f ∷ waiting)) run.few e);
         top = w.enters;
         below = (w.waits, subst (λ m. FitEachWaiting program m waiting) (sym w.method) run.below);
@@ -120,7 +138,8 @@ module _ {program : Program} {s : Shared} {f : Frame} {c : Linked} {b : Body} {i
       }
 
   -- the frame below goes on
-  left_lands : (v : Option Value) → ReturnFits program s.heap (returns_of b) v → (frames : List Frame) → FitEachWaiting program f.method frames → AllByRecursion (AreThereIn program s.heap) frames → counted_frames program frames ≤ 128
+  left_lands : (v : Option Value) → ReturnFits program s.heap (returns_of b) v → (frames : List Frame)
+      → FitEachWaiting program f.method frames → AllByRecursion (AreThereIn program s.heap) frames → counted_frames program frames ≤ 128
       → FitsThread program s.heap (left v frames)
   unfolding ReturnFits
   left_lands v r [] w a n = tt
@@ -140,8 +159,13 @@ module _ {program : Program} {s : Shared} {f : Frame} {c : Linked} {b : Body} {i
       value_there x (Some type) q = q.1
 
       by : (o : Option Value) → ReturnFits program s.heap (returns_of b) o → FitsThread program s.heap (running (given_back o g) frames)
-      by None q = running_on (given_back None g) refl (back_fits program s.heap f.method c b g None p here.class_is here.body_is w.0 q) (record { locals = a.0.locals; stack = a.0.stack })
-      by (Some x) q = running_on (given_back (Some x) g) refl (back_fits program s.heap f.method c b g (Some x) p here.class_is here.body_is w.0 q) (record { locals = a.0.locals; stack = (value_there x (returns_of b) q, a.0.stack) })
+      by None q =
+          running_on (given_back None g) refl (back_fits program s.heap f.method c b g None p here.class_is here.body_is w.0 q)
+          (record { locals = a.0.locals; stack = a.0.stack })
+      by (Some x) q =
+          running_on (given_back (Some x) g) refl
+          (back_fits program s.heap f.method c b g (Some x) p here.class_is here.body_is w.0 q)
+          (record { locals = a.0.locals; stack = (value_there x (returns_of b) q, a.0.stack) })
 
   pub lands : (r : Result) → Fine program s f b r → Lands program s (after_result program r s f waiting)
   unfolding Fine
@@ -150,10 +174,19 @@ module _ {program : Program} {s : Shared} {f : Frame} {c : Linked} {b : Body} {i
   lands (calls callee locals g) w = by (overflows program callee (f ∷ waiting)) refl
     where
       by : (z : Bool) → overflows program callee (f ∷ waiting) ≡ z
-          → Lands program s (cond z (thrown_in program (placed thrown.StackOverflowError s) (f ∷ waiting)) (record { thread = running (new_frame callee locals) (g ∷ waiting); shared = s; hits = [] }))
+          → Lands program s (cond z (thrown_in program (placed thrown.StackOverflowError s) (f ∷ waiting))
+          (record { thread = running (new_frame callee locals) (g ∷ waiting); shared = s; hits = [] }))
       by true e = thrown_lands (placed thrown.StackOverflowError s) (placed_fits program thrown.StackOverflowError s shared)
       by false e = record { thread = calls_lands callee locals g w e; shared = shared; grows = le_refl (length s.heap); hits = tt }
-  lands (leaves v) w = record { hits = tt; thread = left_lands v w waiting run.below run.there.1 (le_trans (counted_more program f waiting) run.few); shared = shared; grows = le_refl (length s.heap) }
+  lands (leaves v) w =
+      record {
+        hits = tt;
+        thread = left_lands v w waiting run.below run.there.1 (le_trans (counted_more program f waiting) run.few);
+        shared = shared;
+        grows = le_refl (length s.heap);
+      }
   lands (raises d) w = thrown_lands (placed d s) (placed_fits program d s shared)
-  lands (throws d v) w = thrown_lands (record { thrown = d; value = v; shared = s }) (record { reference = w.0; there = w.1; shared = shared; grows = le_refl (length s.heap) })
+  lands (throws d v) w =
+      thrown_lands (record { thrown = d; value = v; shared = s })
+      (record { reference = w.0; there = w.1; shared = shared; grows = le_refl (length s.heap) })
   lands gets_stuck w = record { hits = tt; thread = tt; shared = shared; grows = le_refl (length s.heap) }

@@ -60,8 +60,11 @@ performed program s f c b k t (insns.Table low default arms) p w turn = table_at
 performed program s f c b k t (insns.Lookup default arms) p w turn = lookup_at default arms turn
 
 -- a turn of a running thread
-pub running_lands : (program : Program) (s : Shared) (f : Frame) (waiting : List Frame) → IsProgram program → SharedFits program s → FitsRunning program s.heap f waiting → Lands program s (after_result program (result_of program s f) s f waiting)
-running_lands program s f waiting p w run = subst (λ r. Lands program s (after_result program r s f waiting)) (sym result_is) (lands p h.1 w waiting run (result_by program s f run.top.stands.linked run.top.stands.body h.0) fine)
+pub running_lands : (program : Program) (s : Shared) (f : Frame) (waiting : List Frame) → IsProgram program → SharedFits program s
+    → FitsRunning program s.heap f waiting → Lands program s (after_result program (result_of program s f) s f waiting)
+running_lands program s f waiting p w run =
+    subst (λ r. Lands program s (after_result program r s f waiting)) (sym result_is)
+    (lands p h.1 w waiting run (result_by program s f run.top.stands.linked run.top.stands.body h.0) fine)
   where
     h : (insn : Insn) × Here program f run.top.stands.linked run.top.stands.body insn run.top.state
     h = here_of program f run.top.state p run.top.stands
@@ -80,14 +83,16 @@ running_lands program s f waiting p w run = subst (λ r. Lands program s (after_
         (all_at IsWellFormed run.top.stands.body.code f.place h.0 (h.1).whole.well_made.of_any_size.code.well_formed (h.1).insn_is) turn
 
 -- a turn of any thread
-pub turn_lands : (program : Program) (s : Shared) (thread : Thread) → IsProgram program → SharedFits program s → FitsThread program s.heap thread → Lands program s (turn_of program s thread)
+pub turn_lands : (program : Program) (s : Shared) (thread : Thread) → IsProgram program → SharedFits program s
+    → FitsThread program s.heap thread → Lands program s (turn_of program s thread)
 turn_lands program s (running f waiting) p w r = running_lands program s f waiting p w r
 turn_lands program s (returned v) p w r = record { thread = tt; shared = w; grows = le_refl (length s.heap); hits = tt }
 turn_lands program s (threw c) p w r = record { thread = tt; shared = w; grows = le_refl (length s.heap); hits = tt }
 turn_lands program s (stuck method place) p w r = record { thread = tt; shared = w; grows = le_refl (length s.heap); hits = tt }
 
 -- a thread fits where the heap is longer
-pub thread_grows : (program : Program) (heap more : List HeapObject) → length heap ≤ length more → (thread : Thread) → FitsThread program heap thread → FitsThread program more thread
+pub thread_grows : (program : Program) (heap more : List HeapObject) → length heap ≤ length more → (thread : Thread)
+    → FitsThread program heap thread → FitsThread program more thread
 thread_grows program heap more n (running f waiting) r = running_grows program heap more f waiting n r
 thread_grows program heap more n (returned v) r = tt
 thread_grows program heap more n (threw c) r = tt
@@ -98,14 +103,17 @@ pub world_lands : (program : Program) (w : World) (t : ℕ) (a : After) → Fits
 world_lands program w t a h l = record {
   statics = (l.shared).statics;
   threads = set_each (FitsThread program a.shared.heap) w.threads t a.thread
-      (each_to (FitsThread program w.shared.heap) (FitsThread program a.shared.heap) w.threads (thread_grows program w.shared.heap a.shared.heap l.grows) h.threads) l.thread;
+      (each_to (FitsThread program w.shared.heap) (FitsThread program a.shared.heap) w.threads
+      (thread_grows program w.shared.heap a.shared.heap l.grows) h.threads) l.thread;
   there = (l.shared).there;
 }
 
 -- what a turn of the world leaves
-pub world_turn : (program : Program) (w : World) (t : ℕ) (thread : Thread) → IsProgram program → FitsWorld program w → slice_get w.threads t ≡ Some thread → Lands program w.shared (turn_of program w.shared thread)
+pub world_turn : (program : Program) (w : World) (t : ℕ) (thread : Thread) → IsProgram program → FitsWorld program w
+    → slice_get w.threads t ≡ Some thread → Lands program w.shared (turn_of program w.shared thread)
 world_turn program w t thread p h e =
-    turn_lands program w.shared thread p (record { statics = h.statics; there = h.there }) (get_each (FitsThread program w.shared.heap) w.threads t thread h.threads e)
+    turn_lands program w.shared thread p (record { statics = h.statics; there = h.there })
+    (get_each (FitsThread program w.shared.heap) w.threads t thread h.threads e)
 
 pub step_fits : StepFits
 unfolding step
@@ -126,12 +134,14 @@ step_hits program w t p h g = by (slice_get w.threads t) refl
 -- ---- runs
 
 -- the entries that threads are given are those that are looked up
-pub entries_are : (program : Program) (threads : List ThreadLine) (entries : List Entry) → AreEntries program threads entries → entries_of program threads ≡ entries
+pub entries_are : (program : Program) (threads : List ThreadLine) (entries : List Entry) → AreEntries program threads entries
+    → entries_of program threads ≡ entries
 entries_are program [] [] a = refl
 entries_are program [] (entry ∷ entries) a = absurd a
 entries_are program (thread ∷ threads) [] a = absurd a
 entries_are program (thread ∷ threads) (entry ∷ entries) a =
-    ap (λ o. elim o [ None ↦ entries_of program threads | Some x ↦ x ∷ entries_of program threads ]) a.0 ∙ ap (λ l. entry ∷ l) (entries_are program threads entries a.1)
+    ap (λ o. elim o [ None ↦ entries_of program threads | Some x ↦ x ∷ entries_of program threads ]) a.0
+    ∙ ap (λ l. entry ∷ l) (entries_are program threads entries a.1)
 
 -- the world fits, and what was hit until then is probes
 abbrev pub FitsWithHits : Program → World → Type 0
