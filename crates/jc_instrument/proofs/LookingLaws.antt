@@ -16,6 +16,8 @@ use Rattle.jc_bytes.proofs.ListLaws.{below_or_last, put_cases, put_last, put_sta
 use Rattle.jc_kinds.specs.Answers.{IsKindReason, IsKindRefusal}
 use Rattle.jc_kinds.specs.Checked.{Checked, FirstMissing, FirstClash}
 use Rattle.jc_kinds.proofs.CheckLaws.{checked_not_missing, checked_not_clash}
+use Rattle.jc_emit.specs.Refusing.{IsTaken}
+use Rattle.jc_emit.specs.Straddling.{IsEmitReason}
 use Rattle.jc_layout.specs.Layout.{chosen_length}
 use Rattle.jc_plan.specs.Analysed.{all_probes}
 use Rattle.jc_plan.specs.Probed.{first_id, probe_count}
@@ -29,6 +31,7 @@ use Rattle.jc_instrument.specs.Room.{IsFirstThatLacks, LacksRoom}
 use Rattle.jc_instrument.specs.RoomCauses.{probed_code}
 use Rattle.jc_instrument.specs.Steps.{InBodies}
 use Rattle.jc_instrument.specs.declared.found.FrameRefusals.{FrameRefusals}
+use Rattle.jc_instrument.specs.declared.found.RoomRefusals.{RoomRefusals}
 use Rattle.jc_instrument.specs.declared.looking.Looking.{Looking}
 use Rattle.jc_instrument.specs.declared.ready.PlannedBody.{PlannedBody}
 use Rattle.jc_instrument.proofs.PlannedLaws.{planned_grown}
@@ -95,6 +98,22 @@ lack_on kind bodies b None (Some r) none here = last_first kind (LacksRoom kind)
 kept_none : (kind : RefusalKind) (b : Body) (first new : Option Refusal) → KeepsLack kind b first new → new ≡ None → first ≡ None
 kept_none kind b (Some r) new keeps none = absurd (some_is_none r (sym keeps ∙ none))
 kept_none kind b None new keeps none = refl
+
+none_lacks : (kind : RefusalKind) (b : Body) (first new : Option Refusal) → KeepsLack kind b first new → new ≡ None → (place : ℕ) → LacksRoom kind b place → ⊥
+none_lacks kind b (Some r) new keeps none = absurd (some_is_none r (sym keeps ∙ none))
+none_lacks kind b None None keeps none = keeps
+none_lacks kind b None (Some r) keeps none = absurd (some_is_none r none)
+
+-- where no body lacks room, the last is taken
+pub has_taken : (b : Body) (first new : RoomRefusals) → KeepsLack kinds.StraddlingLocal b first.straddling new.straddling
+    → KeepsLack kinds.LocalsFull b first.locals new.locals → KeepsLack kinds.StackFull b first.stack new.stack → HasRoomSoFar new → IsTaken b
+has_taken b first new straddling locals stack has = by
+  where
+    by : (kind : RefusalKind) (place : ℕ) → IsEmitReason b kind place → ⊥
+    by kinds.StraddlingLocal place reason = none_lacks kinds.StraddlingLocal b first.straddling new.straddling straddling has.0 place reason
+    by kinds.LocalsFull place reason = none_lacks kinds.LocalsFull b first.locals new.locals locals has.1 place (reason.1, reason.2)
+    by kinds.StackFull place reason = none_lacks kinds.StackFull b first.stack new.stack stack has.2 place (reason.2, reason.3)
+    by kind place reason = absurd reason
 
 -- ---- ids and lengths, once one more body stands last
 

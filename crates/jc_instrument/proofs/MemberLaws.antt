@@ -88,20 +88,22 @@ module _ (pool : PoolValue) (text : List ℕ) where
       by (inl p) later = absurd (none_named l n a p.1 at is)
       by (inr p) later = λ i. put_other b p.0 i ∷ later p.1 i
 
-  all_other : (l : List Attribute) → NoItem (λ n a. IsTrue (named a)) l → map put l ≡ l
-  all_other [] none = refl
-  all_other (a ∷ l) none = by (named a) refl (all_other l (λ n x at fact. none (suc n) x at fact))
+  none_kept : (l : List Attribute) → NoItem (λ n a. IsTrue (named a)) l → filter named l ≡ []
+  none_kept [] none = refl
+  none_kept (a ∷ l) none = by (named a) refl (none_kept l (λ n x at fact. none (suc n) x at fact))
     where
-      by : (t : Bool) → named a ≡ t → map put l ≡ l → map put (a ∷ l) ≡ a ∷ l
+      by : (t : Bool) → named a ≡ t → filter named l ≡ [] → filter named (a ∷ l) ≡ []
       by true is rest = absurd (none 0 a refl is)
-      by false is rest = λ i. put_other a is i ∷ rest i
+      by false is rest = ap (λ (t : Bool). if t then a ∷ filter named l else filter named l) is ∙ rest
 
-  -- no attribute is named Code
-  pub nothing_put : (method : Member) (l : List Attribute) → l ≡ method.attributes → NoItem (λ n a. IsTrue (named a)) l
-      → method ≡ record method { attributes = map put method.attributes }
-  nothing_put method l is none =
-      let same = all_other method.attributes (subst (NoItem (λ n a. IsTrue (named a))) is none) in
-      sym (ap (λ (r : List Attribute). record method { attributes = r }) same)
+  -- one attribute is named Code
+  pub one_named : (method : Member) (l : List Attribute) → HasOneCode pool method → l ≡ method.attributes → NoItem (λ n a. IsTrue (named a)) l → ⊥
+  one_named method l one is none =
+      let s = single_of one.bytes (filter named method.attributes) one.single in
+      nothing s.0 (sym (none_kept method.attributes (subst (NoItem (λ n a. IsTrue (named a))) is none)) ∙ s.1)
+    where
+      nothing : (x : Attribute) → [] ≡ x ∷ [] → ⊥
+      nothing x e = cc
 
   -- the one attribute that is named Code gets the text
   pub code_put : (method : Member) (n : ℕ) (a : Attribute) → HasOneCode pool method → slice_get method.attributes n ≡ Some a → named a ≡ true

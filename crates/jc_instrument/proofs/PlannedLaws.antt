@@ -1,7 +1,9 @@
 -- Bodies that were kept or are read again, under more names.
-use Rattle.std.proofs.Common.{◌≡◌, ℕ, suc, ◌+◌, ◌≤◌, List, [], ◌∷◌, ◌++◌, Option, Some, None, slice_get, length, map, refl, sym, ◌∙◌, ap, subst}
-use Rattle.std.specs.Prelude.{All, IfSome}
+use Rattle.std.proofs.Common.{◌≡◌, ℕ, zero, suc, ◌+◌, ◌≤◌, Bool, true, false, List, [], ◌∷◌, ◌++◌, Option, Some, None, slice_get, length, map, refl, sym, ◌∙◌, ap, subst, if◌then◌else◌}
+use Rattle.std.specs.Prelude.{IfSome}
+use Rattle.std.specs.List.{list_any}
 use Rattle.std.proofs.lemmas.List.Sums.{sum_by_push}
+use Rattle.std.proofs.lemmas.Option.{none-some, same_Some}
 use Rattle.jc_methods.specs.VerificationTypes.{Names, Grows, AreNumberedFrames, type_state_at}
 use Rattle.jc_methods.specs.WellMade.{IsWellMade}
 use Rattle.jc_methods.specs.declared.body.Body.{Body}
@@ -9,29 +11,30 @@ use Rattle.jc_methods.specs.declared.insn.Insn.{Insn}
 use Rattle.jc_methods.specs.declared.kind.State.{State}
 use Rattle.jc_methods.specs.declared.plan.Plan.{Plan}
 use Rattle.jc_methods.proofs.NumberedLaws.{frames_numbered, grown_count}
-use Rattle.jc_bytes.specs.Reader.{most_read}
-use Rattle.jc_class.specs.Sizes.{BodiesWithin}
-use Rattle.jc_class.specs.Writable.{IsClassFile}
+use Rattle.jc_bytes.specs.declared.fail.Fail.TheVariants as fails
 use Rattle.jc_class.specs.declared.class_file.ClassFile.{ClassFile}
 use Rattle.jc_body.specs.BodyOf.{BodyOf}
 use Rattle.jc_plan.specs.Plan.{plan_of}
 use Rattle.jc_plan.specs.Probed.{first_id}
 use Rattle.jc_kinds.specs.Answers.{AreStates}
+use Rattle.jc_kinds.specs.Checked.{Checked}
 use Rattle.jc_emit.specs.Emission.{emission}
-use Rattle.jc_emit.specs.Refusing.{HasRoom}
+use Rattle.jc_emit.specs.Refusing.{HasRoom, IsTaken}
 use Rattle.jc_layout.specs.Layout.{chosen_length}
 use Rattle.jc_layout.specs.declared.layouts.Laid.{Laid}
 use Rattle.jc_instrument_code.proofs.LaidLaws.{laid_length}
-use Rattle.jc_instrument_reread.proofs.SameBodyLaws.{grown_same}
+use Rattle.jc_instrument_reread.proofs.SameBodyLaws.{grown_same, same_check}
+use Rattle.jc_instrument.specs.Bodies.{AreBodies}
 use Rattle.jc_instrument.specs.BodiesWithStates.{BodyWithStates}
 use Rattle.jc_instrument.specs.KeptStates.{places_kept, planned_places}
 use Rattle.jc_instrument.specs.Looking.{PutsPlanned}
-use Rattle.jc_instrument.specs.Ready.{ArePlanned, AreReadyIfKept, IsLaidFor, IsPlannedBody, IsReadyIfKept, method_of}
+use Rattle.jc_instrument.specs.Ready.{ArePlanned, AreReadyFrom, IsLaidFor, IsPlannedBody, IsReadAgain, IsReadyFrom, IsSource, TakesProbes, is_unread, method_of, source_of}
 use Rattle.jc_instrument.specs.RoomCauses.{probed_code}
-use Rattle.jc_instrument.specs.Writing.{IsPlannedWork, IsSource, IsWorkOf}
+use Rattle.jc_instrument.specs.Writing.{IsPlannedWork, IsWorkOf}
 use Rattle.jc_instrument.specs.declared.ready.PlannedBody.{PlannedBody}
 use Rattle.jc_instrument.specs.declared.ready.PlannedBody.TheVariants.{Ready, Unread}
 use Rattle.jc_instrument.specs.declared.ready.ReadyBody.{ReadyBody}
+use Rattle.jc_instrument.specs.declared.ready.UnreadBody.{UnreadBody}
 use Rattle.jc_instrument.proofs.OneBodyLaws.{grown_body}
 use Rattle.jc_instrument.proofs.ProbingLaws.{emission_code}
 use Rattle.jc_instrument.proofs.WritingLaws.{ready_grown}
@@ -41,14 +44,28 @@ pub planned_method : (names : Names) (b : Body) (first : ℕ) (p : PlannedBody) 
 planned_method names b first (Ready r) is = ap (λ (x : Body). x.method) is.1
 planned_method names b first (Unread u) is = is.0
 
-pub ready_if_kept : (names : Names) (b : Body) (first : ℕ) (p : PlannedBody) → IsPlannedBody names b first p → IsReadyIfKept names p
-ready_if_kept names b first (Ready r) is = is.0
-ready_if_kept names b first (Unread u) is = tt
+-- what is said isn't want of memory
+pub none_said : {E : Type 0} (e : E) → fails.Said e ≡ fails.Memory → ⊥
+none_said e is = cc
+
+-- a body that passes the kind check passes it under more names
+pub check_grown : (old new : Names) (b : Body) → Grows old new → AreNumberedFrames (length old) b.frames → Checked old b → Checked new b
+check_grown old new b grows numbered checked = same_check old new b b (grown_same old new b grows numbered) checked
 
 module _ (old new : Names) (grows : Grows old new) where
-  pub kept_grown : (p : PlannedBody) → IsReadyIfKept old p → IsReadyIfKept new p
-  kept_grown (Ready r) ready = ready_grown old new r grows ready
-  kept_grown (Unread u) ready = tt
+  pub again_grown : (c : ClassFile) (u : UnreadBody) → IsReadAgain old c u → IsReadAgain new c u
+  again_grown c u a = record {
+    source = a.source;
+    body = a.body;
+    is = grown_body old new c u.method a.body grows a.is;
+    checked = check_grown old new a.body grows a.is.is.parts.numbers a.checked;
+    takes = a.takes;
+  }
+
+  pub ready_from_grown : (source : Option ClassFile) (p : PlannedBody) → IsReadyFrom old source p → IsReadyFrom new source p
+  ready_from_grown source (Ready r) ready = ready_grown old new r grows ready
+  ready_from_grown None (Unread u) ready = absurd ready
+  ready_from_grown (Some c) (Unread u) ready = again_grown c u ready
 
   pub planned_grown : (b : Body) (first : ℕ) (p : PlannedBody) → IsPlannedBody old b first p → IsPlannedBody new b first p
   planned_grown b first (Ready r) is = (ready_grown old new r grows is.0, is.1, is.2)
@@ -104,11 +121,12 @@ module _ (names : Names) (b : Body) (plan : Plan) (first : ℕ) (l : Laid) (plan
       short = laid_short;
     }
 
-    pub puts_unread : new ≡ old ++ Unread (record { method = b.method; first = first }) ∷ [] → PutsPlanned names b first old new
-    puts_unread put = record {
+    pub puts_unread : IsWellMade b → IsTaken b → plan.next ≤ 32767 → new ≡ old ++ Unread (record { method = b.method; first = first }) ∷ []
+        → PutsPlanned names b first old new
+    puts_unread made taken few put = record {
       planned = Unread (record { method = b.method; first = first });
       put = put;
-      is = (refl, refl);
+      is = (refl, refl, record { made = made; taken = taken; next = subst (λ (p : Plan). p.next ≤ 32767) plan_is few; short = laid_short });
       short = laid_short;
     }
 
@@ -116,20 +134,45 @@ module _ (names : Names) (b : Body) (plan : Plan) (first : ℕ) (l : Laid) (plan
 pub places_put : (old new : List PlannedBody) (p : PlannedBody) → new ≡ old ++ p ∷ [] → places_kept new ≡ places_kept old + planned_places p
 places_put old new p put = ap places_kept put ∙ sum_by_push planned_places old p
 
--- ---- lists of them
+-- ---- the class file from which bodies are read again
 
-all_if_kept : (names : Names) (planned : List PlannedBody) → ((i : ℕ) (p : PlannedBody) → slice_get planned i ≡ Some p → IsReadyIfKept names p)
-    → AreReadyIfKept names planned
-all_if_kept names [] each = tt
-all_if_kept names (p ∷ planned) each = (each 0 p refl, all_if_kept names planned (λ i q at. each (suc i) q at))
+-- if there is one, it is the class
+pub source_is : (planned : List PlannedBody) (c : ClassFile) (source : Option ClassFile) → source ≡ source_of planned c → IfSome source (λ s. s ≡ c)
+source_is planned c source is = subst (λ (o : Option ClassFile). IfSome o (λ s. s ≡ c)) (sym is) (by (list_any is_unread planned))
+  where
+    by : (t : Bool) → IfSome (if t then Some c else None) (λ s. s ≡ c)
+    by true = refl
+    by false = tt
 
-pub are_ready_if_kept : (names : Names) (bodies : List Body) (planned : List PlannedBody) → ArePlanned names bodies planned → AreReadyIfKept names planned
-are_ready_if_kept names bodies planned so = all_if_kept names planned (λ i p at.
-    let one = so.each i p at in
-    ready_if_kept names one.body (first_id bodies i) p one.is)
+-- one of them is to be read again
+is_some : (planned : List PlannedBody) (i : ℕ) (u : UnreadBody) → slice_get planned i ≡ Some (Unread u) → list_any is_unread planned ≡ true
+is_some [] i u at = absurd (none-some (Unread u) at)
+is_some (Unread v ∷ planned) i u at = refl
+is_some (Ready r ∷ planned) zero u at = absurd (kept_or_unread (same_Some (Ready r) (Unread u) at))
+  where
+    kept_or_unread : Ready r ≡ Unread u → ⊥
+    kept_or_unread e = cc
+is_some (Ready r ∷ planned) (suc i) u at = is_some planned i u at
 
--- a class file that is the class can be read from
-pub is_source : (c : ClassFile) (source : Option ClassFile) → IsClassFile c → All (λ m. BodiesWithin most_read m.attributes) c.methods
-    → IfSome source (λ s. s ≡ c) → IfSome source IsSource
-is_source c None class sizes same = tt
-is_source c (Some s) class sizes same = subst IsSource (sym same) (record { class = class; sizes = sizes })
+module _ (names : Names) (c : ClassFile) (bodies : List Body) (planned : List PlannedBody) (are : AreBodies names c bodies)
+    (checked : (i : ℕ) (b : Body) → slice_get bodies i ≡ Some b → Checked names b) (so : ArePlanned names bodies planned) (from : IsSource c) where
+  one_ready : (i : ℕ) (p : PlannedBody) → slice_get planned i ≡ Some p → IsReadyFrom names (source_of planned c) p
+  one_ready i (Ready r) at = (so.each i (Ready r) at).is.0
+  one_ready i (Unread u) at =
+      let one = so.each i (Unread u) at in
+      subst (λ (t : Bool). IsReadyFrom names (if t then Some c else None) (Unread u)) (sym (is_some planned i u at)) (record {
+        source = from;
+        body = one.body;
+        is = subst (λ (n : ℕ). BodyOf names c n one.body) (sym one.is.0) (are.each i one.body one.stands);
+        checked = checked i one.body one.stands;
+        takes = subst (TakesProbes one.body) (sym one.is.1) one.is.2;
+      })
+
+  all_ready : (source : Option ClassFile) (rest : List PlannedBody) → ((i : ℕ) (p : PlannedBody) → slice_get rest i ≡ Some p → IsReadyFrom names source p)
+      → AreReadyFrom names source rest
+  all_ready source [] each = tt
+  all_ready source (p ∷ rest) each = (each 0 p refl, all_ready source rest (λ i q at. each (suc i) q at))
+
+  -- each that was kept is ready, and each other is read again from the class
+  pub are_ready_from : (source : Option ClassFile) → source ≡ source_of planned c → AreReadyFrom names source planned
+  are_ready_from source is = subst (λ (o : Option ClassFile). AreReadyFrom names o planned) (sym is) (all_ready (source_of planned c) planned one_ready)

@@ -26,13 +26,13 @@ use Rattle.jc_instrument_code.specs.TwinCode.{written_frames}
 use Rattle.jc_instrument_code.specs.declared.code.CodePlaces.{CodePlaces}
 use Rattle.jc_instrument.specs.BodiesWithStates.{BodyWithStates, all_frames, emitted_of}
 use Rattle.jc_instrument.specs.Members.{AreCoded, HasOneCode, IsCoded}
-use Rattle.jc_instrument.specs.Ready.{AreReadyIfKept, IsReadyIfKept, method_of}
+use Rattle.jc_instrument.specs.Ready.{AreReadyFrom, IsReadyFrom, method_of}
 use Rattle.jc_instrument.specs.TwinText.{twin_method, twin_methods, with_code, work_of}
 use Rattle.jc_instrument.specs.Writing.{AreAllNamed, ArePlannedWorks, ArePut, IsPlannedWork, IsWrittenBody, KeepsClasses, code_over}
 use Rattle.jc_instrument.specs.declared.ready.PlannedBody.{PlannedBody}
 use Rattle.jc_instrument.proofs.KeptPoolLaws.{takes_keep}
 use Rattle.jc_instrument.proofs.MemberLaws.{one_changed, other_kept, unchanged}
-use Rattle.jc_instrument.proofs.PlannedLaws.{kept_grown, planned_method, planned_work_on}
+use Rattle.jc_instrument.proofs.PlannedLaws.{planned_method, planned_work_on, ready_from_grown}
 use Rattle.jc_instrument.proofs.TwinMethodLaws.{same_attributes, same_code}
 
 -- ---- lists
@@ -148,15 +148,15 @@ module _ (first : Names) (source : Option ClassFile) (old : PoolValue) (places :
   }
 
   module _ (n : ℕ) (names : Names) (pool : PoolValue) (now : List Member) (r : PlannedBody) (less : n < length ready) (is : r ≡ get_or ready n r)
-      (all : AreReadyIfKept first ready) (so : IsPutting n names pool now) where
+      (all : AreReadyFrom first source ready) (so : IsPutting n names pool now) where
     split : drop n ready ≡ r ∷ drop (n + 1) ready
     split = drop_is ready n r less is
 
-    pub next_first : IsReadyIfKept first r
-    next_first = all_at (IsReadyIfKept first) ready n r all (slice_get_read ready (length ready) n r refl less is)
+    pub next_first : IsReadyFrom first source r
+    next_first = all_at (IsReadyFrom first source) ready n r all (slice_get_read ready (length ready) n r refl less is)
 
-    pub next_ready : IsReadyIfKept names r
-    next_ready = kept_grown first names so.grows r next_first
+    pub next_ready : IsReadyFrom names source r
+    next_ready = ready_from_grown first names so.grows source r next_first
 
     coded_now : AreCoded old now (r ∷ drop (n + 1) ready)
     coded_now = subst (AreCoded old now) split so.coded

@@ -34,6 +34,14 @@ each_extends old new [] places takes = same_extends old new takes.0
 each_extends old new (c ∷ cs) places takes =
     extends_more old takes.0 new (takes_extends old takes.0 c takes.1 takes.4) (each_extends takes.0 new cs takes.2 takes.5)
 
+-- each has one place
+pub takes_count : (old new : PoolValue) (cs : List Content) (places : List ℕ) → TakesEach old cs new places → length places ≡ length cs
+takes_count old new [] places takes = ap (λ (l : List ℕ). length l) takes.1
+takes_count old new (c ∷ cs) places takes =
+    let rest = takes_count takes.0 new cs takes.2 takes.5 in
+    let more = ap (λ (l : List ℕ). length l) takes.3 in
+    omega (arith, rest, more)
+
 -- ---- it always can, if its count has no limit
 
 -- no name with a descriptor alone

@@ -1,23 +1,32 @@
 -- Bodies of a class that are ready for their instrumented code to be written: each with its plan and its layout.
-use Rattle.std.specs.Prelude.{◌≡◌, ⊤, ℕ, ◌≤◌, List, length, Some, slice_get}
-use Rattle.std.specs.List.{AllByRecursion}
+use Rattle.std.specs.Prelude.{◌≡◌, ℕ, ◌≤◌, Bool, true, false, List, length, Option, Some, None, All, slice_get, MatchOption, if◌then◌else◌}
+use Rattle.std.specs.List.{AllByRecursion, list_any}
+use Rattle.jc_bytes.specs.Reader.{most_read}
 use Rattle.jc_methods.specs.VerificationTypes.{AreNumberedFrames, Names}
 use Rattle.jc_methods.specs.WellMade.{IsWellMade}
 use Rattle.jc_methods.specs.declared.body.Body.{Body}
 use Rattle.jc_methods.specs.declared.kind.State.{State}
 use Rattle.jc_methods.specs.declared.plan.Plan.{Plan}
+use Rattle.jc_class.specs.Sizes.{BodiesWithin}
+use Rattle.jc_class.specs.Writable.{IsClassFile}
+use Rattle.jc_class.specs.declared.class_file.ClassFile.{ClassFile}
+use Rattle.jc_body.specs.BodyOf.{BodyOf}
 use Rattle.jc_kinds.specs.Answers.{AreStates}
+use Rattle.jc_kinds.specs.Checked.{Checked}
 use Rattle.jc_plan.specs.Plan.{plan_of}
 use Rattle.jc_plan.specs.Probed.{first_id}
 use Rattle.jc_emit.specs.Emission.{emission}
 use Rattle.jc_emit.specs.Placing.{HasPlan}
-use Rattle.jc_emit.specs.Refusing.{HasRoom}
+use Rattle.jc_emit.specs.Refusing.{HasRoom, IsTaken}
+use Rattle.jc_layout.specs.Layout.{chosen_length}
 use Rattle.jc_layout.specs.declared.layouts.Laid.{Laid}
 use Rattle.jc_instrument_code.specs.Given.{IsLaid}
 use Rattle.jc_instrument.specs.Probing.{AreShortBelow}
+use Rattle.jc_instrument.specs.RoomCauses.{probed_code}
 use Rattle.jc_instrument.specs.declared.ready.ReadyBody.{ReadyBody}
 use Rattle.jc_instrument.specs.declared.ready.PlannedBody.{PlannedBody}
 use Rattle.jc_instrument.specs.declared.ready.PlannedBody.TheVariants.{Ready, Unread}
+use Rattle.jc_instrument.specs.declared.ready.UnreadBody.{UnreadBody}
 
 -- ---- a body that was kept
 
@@ -35,24 +44,54 @@ pub record IsReady (names : Names) (r : ReadyBody) : Type 0 where
   pub laid : IsLaidFor r.body r.plan r.laid
   pub states : AreStates names r.body r.states
 
+-- ---- a body that is read again
+
+-- the body has room for its probes, whose ids begin with this one, and its instrumented code isn't too large
+pub record TakesProbes (b : Body) (first : ℕ) : Type 0 where
+  pub made : IsWellMade b
+  pub taken : IsTaken b
+  pub next : (plan_of b first).next ≤ 32767
+  pub short : chosen_length (probed_code b first) ≤ 65535
+
+-- the class file can be read from, body by body
+pub record IsSource (c : ClassFile) : Type 0 where
+  pub class : IsClassFile c
+  pub sizes : All (λ m. BodiesWithin most_read m.attributes) c.methods
+
+-- the body of its method in this class file passes the kind check and takes its probes
+pub record IsReadAgain (names : Names) (c : ClassFile) (u : UnreadBody) : Type 0 where
+  pub source : IsSource c
+  pub body : Body
+  pub is : BodyOf names c u.method body
+  pub checked : Checked names body
+  pub takes : TakesProbes body u.first
+
 -- ---- a body that was kept or is read again
 
 abbrev pub method_of : PlannedBody → ℕ
 method_of (Ready r) = r.body.method
 method_of (Unread u) = u.method
 
--- if it was kept, it is ready
-abbrev pub IsReadyIfKept : Names → PlannedBody → Type 0
-IsReadyIfKept names (Ready r) = IsReady names r
-IsReadyIfKept names (Unread u) = ⊤
+abbrev pub is_unread : PlannedBody → Bool
+is_unread (Ready r) = false
+is_unread (Unread u) = true
 
-abbrev pub AreReadyIfKept : Names → List PlannedBody → Type 0
-AreReadyIfKept names planned = AllByRecursion (IsReadyIfKept names) planned
+-- it was kept and is ready, or there is a class file from which it is read again
+abbrev pub IsReadyFrom : Names → Option ClassFile → PlannedBody → Type 0
+IsReadyFrom names source (Ready r) = IsReady names r
+IsReadyFrom names source (Unread u) = MatchOption source ⊥ (λ c. IsReadAgain names c u)
+
+abbrev pub AreReadyFrom : Names → Option ClassFile → List PlannedBody → Type 0
+AreReadyFrom names source planned = AllByRecursion (IsReadyFrom names source) planned
+
+-- the class as it was given, if one of its bodies is to be read again
+abbrev pub source_of : List PlannedBody → ClassFile → Option ClassFile
+source_of planned c = if list_any is_unread planned then Some c else None
 
 -- it stands for this body, whose ids begin with this one
 abbrev pub IsPlannedBody : Names → Body → (first : ℕ) → PlannedBody → Type 0
 IsPlannedBody names b first (Ready r) = IsReady names r × (r.body ≡ b) × (r.plan ≡ plan_of b first)
-IsPlannedBody names b first (Unread u) = (u.method ≡ b.method) × (u.first ≡ first)
+IsPlannedBody names b first (Unread u) = (u.method ≡ b.method) × (u.first ≡ first) × TakesProbes b first
 
 -- ---- lists of them
 

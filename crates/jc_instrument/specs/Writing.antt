@@ -1,5 +1,5 @@
 -- What is written of the bodies of a class, one after the other, while the pool takes the classes that their frames name.
-use Rattle.std.specs.Prelude.{◌≡◌, ⊤, ℕ, Bool, List, length, map, All, Option, IfSome}
+use Rattle.std.specs.Prelude.{◌≡◌, ⊤, ℕ, Bool, List, length, map, Option, IfSome}
 use Rattle.std.specs.List.{AllByRecursion, AllZip}
 use Rattle.jc_bytes.specs.declared.fail.Fail.{Fail}
 use Rattle.jc_bytes.specs.declared.fail.Fail.TheVariants as fails
@@ -13,10 +13,7 @@ use Rattle.jc_pool.specs.Lookup.{class_name_of}
 use Rattle.jc_pool.specs.Pool.{PoolValue}
 use Rattle.jc_pool.specs.declared.add.PoolFull.{PoolFull}
 use Rattle.jc_bytes.specs.ByteLists.{AreBytes}
-use Rattle.jc_bytes.specs.Reader.{most_read}
 use Rattle.jc_class.specs.ClassText.{ClassText}
-use Rattle.jc_class.specs.Sizes.{BodiesWithin}
-use Rattle.jc_class.specs.Writable.{IsClassFile}
 use Rattle.jc_class.specs.declared.class_file.ClassFile.{ClassFile}
 use Rattle.jc_class.specs.declared.class_file.Member.{Member}
 use Rattle.jc_body.specs.BodyOf.{BodyOf}
@@ -52,15 +49,6 @@ pub record IsWorkOf (names others : Names) (array : ℕ) (r : ReadyBody) (w : Bo
   pub seen : map (type_state_at names) r.body.frames ≡ map (type_state_at others) r.body.frames
   pub states : AreStates others w.body w.states
   pub array_is : IsArrayNumber others array
-
--- the bytes are the text of no other class
-pub record IsOnlyText (bytes : List ℕ) (c : ClassFile) : Type 0 where
-  pub only : (d : ClassFile) → ClassText bytes d → d ≡ c
-
--- the class file can be read from, body by body
-pub record IsSource (c : ClassFile) : Type 0 where
-  pub class : IsClassFile c
-  pub sizes : All (λ m. BodiesWithin most_read m.attributes) c.methods
 
 -- What is planned under these names stands for the body of the work under the others, by which its frames say the same. If there is
 -- a class file to read from, the body is that of its method.

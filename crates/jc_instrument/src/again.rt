@@ -1,36 +1,49 @@
 //! Bodies that weren't kept are read again, one at a time.
-ghost use Rattle.std.specs.Prelude.{◌≡◌, ◌≤◌, ℕ, length, All, IfOk, IfErr, IfSome};
+ghost use Rattle.std.specs.Prelude.{◌≡◌, ◌≤◌, ℕ, length, IfOk, IfErr, IfSome};
+ghost use Rattle.std.specs.List.{list_any};
 ghost use Rattle.jc_bytes.specs.Reader.{most_read};
 ghost use Rattle.jc_methods.specs.VerificationTypes.{AreNumberedFrames, Grows, Names as ClassNames};
 ghost use Rattle.jc_methods.specs.WellMade.{IsWellMade};
 ghost use Rattle.jc_methods.specs.declared.body.Body.{Body as MethodBody};
-ghost use Rattle.jc_class.specs.Sizes.{BodiesWithin};
-ghost use Rattle.jc_class.specs.Writable.{IsClassFile};
+ghost use Rattle.jc_class.specs.ClassText.{ClassText};
 ghost use Rattle.jc_class.specs.declared.class_file.ClassFile.{ClassFile as ClassOf};
 ghost use Rattle.jc_body.specs.BodyOf.{BodyOf};
 ghost use Rattle.jc_frames.specs.FullTable.{RefusesClasses, named_by_all};
+ghost use Rattle.jc_kinds.specs.Answers.{AreStates};
+ghost use Rattle.jc_kinds.specs.Checked.{Checked};
+ghost use Rattle.jc_emit.specs.Refusing.{HasRoom};
 ghost use Rattle.jc_plan.specs.Plan.{plan_of};
 ghost use Rattle.jc_pool.specs.Adding.{Extends};
 ghost use Rattle.jc_instrument_code.specs.TwinCode.{written_frames};
 ghost use Rattle.jc_instrument.specs.BodiesWithStates.{BodyWithStates, emitted_of};
-ghost use Rattle.jc_instrument.specs.Ready.{IsPlannedBody, IsReady, IsReadyIfKept};
-ghost use Rattle.jc_instrument.specs.Writing.{IsOnlyText, IsPlannedWork, IsSource, IsWrittenBody};
+ghost use Rattle.jc_instrument.specs.Ready.{IsLaidFor, IsPlannedBody, IsReadAgain, IsReady, IsReadyFrom, TakesProbes, is_unread, source_of};
+ghost use Rattle.jc_instrument.specs.Writing.{IsPlannedWork, IsWrittenBody};
 
-use crate::looking::MOST_PROBES;
-use crate::ready::{PlannedBody, ReadyBody, UnreadBody, bounded_plan, laid_body};
+use crate::ready::{PlannedBody, ReadyBody, UnreadBody, laid_body};
 use crate::writing::body_text;
 use jc_body::read_body;
 use jc_bytes::{Bytes, Fail, List, Memory, Names};
 use jc_class::{ClassFile, read_class};
 use jc_instrument_code::CodePlaces;
 use jc_kinds::states;
-use jc_methods::Body;
+use jc_layout::Laid;
+use jc_methods::{Body, Plan, State};
+use jc_plan::plan;
 use jc_pool::{Pool, PoolFull};
 use std::alloc::Global;
 
 /// Whether the body is to be read again.
-fn is_unread(planned: &PlannedBody) -> bool {
+fn is_unread(planned: &PlannedBody) -> bool
+    ensures { result ≡ is_unread planned.now }
+{
     matches!(planned, PlannedBody::Unread(_))
+}
+
+/// Whether one of the bodies is.
+fn some_unread(bodies: &[PlannedBody]) -> bool
+    ensures { result ≡ list_any is_unread bodies.now }
+{
+    bodies.iter().any(|body| is_unread(body))
 }
 
 /// The class file as it was given, if one of these bodies is to be read again.
@@ -39,79 +52,93 @@ pub fn source_of(
     bytes: &[u8],
     bodies: &[PlannedBody],
 ) -> Result<Option<ClassFile>, Memory>
-    requires { length bytes.now ≤ most_read }
-    ensures { (c : ClassOf) → IsOnlyText bytes.now c → IfOk result (λ source. IfSome source (λ s. s ≡ c)) }
+    requires size { length bytes.now ≤ most_read }
+    requires text { (c : ClassOf) × ClassText bytes.now c }
+    ensures { (c : ClassOf) → ClassText bytes.now c → IfOk result (λ source. source ≡ source_of bodies.now c) }
 {
-    if !bodies.iter().any(|body| is_unread(body)) {
+    if !some_unread(bodies) {
         return Ok(None);
     }
     match read_class(alloc, bytes) {
         Ok(class) => Ok(Some(class)),
-        Err(_) => Err(Memory),
+        Err(Fail::Memory) => Err(Memory),
+        Err(Fail::Said(_)) => unreachable!(),
+    }
+}
+
+/// The layout of the instrumented code of a body that takes its probes.
+fn laid_again(alloc: Global, body: &Body, plan: &Plan) -> Result<Laid, Memory>
+    requires { (first : ℕ) × (plan.now ≡ plan_of body.now first) × TakesProbes body.now first }
+    ensures laid { IfOk result (IsLaidFor body.now plan.now) }
+    ensures room { IfOk result (λ _. HasRoom body.now) }
+{
+    match laid_body(alloc, body, plan) {
+        Ok(laid) => Ok(laid),
+        Err(Fail::Memory) => Err(Memory),
+        Err(Fail::Said(_)) => unreachable!(),
+    }
+}
+
+/// The states of a body that passes the kind check.
+fn states_again(alloc: Global, body: &Body, names: &mut Names) -> Result<List<State>, Memory>
+    requires made { IsWellMade body.now }
+    requires frames { AreNumberedFrames (length names.old) body.now.frames }
+    requires checked { Checked names.old body.now }
+    ensures states { IfOk result (AreStates names.new body.now) }
+    ensures names { Grows names.old names.new }
+{
+    match states(alloc, body, names) {
+        Ok(found) => Ok(List::from_vec(found)),
+        Err(Fail::Memory) => Err(Memory),
+        Err(Fail::Said(_)) => unreachable!(),
     }
 }
 
 /// A body whose ids begin with this one, ready for its instrumented code to be written.
-///
-/// # Errors
-///
-/// `Memory` where memory was refused, and where the body gets no probes.
 fn ready_again(
     alloc: Global,
     body: Body,
     first: u32,
     names: &mut Names,
 ) -> Result<ReadyBody, Memory>
-    requires made { IsWellMade body }
+    requires takes { TakesProbes body first }
     requires frames { AreNumberedFrames (length names.old) body.frames }
+    requires checked { Checked names.old body }
     ensures ready { IfOk result (IsReady names.new) }
     ensures body { IfOk result (λ r. r.body ≡ body) }
     ensures plan { IfOk result (λ r. r.plan ≡ plan_of r.body first) }
     ensures names { Grows names.old names.new }
 {
-    let plan = bounded_plan(alloc, &body, first)?;
-    if plan.next > MOST_PROBES {
-        return Err(Memory);
-    }
-    let Ok(laid) = laid_body(alloc, &body, &plan) else {
-        return Err(Memory);
-    };
-    let Ok(found) = states(alloc, &body, names) else {
-        return Err(Memory);
-    };
+    let plan = plan(alloc, &body, first)?;
+    let laid = laid_again(alloc, &body, &plan)?;
+    let states = states_again(alloc, &body, names)?;
     Ok(ReadyBody {
         body,
         plan,
         laid,
-        states: List::from_vec(found),
+        states,
     })
 }
 
 /// The body is read again, and made ready.
-///
-/// # Errors
-///
-/// `Memory` where memory was refused, and where the method has no body that gets probes.
 fn read_again(
     alloc: Global,
     class: &ClassFile,
     unread: UnreadBody,
     names: &mut Names,
 ) -> Result<ReadyBody, Memory>
-    requires class { IsClassFile class.now }
-    requires sizes { All (λ m. BodiesWithin most_read m.attributes) class.now.methods }
+    requires { IsReadAgain names.old class.now unread }
     ensures ready { IfOk result (IsReady names.new) }
     ensures body { (b : MethodBody) → BodyOf names.old class.now unread.method b → IfOk result (λ r. r.body ≡ b) }
     ensures plan { IfOk result (λ r. r.plan ≡ plan_of r.body unread.first) }
     ensures names { Grows names.old names.new }
 {
-    if usize::from(unread.method) >= class.methods.len() {
-        return Err(Memory);
+    match read_body(alloc, class, u32::from(unread.method), names) {
+        Ok(Some(body)) => ready_again(alloc, body, unread.first, names),
+        Ok(None) => unreachable!(),
+        Err(Fail::Memory) => Err(Memory),
+        Err(Fail::Said(_)) => unreachable!(),
     }
-    let Ok(Some(body)) = read_body(alloc, class, u32::from(unread.method), names) else {
-        return Err(Memory);
-    };
-    ready_again(alloc, body, unread.first, names)
 }
 
 /// The body, ready for its instrumented code to be written. One that wasn't kept is read again from the class file as it
@@ -122,8 +149,7 @@ fn ready_body(
     source: &Option<ClassFile>,
     names: &mut Names,
 ) -> Result<ReadyBody, Memory>
-    requires ready { IsReadyIfKept names.old planned }
-    requires source { IfSome source.now IsSource }
+    requires { IsReadyFrom names.old source.now planned }
     ensures ready { IfOk result (IsReady names.new) }
     ensures body { (b : MethodBody) (first : ℕ) → IsPlannedBody names.old b first planned
         → IfSome source.now (λ c. BodyOf names.old c b.method b) → IfOk result (λ r. r.body ≡ b) }
@@ -135,7 +161,7 @@ fn ready_body(
         PlannedBody::Ready(ready) => Ok(ready),
         PlannedBody::Unread(unread) => match source {
             Some(class) => read_again(alloc, class, unread, names),
-            None => Err(Memory),
+            None => unreachable!(),
         },
     }
 }
@@ -155,8 +181,7 @@ pub fn planned_text(
     names: &mut Names,
     pool: &mut Pool,
 ) -> Result<Bytes, Fail<PoolFull>>
-    requires ready { IsReadyIfKept names.old planned }
-    requires source { IfSome source.now IsSource }
+    requires { IsReadyFrom names.old source.now planned }
     ensures text { (others : ClassNames) (array : ℕ) (w : BodyWithStates) → IsPlannedWork names.old others array source.now planned w
         → IfOk result (IsWrittenBody pool.old places.now others (emitted_of array w) pool.new) }
     ensures refused { (others : ClassNames) (array : ℕ) (w : BodyWithStates) → IsPlannedWork names.old others array source.now planned w

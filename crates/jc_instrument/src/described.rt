@@ -23,7 +23,10 @@ pub fn class_name_at(alloc: Global, pool: &Pool, place: u16) -> Result<Bytes, Me
     ensures name { IfOk result (λ name. class_name_of pool.now place ≡ Some name) }
     ensures short { IfOk result IsShortText }
 {
-    Ok(Bytes::copy_of(alloc, pool.class_at(place).unwrap_or(&[]))?)
+    match pool.class_at(place) {
+        Ok(name) => Ok(Bytes::copy_of(alloc, name)?),
+        Err(_) => unreachable!(),
+    }
 }
 
 /// The name of the superclass, if there is one.

@@ -1,6 +1,6 @@
 //! The first refusals that are found while the methods of a class are looked at.
 ghost use Rattle.std.specs.Prelude.{◌≡◌, ◌↔◌, IsTrue};
-ghost use Rattle.jc_methods.specs.WellMade.{IsWellMade, IsCounted};
+ghost use Rattle.jc_methods.specs.WellMade.{IsWellMade};
 ghost use Rattle.jc_instrument.specs.Found.{AreFramesFine, HasRoomSoFar, KeepsLack, noted};
 ghost use Rattle.jc_instrument.specs.Room.{IsWhereItLacks};
 
@@ -67,40 +67,42 @@ pub fn noted(first: FrameRefusals, refusal: Refusal) -> FrameRefusals
     }
 }
 
-/// Where the body lacks room of this kind, if it does.
-fn place_that_lacks(kind: RefusalKind, body: &Body) -> Option<u32>
-    requires { IsCounted body.now.code }
-    ensures { IsWhereItLacks kind body.now result }
+/// Where the body has no number left for one more local variable, if it has none.
+fn locals_lack(body: &Body) -> Option<u32>
+    ensures { IsWhereItLacks RefusalKind.LocalsFull body.now result }
 {
-    match kind {
-        RefusalKind::StraddlingLocal => straddles(body),
-        RefusalKind::LocalsFull => {
-            if body.max_locals == MOST_LOCALS {
-                Some(ONE_TOO_MANY)
-            } else {
-                None
-            }
-        }
-        RefusalKind::StackFull => {
-            if body.max_stack > MOST_STACK {
-                Some(u32::from(body.max_stack) + 3)
-            } else {
-                None
-            }
-        }
-        _ => None,
+    if body.max_locals == MOST_LOCALS {
+        Some(ONE_TOO_MANY)
+    } else {
+        None
     }
 }
 
-/// The first refusal of this kind once one more body is looked at.
-fn first_lack(first: Option<Refusal>, kind: RefusalKind, body: &Body) -> Option<Refusal>
-    requires { IsCounted body.now.code }
+/// How many slots the stack would need, if it has no room for the operands of a probe.
+fn stack_lack(body: &Body) -> Option<u32>
+    ensures { IsWhereItLacks RefusalKind.StackFull body.now result }
+{
+    if body.max_stack > MOST_STACK {
+        Some(u32::from(body.max_stack) + 3)
+    } else {
+        None
+    }
+}
+
+/// The first refusal of this kind once one more body is looked at, which lacks room at this place, if it does.
+fn first_lack(
+    first: Option<Refusal>,
+    kind: RefusalKind,
+    body: &Body,
+    lack: Option<u32>,
+) -> Option<Refusal>
+    requires { IsWhereItLacks kind body.now lack }
     ensures { KeepsLack kind body.now first result }
 {
     if first.is_some() {
         return first;
     }
-    let place = place_that_lacks(kind, body)?;
+    let place = lack?;
     Some(Refusal {
         kind,
         method: Some(body.method),
@@ -115,9 +117,17 @@ pub fn lacks(first: RoomRefusals, body: &Body) -> RoomRefusals
     ensures locals { KeepsLack RefusalKind.LocalsFull body.now first.locals result.locals }
     ensures stack { KeepsLack RefusalKind.StackFull body.now first.stack result.stack }
 {
+    let straddling = straddles(body);
+    let locals = locals_lack(body);
+    let stack = stack_lack(body);
     RoomRefusals {
-        straddling: first_lack(first.straddling, RefusalKind::StraddlingLocal, body),
-        locals: first_lack(first.locals, RefusalKind::LocalsFull, body),
-        stack: first_lack(first.stack, RefusalKind::StackFull, body),
+        straddling: first_lack(
+            first.straddling,
+            RefusalKind::StraddlingLocal,
+            body,
+            straddling,
+        ),
+        locals: first_lack(first.locals, RefusalKind::LocalsFull, body, locals),
+        stack: first_lack(first.stack, RefusalKind::StackFull, body, stack),
     }
 }

@@ -7,6 +7,7 @@ ghost use Rattle.jc_bytes.specs.Reader.{most_read};
 ghost use Rattle.jc_class.specs.Writable.{IsClassFile};
 ghost use Rattle.jc_class.specs.Sizes.{BodiesWithin};
 ghost use Rattle.jc_kinds.specs.Answers.{AreStates};
+ghost use Rattle.jc_emit.specs.Refusing.{IsTaken};
 ghost use Rattle.jc_plan.specs.Plan.{plan_of};
 ghost use Rattle.jc_instrument.specs.Causes.{IsFirstCause};
 ghost use Rattle.jc_instrument.specs.KeptStates.{places_if_kept, places_kept};
@@ -60,6 +61,7 @@ fn plan_next(
     requires made { IsWellMade body }
     requires plan { plan ≡ plan_of body first }
     requires next { plan.next ≤ 32767 }
+    requires taken { IsTaken body }
     ensures put { (names : ClassNames) → AreNumberedFrames (length names) body.frames → IfSome states (AreStates names body)
         → OnOk result (PutsPlanned names body first bodies.old bodies.new) }
     ensures few { OnOk result (places_kept bodies.new ≤ places_kept bodies.old + places_if_kept body states) }

@@ -1,13 +1,13 @@
 //! The members of an instrumented class: methods with their new code, and the field and the method that are added.
-ghost use Rattle.std.specs.Prelude.{◌≡◌, ◌≤◌, ℕ, List as Seq, codes, map, IsTrue, IfOk, IfErr, IfSome};
+ghost use Rattle.std.specs.Prelude.{◌≡◌, ◌≤◌, ℕ, List as Seq, codes, map, IsTrue, IfOk, IfErr};
 ghost use Rattle.jc_methods.specs.VerificationTypes.{Names as ClassNames};
 ghost use Rattle.jc_body.specs.Attributes.{has_name};
 ghost use Rattle.jc_body.specs.First.{FirstItem};
 ghost use Rattle.jc_frames.specs.FullTable.{RefusesClasses, named_by_all};
 ghost use Rattle.jc_instrument.specs.BodiesWithStates.{BodyWithStates, all_frames};
 ghost use Rattle.jc_instrument.specs.Members.{AreCoded, HasOneCode};
-ghost use Rattle.jc_instrument.specs.Ready.{AreReadyIfKept};
-ghost use Rattle.jc_instrument.specs.Writing.{ArePlannedWorks, ArePut, IsSource};
+ghost use Rattle.jc_instrument.specs.Ready.{AreReadyFrom};
+ghost use Rattle.jc_instrument.specs.Writing.{ArePlannedWorks, ArePut};
 ghost use Rattle.jc_instrument.specs.TwinText.{data_member, init_member, with_code};
 
 use crate::again::planned_text;
@@ -42,7 +42,7 @@ fn put_code(alloc: Global, pool: &Pool, method: &mut Member, text: Bytes)
     ensures { method.new ≡ record method.old { attributes = map (with_code pool.now text) method.old.attributes } }
 {
     let Some(number) = code_number(pool, &method.attributes) else {
-        return;
+        unreachable!();
     };
     let mut attributes = mem::replace(&mut method.attributes, List::new(alloc)).into_vec();
     let name = attributes[number].name;
@@ -66,8 +66,7 @@ pub fn put_codes(
     names: &mut Names,
     pool: &mut Pool,
 ) -> Result<List<Member>, Fail<PoolFull>>
-    requires ready { AreReadyIfKept names.old bodies }
-    requires source { IfSome source.now IsSource }
+    requires ready { AreReadyFrom names.old source.now bodies }
     requires coded { AreCoded pool.old methods bodies }
     ensures put { (others : ClassNames) (array : ℕ) (works : Seq BodyWithStates) → ArePlannedWorks names.old others array source.now bodies works
         → IfOk result (ArePut pool.old places.now others array works methods pool.new) }

@@ -133,6 +133,7 @@ fn take_each(
 ) -> Result<Vec<u16>, Fail<PoolFull>>
     requires { IsShortText owner.now }
     ensures ok { IfOk result (λ places. TakesEach pool.old (member_needs owner.now (signed_id id)) pool.new places.items) }
+    ensures count { IfOk result (λ places. length places.items ≡ 12) }
     ensures refused { IfErr result (RefusesEach pool.old (member_needs owner.now (signed_id id))) }
     ensures extends { Extends pool.old pool.new }
 {
@@ -162,9 +163,6 @@ pub fn take_members(
     ensures extends { Extends pool.old pool.new }
 {
     let places = take_each(alloc, owner, id, pool)?;
-    if places.len() != MEMBER_NEEDS.len() {
-        return Err(Fail::Memory);
-    }
     Ok(MemberPlaces {
         data_name: places[0],
         data_type: places[1],

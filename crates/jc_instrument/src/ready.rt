@@ -5,7 +5,7 @@ ghost use Rattle.jc_methods.specs.declared.emitted.Emitted.{Emitted as Emission}
 ghost use Rattle.jc_bytes.specs.Failing.{Said};
 ghost use Rattle.jc_plan.specs.Plan.{plan_of};
 ghost use Rattle.jc_emit.specs.Placing.{HasPlan};
-ghost use Rattle.jc_emit.specs.Refusing.{HasRoom};
+ghost use Rattle.jc_emit.specs.Refusing.{HasRoom, IsTaken};
 ghost use Rattle.jc_layout.specs.Layable.{IsLayable};
 ghost use Rattle.jc_layout.specs.Layout.{chosen_length};
 ghost use Rattle.jc_instrument_code.specs.Given.{IsLaid};
@@ -80,13 +80,15 @@ fn emitted_code(alloc: Global, body: &Body, plan: &Plan) -> Result<List<Insn>, M
     requires made { IsWellMade body.now }
     requires plan { HasPlan body.now plan.now }
     requires next { plan.now.next ≤ 32767 }
+    requires taken { IsTaken body.now }
     ensures code { (first : ℕ) → plan.now ≡ plan_of body.now first → IfOk result (λ code. code ≡ probed_code body.now first) }
     ensures room { IfOk result (λ _. HasRoom body.now) }
     ensures layable { IfOk result IsLayable }
 {
     match emit_code(alloc, body, plan) {
         Ok(code) => Ok(code),
-        Err(_) => Err(Memory),
+        Err(Fail::Memory) => Err(Memory),
+        Err(Fail::Said(_)) => unreachable!(),
     }
 }
 
@@ -113,6 +115,7 @@ pub fn laid_body(alloc: Global, body: &Body, plan: &Plan) -> Result<Laid, Fail<R
     requires made { IsWellMade body.now }
     requires plan { HasPlan body.now plan.now }
     requires next { plan.now.next ≤ 32767 }
+    requires taken { IsTaken body.now }
     ensures laid { IfOk result (IsLaidFor body.now plan.now) }
     ensures room { IfOk result (λ _. HasRoom body.now) }
     ensures refused { (first : ℕ) → plan.now ≡ plan_of body.now first → IfErr result (λ e. Said e (IsTooLong body.now first)) }

@@ -1,7 +1,8 @@
 //! The instrumented class, from its parts.
-ghost use Rattle.std.specs.Prelude.{◌≡◌, ◌≤◌, ℕ, List as Seq, All, IfOk, IfErr, IfSome, length};
+ghost use Rattle.std.specs.Prelude.{◌≡◌, ◌≤◌, ℕ, List as Seq, All, IfOk, IfErr, length};
 ghost use Rattle.jc_methods.specs.VerificationTypes.{Names as ClassNames};
 ghost use Rattle.jc_bytes.specs.Reader.{most_read};
+ghost use Rattle.jc_class.specs.ClassText.{ClassText};
 ghost use Rattle.jc_class.specs.Sizes.{BodiesWithin};
 ghost use Rattle.jc_class.specs.Writable.{IsClassFile};
 ghost use Rattle.jc_plan.specs.Analysed.{all_probes};
@@ -10,12 +11,12 @@ ghost use Rattle.jc_instrument.specs.Members.{AreCoded, AreTextPlaces, IsFirstIf
 ghost use Rattle.jc_bytes.specs.Failing.{Said};
 ghost use Rattle.jc_bytes.specs.Texts.{IsShortText};
 ghost use Rattle.jc_instrument.specs.Needed.{frame_needs, name_of};
-ghost use Rattle.jc_instrument.specs.Ready.{AreReadyIfKept};
+ghost use Rattle.jc_instrument.specs.Ready.{AreReadyFrom, source_of};
 ghost use Rattle.jc_instrument.specs.ReadyClass.{IsReadyClass};
 ghost use Rattle.jc_instrument.specs.RoomCauses.{HasFullPool};
 ghost use Rattle.jc_instrument.specs.Taking.{RefusesEach};
 ghost use Rattle.jc_instrument.specs.TwinText.{IsWrittenFor};
-ghost use Rattle.jc_instrument.specs.Writing.{ArePlannedWorks, IsFullFor, IsOnlyText, IsSource, IsTwinFrom};
+ghost use Rattle.jc_instrument.specs.Writing.{ArePlannedWorks, IsFullFor, IsTwinFrom};
 
 use crate::again::source_of;
 use crate::members::{data_member, init_member, put_codes};
@@ -78,8 +79,7 @@ fn twin_class(
     requires few { ready.probes ≤ 32767 }
     requires method { places.now.codes.method ≡ places.now.members.method }
     requires frames { places.now.codes.frames ≡ places.now.members.frames }
-    requires ready { AreReadyIfKept names.old ready.bodies }
-    requires source { IfSome source.now IsSource }
+    requires ready { AreReadyFrom names.old source.now ready.bodies }
     requires coded { AreCoded class.pool class.methods ready.bodies }
     ensures twin { (others : ClassNames) (array : ℕ) (works : Seq Work)
         → ArePlannedWorks names.old others array source.now ready.bodies works → ready.probes ≡ all_probes (bodies_of works)
@@ -141,7 +141,7 @@ fn written_twin(
     requires owner { name_of class ≡ owner.now }
     requires short { IsShortText owner.now }
     requires ready { IsReadyClass names.old class ready }
-    requires source { IfSome source.now (λ s. s ≡ class) }
+    requires source { source.now ≡ source_of ready.bodies class }
     requires sizes { All (λ m. BodiesWithin most_read m.attributes) class.methods }
     requires few { ready.probes ≤ 32767 }
     ensures twin { IfOk result (IsWrittenFor id class) }
@@ -168,7 +168,7 @@ fn twin_from(
     requires owner { name_of class ≡ owner.now }
     requires short { IsShortText owner.now }
     requires ready { IsReadyClass names.old class ready }
-    requires source { IfSome source (λ s. s ≡ class) }
+    requires source { source ≡ source_of ready.bodies class }
     requires sizes { All (λ m. BodiesWithin most_read m.attributes) class.methods }
     requires few { ready.probes ≤ 32767 }
     ensures twin { IfOk result (IsWrittenFor id class) }
@@ -189,7 +189,7 @@ pub fn grown_twin(
     names: &mut Names,
 ) -> Result<ClassFile, Fail<Refusal>>
     requires few_bytes { length bytes.now ≤ most_read }
-    requires read { IsOnlyText bytes.now class }
+    requires read { ClassText bytes.now class }
     requires class { IsClassFile class }
     requires owner { name_of class ≡ owner.now }
     requires short { IsShortText owner.now }

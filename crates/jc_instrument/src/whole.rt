@@ -19,7 +19,7 @@ ghost use Rattle.jc_instrument.specs.LeftAlone.{is_left_alone};
 ghost use Rattle.jc_instrument.specs.ReadyClass.{IsReadyClass, making_causes};
 ghost use Rattle.jc_instrument.specs.Refused.{Reason};
 ghost use Rattle.jc_instrument.specs.RoomCauses.{HasFullPool};
-ghost use Rattle.jc_instrument.specs.Writing.{IsOnlyText, IsTwinText};
+ghost use Rattle.jc_instrument.specs.Writing.{IsTwinText};
 ghost use Rattle.jc_instrument.specs.Verified.{IsVerified};
 
 use crate::alone::{interface_refusal, is_left_alone};
@@ -149,7 +149,7 @@ fn twin_bytes(
     names: &mut Names,
 ) -> Result<Bytes, Fail<Refusal>>
     requires few_bytes { length bytes.now ≤ most_read }
-    requires read { IsOnlyText bytes.now class }
+    requires read { ClassText bytes.now class }
     requires class { IsClassFile class }
     requires name { class_name_of class.pool class.this_class ≡ Some name.now }
     requires short { IsShortText name.now }
@@ -172,7 +172,7 @@ fn changed(
     class: ClassFile,
 ) -> Result<Instrumented, Fail<Refusal>>
     requires few { length bytes.now ≤ most_read }
-    requires read { IsOnlyText bytes.now class }
+    requires read { ClassText bytes.now class }
     requires class { IsClassFile class }
     requires sizes { All (λ m. BodiesWithin most_read m.attributes) class.methods }
     requires changes { is_left_alone class ≡ false }

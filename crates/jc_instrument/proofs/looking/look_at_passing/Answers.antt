@@ -1,6 +1,13 @@
 use Rattle.std.proofs.Common.{ap, arith}
 use Rattle.jc_instrument.specs.KeptStates.{places_kept}
+use Rattle.jc_instrument.proofs.LookingLaws.{has_taken}
 use Rattle.jc_instrument.proofs.looking.look_at_passing.Goals as goal
 
 pub returns-in-Err-Said-clause-few : goal.returns-in-Err-Said-clause-few
 returns-in-Err-Said-clause-few c = let same = ap places_kept c.in-Err-Said.ensures.stays in omega (arith, same)
+
+pub plan_next-requires-clause-taken : goal.plan_next-requires-clause-taken
+plan_next-requires-clause-taken c =
+    let first = c.args.so_far.now.room in
+    let l = c.lacks.ensures in
+    has_taken c.args.body first c.lacks.result l.straddling l.locals l.stack (c.has_room_so_far.ensures.0 c.if-not-has_room_so_far.false)

@@ -20,6 +20,6 @@ returns-clause-put c = λ names numbered has.
           numbered (subst (λ (o : Option (List State)). IfSome o (AreStates names b)) w.in-Some.is has)
           (c.in_ok-push.ensures.ok ∙ ap (λ (p : PlannedBody). old ++ p ∷ []) w.next-is))
       | in-None w ↦
-          (puts_unread names b c.args.plan c.args.first l c.requires.plan laid old new
+          (puts_unread names b c.args.plan c.args.first l c.requires.plan laid old new c.requires.made c.requires.taken c.requires.next
           (c.in_ok-push.ensures.ok ∙ ap (λ (p : PlannedBody). old ++ p ∷ []) w.next-is))
     ]

@@ -1,9 +1,9 @@
 use Rattle.std.proofs.Common.{sym, ◌∙◌, arith}
-use Rattle.jc_instrument.proofs.MemberLaws.{list_put, nothing_put, place_within}
+use Rattle.jc_instrument.proofs.MemberLaws.{list_put, one_named, place_within}
 use Rattle.jc_instrument.proofs.members.put_code.Goals as goal
 
-pub returns-in_default : goal.returns-in_default
-returns-in_default c = nothing_put c.args.pool.now c.args.text c.args.method.now c.deref.result.now c.deref.ensures c.in_default.ensures
+pub unreachable-requires : goal.unreachable-requires
+unreachable-requires c = one_named c.args.pool.now c.args.text c.args.method.now c.deref.result.now c.requires c.deref.ensures c.in_default.ensures
 
 pub index-requires : goal.index-requires
 index-requires c =

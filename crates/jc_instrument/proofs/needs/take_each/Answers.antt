@@ -7,7 +7,7 @@ use Rattle.jc_instrument.specs.Taking.{content_needed, contents_of, RefusesEach}
 use Rattle.jc_instrument.specs.declared.needs.Need.{Need}
 use Rattle.jc_instrument.specs.declared.needs.Need.TheVariants as needs
 use Rattle.jc_instrument.specs.declared.needs.TheConstants as constants
-use Rattle.jc_instrument.proofs.TakingLaws.{all_entire, next_contents, refused_here, split_contents, takes_both, takes_one}
+use Rattle.jc_instrument.proofs.TakingLaws.{all_entire, next_contents, refused_here, split_contents, takes_both, takes_count, takes_one}
 use Rattle.jc_instrument.proofs.needs.take_each.Goals as goal
 
 abbrev list : List Need
@@ -57,3 +57,10 @@ returns-clause-ok c =
     let end : c.taking.need-index ≡ 12 = omega arith in
     subst (λ (n : ℕ). TakesEach c.args.pool.now (contents_of c.args.owner.now (signed_id c.args.id) (take n list)) c.taking.pool c.taking.places.items)
     end c.taking.invariant.takes
+
+pub returns-clause-count : goal.returns-clause-count
+returns-clause-count c =
+    let end : c.taking.need-index ≡ 12 = omega arith in
+    takes_count c.args.pool.now c.taking.pool (contents_of c.args.owner.now (signed_id c.args.id) list) c.taking.places.items
+    (subst (λ (n : ℕ). TakesEach c.args.pool.now (contents_of c.args.owner.now (signed_id c.args.id) (take n list)) c.taking.pool c.taking.places.items)
+    end c.taking.invariant.takes)

@@ -14,7 +14,7 @@ returns-in_err-places-clause-refused c =
 pub returns-clause-ok : goal.returns-clause-ok
 returns-clause-ok c =
     let l = c.in_ok-places.places.items in
-    let count : length l ≡ 12 = omega (arith, c.len.ensures, c.if-len-ne12.false) in
+    let count : length l ≡ 12 = c.in_ok-places.ensures.count in
     let at : (n a : ℕ) → n < 12 → a ≡ get_or l n a → get_or l n 0 ≡ a = λ n a less is.
     get_or_default l n 0 a (let m : n < length l = omega (arith, less, count) in m) ∙ sym is in
     let are : items_from 12 0 l

@@ -1,8 +1,10 @@
 use Rattle.std.proofs.lemmas.Result.{IfErr-weaker, IfOk-weaker, err_from_is_err_and}
+use Rattle.jc_kinds.specs.Checked.{Checked}
 use Rattle.jc_instrument.specs.TwinText.{IsWrittenFor}
 use Rattle.jc_instrument.specs.Writing.{IsFullFor}
 use Rattle.jc_instrument.proofs.CodedLaws.{are_coded}
-use Rattle.jc_instrument.proofs.PlannedLaws.{are_ready_if_kept, is_source}
+use Rattle.jc_instrument.proofs.FrameCauseLaws.{each_at}
+use Rattle.jc_instrument.proofs.PlannedLaws.{are_ready_from, source_is}
 use Rattle.jc_instrument.proofs.ReadyClassLaws.{ready_works}
 use Rattle.jc_instrument.proofs.TwinFromLaws.{frames_refused, members_refused, twin_written}
 use Rattle.jc_instrument.proofs.twin.written_twin.Goals as goal
@@ -23,10 +25,9 @@ twin_class-requires-clause-coded c =
 pub twin_class-requires-clause-ready : goal.twin_class-requires-clause-ready
 twin_class-requires-clause-ready c =
     let r = c.requires.ready in
-    are_ready_if_kept c.args.names.now r.bodies c.args.ready.bodies r.planned
-
-pub twin_class-requires-clause-source : goal.twin_class-requires-clause-source
-twin_class-requires-clause-source c = is_source c.args.class c.args.source.now c.requires.class c.requires.sizes c.requires.source
+    let names = c.args.names.now in
+    are_ready_from names c.args.class r.bodies c.args.ready.bodies r.are.are (λ i b at. each_at (Checked names) r.bodies r.are.checked i b at) r.planned
+    (record { class = c.requires.class; sizes = c.requires.sizes }) c.args.source.now c.requires.source
 
 pub returns-clause-twin : goal.returns-clause-twin
 returns-clause-twin c =
@@ -37,7 +38,7 @@ returns-clause-twin c =
     twin_written c.args.id class c.requires.class w c.args.owner.now c.requires.owner c.take_members.new.pool c.in_ok-members.members
     c.in_ok-members.ensures.ok c.in_ok-members.ensures.extends c.code_places-codes.ensures.few c.code_places-codes.result
     c.code_places-codes.ensures.texts twin from)
-    (c.twin_class.ensures.twin w.others w.array w.works (w.of c.args.source.now c.requires.source) w.count)
+    (c.twin_class.ensures.twin w.others w.array w.works (w.of c.args.source.now (source_is c.args.ready.bodies class c.args.source.now c.requires.source)) w.count)
 
 pub returns-clause-refused : goal.returns-clause-refused
 returns-clause-refused c =
@@ -47,4 +48,4 @@ returns-clause-refused c =
     (λ e refused.
     frames_refused c.args.id class c.requires.class w c.args.owner.now c.requires.owner c.take_members.new.pool c.in_ok-members.members
     c.in_ok-members.ensures.ok e refused)
-    (c.twin_class.ensures.refused w.others w.array w.works (w.of c.args.source.now c.requires.source))
+    (c.twin_class.ensures.refused w.others w.array w.works (w.of c.args.source.now (source_is c.args.ready.bodies class c.args.source.now c.requires.source)))

@@ -12,9 +12,6 @@ returns-in-Some-clause-refused c =
     let class = c.in_ok-class.class in
     inr (class, c.in_ok-class.ensures.read, class_first (class_id c.args.bytes.now) class c.in-Some.refusal c.in-Some.ensures)
 
-pub changed-requires-clause-read : goal.changed-requires-clause-read
-changed-requires-clause-read c = record { only = λ d text. sym (c.in_ok-class.ensures.taken d text) }
-
 pub returns-clause-made : goal.returns-clause-made
 returns-clause-made c =
     let class = c.in_ok-class.class in

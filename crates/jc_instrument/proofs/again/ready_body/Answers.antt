@@ -1,0 +1,18 @@
+use Rattle.std.proofs.Common.{Option, subst}
+use Rattle.jc_class.specs.declared.class_file.ClassFile.{ClassFile}
+use Rattle.jc_instrument.specs.Ready.{IsReadyFrom}
+use Rattle.jc_instrument.specs.declared.ready.PlannedBody.{PlannedBody}
+use Rattle.jc_instrument.specs.declared.ready.PlannedBody.TheVariants.{Unread}
+use Rattle.jc_instrument.proofs.again.ready_body.Goals as goal
+
+pub unreachable-requires : goal.unreachable-requires
+unreachable-requires c =
+    let names = c.args.names.now in
+    let from = subst (IsReadyFrom names c.args.source.now) c.in-Unread.is c.requires in
+    subst (λ (o : Option ClassFile). IsReadyFrom names o (Unread c.in-Unread.unread)) c.in-None.is from
+
+pub read_again-requires : goal.read_again-requires
+read_again-requires c =
+    let names = c.args.names.now in
+    let from = subst (IsReadyFrom names c.args.source.now) c.in-Unread.is c.requires in
+    subst (λ (o : Option ClassFile). IsReadyFrom names o (Unread c.in-Unread.unread)) c.in-Some.is from
