@@ -16,6 +16,7 @@ pub mod TextSizesLaws
 pub mod PoolTextLaws
 pub mod UsedTextsLaws
 pub mod BodySizesLaws
+pub mod SmallBodiesLaws
 pub mod DecidedLaws
 pub mod CausesDecidedLaws
 pub mod SomeBodiesLaws

@@ -1,5 +1,5 @@
 -- Methods of a class that are looked at, one after the other.
-use Rattle.std.proofs.Common.{◌≡◌, ℕ, ◌+◌, ◌<◌, List, [], ◌∷◌, ◌++◌, length, Option, Some, None, slice_get, refl, sym, ◌∙◌, subst, arith}
+use Rattle.std.proofs.Common.{◌≡◌, ℕ, ◌+◌, ◌<◌, ◌≤◌, List, [], ◌∷◌, ◌++◌, length, Option, Some, None, slice_get, refl, sym, ◌∙◌, subst, arith}
 use Rattle.std.specs.Option.{MatchOption}
 use Rattle.std.proofs.lemmas.List.Elements.{All-nil}
 use Rattle.std.proofs.lemmas.Option.{none-some}
@@ -12,8 +12,9 @@ use Rattle.jc_bytes.specs.declared.refusal.RefusalKind.TheVariants as kinds
 use Rattle.jc_bytes.specs.Failing.{Said}
 use Rattle.jc_class.specs.declared.class_file.ClassFile.{ClassFile}
 use Rattle.jc_body.specs.BodyOf.{BodyOf, Bodiless, FaultOf}
-use Rattle.jc_instrument.specs.Bodies.{AreBodiesBelow}
+use Rattle.jc_instrument.specs.Bodies.{AreBodiesBelow, IsReadable}
 use Rattle.jc_instrument.specs.Causes.{InMethod}
+use Rattle.jc_instrument.specs.Found.{AreFramesFine}
 use Rattle.jc_instrument.specs.Looking.{AreLookedAt, HaveBodies, IsLooking, LooksAtBody, LooksOn, PlansOn}
 use Rattle.jc_instrument.specs.Reasons.{IsFaulty}
 use Rattle.jc_instrument.specs.Steps.{IsKept, IsReading}
@@ -23,6 +24,7 @@ use Rattle.jc_instrument.specs.declared.ready.PlannedBody.{PlannedBody}
 use Rattle.jc_instrument.proofs.ListedLaws.{grown_bodies, no_bodies, with_body, without_body}
 use Rattle.jc_instrument.proofs.LookingLaws.{body_on, looked_grown, missing_stays}
 use Rattle.jc_instrument.proofs.ReadingLaws.{body_read, fault_kept, none_read}
+use Rattle.jc_instrument.proofs.SmallBodiesLaws.{probes_below}
 
 abbrev BadCode : ClassFile → Refusal → Type 0
 BadCode c = InMethod kinds.BadCode (IsFaulty c kinds.BadCode)
@@ -120,6 +122,17 @@ fault_looked old new c n s kept e said k before =
       found = subst (λ (o : Option Refusal). MatchOption o (HaveBodies new c (n + 1) (record s { bad = kept })) (BadCode c)) (sym k.new_is)
           (subst (λ (o : Option Refusal). MatchOption o (AreBodiesBelow new c (n + 1) read.0.bodies) (BadCode c)) k.new_is now.found);
     }
+
+-- ---- probes so far
+
+-- where nothing is refused, the probes so far are those of the bodies so far
+pub probes_so_far : (names : Names) (c : ClassFile) (n : ℕ) (s : Looking) → IsReadable c → IsLooking names c n s → s.bad ≡ None → AreFramesFine s.frames
+    → s.probes ≤ 134217728
+probes_so_far names c n s from so none fine =
+    let h = subst (λ (o : Option Refusal). MatchOption o (HaveBodies names c n s) (BadCode c)) none so.found in
+    let count = (h.so.room fine).probes in
+    let few = probes_below names c n h.bodies from h.are in
+    omega (arith, count, few)
 
 -- ---- places that are left
 

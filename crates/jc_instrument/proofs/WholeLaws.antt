@@ -1,21 +1,20 @@
 -- The bodies of a class, by all of its causes.
-use Rattle.std.proofs.Common.{◌≡◌, ◌≤◌, Bool, true, false, List, [], ◌∷◌, ◌++◌, length, sym, subst, arith}
+use Rattle.std.proofs.Common.{◌≡◌, Bool, false, List, ◌++◌, length, sym, subst}
 use Rattle.std.specs.Prelude.{All}
 use Rattle.std.proofs.lemmas.Option.{slice_get-get_or}
 use Rattle.jc_methods.specs.VerificationTypes.{Names, AreNumberedFrames, Grows}
 use Rattle.jc_methods.specs.declared.body.Body.{Body}
 use Rattle.jc_bytes.specs.declared.refusal.Refusal.{Refusal}
-use Rattle.jc_class.specs.Writable.{IsClassFile}
 use Rattle.jc_class.specs.declared.class_file.ClassFile.{ClassFile}
 use Rattle.jc_kinds.specs.Checked.{Checked}
-use Rattle.jc_instrument.specs.Bodies.{AreBodies, AreBodiesUnless, AreBodiesOf}
+use Rattle.jc_instrument.specs.Bodies.{AreBodies}
 use Rattle.jc_instrument.specs.Causes.{Cause, IsFirstCause, NoCause, unless}
 use Rattle.jc_instrument.specs.LeftAlone.{is_left_alone}
 use Rattle.jc_instrument.specs.Reasons.{class_causes, interface_causes, method_causes, frame_causes, code_causes, analysis_causes}
 use Rattle.jc_instrument.specs.Steps.{IsFrameRefusal, AreCheckedUnder, AreCheckedBodies}
 use Rattle.jc_instrument.proofs.CauseLaws.{first_behind, none_in_both}
 use Rattle.jc_instrument.proofs.FrameCauseLaws.{frame_refused, no_frame_cause, no_method_cause}
-use Rattle.jc_instrument.proofs.ListedLaws.{grown_bodies, few_bodies}
+use Rattle.jc_instrument.proofs.ListedLaws.{grown_bodies}
 
 -- ---- the bodies of methods
 
@@ -44,15 +43,3 @@ pub no_cause_checked : (c : ClassFile) (bodies : List Body) → is_left_alone c 
 no_cause_checked c bodies changes none no_interface are =
     none_in_both (class_causes c) (unless (is_left_alone c) (later c)) none
     (subst (λ (t : Bool). NoCause (unless t (later c))) (sym changes) (none_in_both (interface_causes c) (code_causes c) no_interface (no_code_cause c bodies are)))
-
--- at most as many as a class file has methods
-pub few_of_class : (c : ClassFile) (bodies : List Body) → IsClassFile c → AreBodiesOf c bodies → length bodies ≤ 65535
-few_of_class c bodies is of_class = by (is_left_alone c) of_class.are
-  where
-    nothing : (xs : List Body) → xs ≡ [] → length xs ≤ 65535
-    nothing [] e = omega arith
-    nothing (x ∷ xs) e = absurd cc
-
-    by : (t : Bool) → AreBodiesUnless t of_class.names c bodies → length bodies ≤ 65535
-    by true none = nothing bodies none
-    by false are = let most = few_bodies of_class.names c (length c.methods) bodies are in let few = is.methods.few in omega (arith, most, few)

@@ -1,16 +1,15 @@
 //! What of a class file a report is made from.
-ghost use Rattle.std.specs.Prelude.{◌≡◌, ◌≤◌, Some, length, map, All, IfOk};
+ghost use Rattle.std.specs.Prelude.{◌≡◌, ◌≤◌, Some, map, All, IfOk};
 ghost use Rattle.jc_bytes.specs.Texts.{IsShortText};
 ghost use Rattle.jc_methods.specs.WellMade.{IsWellMade};
 ghost use Rattle.jc_class.specs.ClassFormat.{HasClass, HasSuper};
 ghost use Rattle.jc_class.specs.Writable.{IsClassFile};
 ghost use Rattle.jc_pool.specs.Lookup.{class_name_of};
 ghost use Rattle.jc_bytes.specs.Reader.{most_read};
-ghost use Rattle.jc_plan.specs.Analysed.{plans_of, all_probes, all_insns_and_arms, IsAnalysed};
+ghost use Rattle.jc_plan.specs.Analysed.{all_insns_and_arms, IsAnalysed};
 ghost use Rattle.jc_instrument.specs.Analysis.{super_name_of, Describes};
 
 use crate::plans::{Planned, plans_of};
-use crate::size::are_short;
 use jc_bytes::{Bytes, List, Memory};
 use jc_class::{ClassFile, class_id};
 use jc_methods::{Analysed, Body};
@@ -52,21 +51,6 @@ fn class_names_at(alloc: Global, pool: &Pool, places: &[u16]) -> Result<List<Byt
     Ok(names)
 }
 
-/// The plans of the bodies of a class. Bodies that together have more instructions and arms of switches than a file
-/// that is read may have bytes count as want of memory: no file has as many.
-pub fn bounded_plans(alloc: Global, bodies: &[Body]) -> Result<Planned, Memory>
-    requires made { All IsWellMade bodies.now }
-    requires few { length bodies.now ≤ 65535 }
-    ensures few { IfOk result (λ _. all_insns_and_arms bodies.now ≤ most_read) }
-    ensures plans { IfOk result (λ planned. planned.plans ≡ plans_of bodies.now) }
-    ensures probes { IfOk result (λ planned. planned.probes ≡ all_probes bodies.now) }
-{
-    if !are_short(bodies) {
-        return Err(Memory);
-    }
-    plans_of(alloc, bodies)
-}
-
 /// The class, with these bodies and their plans.
 pub fn described(
     alloc: Global,
@@ -76,13 +60,13 @@ pub fn described(
 ) -> Result<Analysed, Memory>
     requires class { IsClassFile class.now }
     requires made { All IsWellMade bodies }
-    requires few { length bodies ≤ 65535 }
+    requires few { all_insns_and_arms bodies ≤ most_read }
     ensures described { IfOk result (Describes bytes.now class.now) }
     ensures bodies { IfOk result (λ a. a.bodies ≡ bodies) }
     ensures analysed { IfOk result IsAnalysed }
 {
     let pool = &class.pool;
-    let Planned { plans, probes } = bounded_plans(alloc, &bodies)?;
+    let Planned { plans, probes } = plans_of(alloc, &bodies)?;
     Ok(Analysed {
         id: class_id(bytes),
         name: class_name_at(alloc, pool, class.this_class)?,

@@ -19,7 +19,6 @@ mod plans;
 mod ready;
 mod ready_class;
 mod room;
-mod size;
 mod states;
 mod twin;
 mod whole;

@@ -9,7 +9,9 @@ ghost use Rattle.jc_class.specs.Sizes.{BodiesWithin};
 ghost use Rattle.jc_kinds.specs.Answers.{AreStates};
 ghost use Rattle.jc_emit.specs.Refusing.{IsTaken};
 ghost use Rattle.jc_plan.specs.Plan.{plan_of};
+ghost use Rattle.jc_instrument.specs.Bodies.{IsReadable};
 ghost use Rattle.jc_instrument.specs.Causes.{IsFirstCause};
+ghost use Rattle.jc_instrument.specs.Found.{AreFramesFine};
 ghost use Rattle.jc_instrument.specs.KeptStates.{places_if_kept, places_kept};
 ghost use Rattle.jc_instrument.specs.Looking.{IsLooking, LooksAtBody, LooksOn, PutsPlanned};
 ghost use Rattle.jc_instrument.specs.Probing.{IsTooLong};
@@ -18,12 +20,13 @@ ghost use Rattle.jc_instrument.specs.Steps.{IsSubroutineAt};
 
 use crate::found::{FrameRefusals, RoomRefusals, are_frames_fine, has_room_so_far, lacks, noted};
 use crate::kept::keep_first;
-use crate::ready::{PlannedBody, ReadyBody, UnreadBody, bounded_plan, laid_body};
+use crate::ready::{PlannedBody, ReadyBody, UnreadBody, laid_body};
 use crate::states::checked_states;
 use jc_body::read_body;
 use jc_bytes::{Fail, List, Memory, Names, Refusal, RefusalKind};
 use jc_class::ClassFile;
 use jc_methods::{Body, Plan, State};
+use jc_plan::plan;
 use std::alloc::Global;
 
 /// The most probes that a class has: `sipush` pushes each id (JVM Specification 6.5).
@@ -94,6 +97,7 @@ fn look_at_passing(
     so_far: &mut Looking,
 ) -> Result<(), Memory>
     requires made { IsWellMade body }
+    requires probes { so_far.old.probes ≤ 134217728 }
     ensures on { (names : ClassNames) → AreNumberedFrames (length names) body.frames → IfSome states (AreStates names body)
         → OnOk result (LooksOn names body so_far.old so_far.new) }
     ensures few { OnOk result (places_kept so_far.new.bodies ≤ places_kept so_far.old.bodies + places_if_kept body states) }
@@ -103,7 +107,7 @@ fn look_at_passing(
 {
     so_far.room = lacks(so_far.room, &body);
     let first = so_far.probes;
-    let plan = bounded_plan(alloc, &body, first)?;
+    let plan = plan(alloc, &body, first)?;
     so_far.probes = plan.next;
     if let Some(_) = so_far.large {
         return Ok(());
@@ -133,6 +137,7 @@ fn look_at_body(
 ) -> Result<(), Memory>
     requires made { IsWellMade body }
     requires frames { AreNumberedFrames (length names.old) body.frames }
+    requires probes { AreFramesFine so_far.old.frames → so_far.old.probes ≤ 134217728 }
     ensures looks { OnOk result (LooksAtBody names.new body so_far.old so_far.new) }
     ensures few { OnOk result (places_kept so_far.new.bodies + so_far.new.left ≤ places_kept so_far.old.bodies + so_far.old.left) }
     ensures bad { so_far.new.bad ≡ so_far.old.bad }
@@ -171,6 +176,7 @@ fn look_at(
     requires exists { number < length class.now.methods }
     requires class { IsClassFile class.now }
     requires sizes { All (λ m. BodiesWithin most_read m.attributes) class.now.methods }
+    requires text { IsReadable class.now }
     requires before { IsLooking names.old class.now number so_far.old }
     ensures looked { OnOk result (IsLooking names.new class.now (number + 1) so_far.new) }
     ensures few { OnOk result (places_kept so_far.new.bodies + so_far.new.left ≤ places_kept so_far.old.bodies + so_far.old.left) }
@@ -203,6 +209,7 @@ pub fn look_at_methods(
 ) -> Result<Looking, Fail<Refusal>>
     requires class { IsClassFile class.now }
     requires sizes { All (λ m. BodiesWithin most_read m.attributes) class.now.methods }
+    requires text { IsReadable class.now }
     ensures looked { IfOk result (IsLooking names.new class.now (length class.now.methods)) }
     ensures few { IfOk result (λ looked. places_kept looked.bodies ≤ left) }
     ensures refused { IfErr result (λ e. Said e (IsFirstCause (method_causes class.now))) }

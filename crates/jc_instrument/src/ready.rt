@@ -17,11 +17,7 @@ use jc_bytes::{Fail, List, Memory, Refusal};
 use jc_emit::emit_code;
 use jc_layout::{Laid, layout_code};
 use jc_methods::{Body, Insn, Plan, State};
-use jc_plan::plan;
 use std::alloc::Global;
-
-/// The most probes that bodies in front of one can have: two for each byte of a file.
-const MOST_IDS: u32 = 134_217_728;
 
 /// A body that is ready for its instrumented code to be written.
 #[derive(Debug, Drop)]
@@ -62,17 +58,6 @@ pub fn method_of(planned: &PlannedBody) -> u16
         PlannedBody::Ready(ready) => ready.body.method,
         PlannedBody::Unread(unread) => unread.method,
     }
-}
-
-/// The plan of a body whose ids begin with this one. A first id that no file reaches counts as want of memory.
-pub fn bounded_plan(alloc: Global, body: &Body, first: u32) -> Result<Plan, Memory>
-    requires made { IsWellMade body.now }
-    ensures plan { IfOk result (λ plan. plan ≡ plan_of body.now first) }
-{
-    if first > MOST_IDS {
-        return Err(Memory);
-    }
-    plan(alloc, body, first)
 }
 
 /// The instructions of the instrumented code of a body that has room for it.

@@ -4,6 +4,7 @@ ghost use Rattle.jc_bytes.specs.Reader.{most_read};
 ghost use Rattle.jc_class.specs.Sizes.{BodiesWithin};
 ghost use Rattle.jc_class.specs.Writable.{IsClassFile};
 ghost use Rattle.jc_bytes.specs.Failing.{Said};
+ghost use Rattle.jc_instrument.specs.Bodies.{IsReadable};
 ghost use Rattle.jc_instrument.specs.Causes.{IsFirstCause};
 ghost use Rattle.jc_instrument.specs.Found.{first_of};
 ghost use Rattle.jc_instrument.specs.LeftAlone.{is_left_alone};
@@ -50,6 +51,7 @@ pub fn ready_class(
 ) -> Result<ReadyClass, Fail<Refusal>>
     requires class { IsClassFile class.now }
     requires sizes { All (λ m. BodiesWithin most_read m.attributes) class.now.methods }
+    requires text { IsReadable class.now }
     requires changes { is_left_alone class.now ≡ false }
     ensures ready { IfOk result (IsReadyClass names.new class.now) }
     ensures few { IfOk result (λ r. r.probes ≤ 32767) }

@@ -12,6 +12,7 @@ ghost use Rattle.jc_class.specs.Sizes.{BodiesWithin};
 ghost use Rattle.jc_class.specs.Writable.{IsClassFile};
 ghost use Rattle.jc_bytes.specs.Failing.{Said};
 ghost use Rattle.jc_pool.specs.Lookup.{class_name_of};
+ghost use Rattle.jc_instrument.specs.Bodies.{IsReadable};
 ghost use Rattle.jc_instrument.specs.Causes.{IsFirstCause};
 ghost use Rattle.jc_instrument.specs.Changing.{GetsProbes, changing_causes, has_too_long, is_too_long};
 ghost use Rattle.jc_instrument.specs.InstrumentedFile.{IsAsGiven, IsInstrumentedFile};
@@ -111,6 +112,7 @@ fn named_class(
 ) -> Result<NamedClass, Fail<Refusal>>
     requires class { IsClassFile class.now }
     requires sizes { All (λ m. BodiesWithin most_read m.attributes) class.now.methods }
+    requires text { IsReadable class.now }
     requires changes { is_left_alone class.now ≡ false }
     ensures ready { IfOk result (λ named. IsReadyClass names.new class.now named.ready) }
     ensures few { IfOk result (λ named. named.ready.probes ≤ 32767) }

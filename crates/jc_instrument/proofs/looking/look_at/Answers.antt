@@ -1,7 +1,7 @@
 use Rattle.std.proofs.Common.{sym, ◌∙◌}
 use Rattle.std.proofs.lemmas.Bool.{true≢false}
 use Rattle.jc_methods.proofs.MetNamesLaws.{grows_both}
-use Rattle.jc_instrument.proofs.LookedLaws.{body_looked, body_passed_by, fault_looked, none_looked}
+use Rattle.jc_instrument.proofs.LookedLaws.{body_looked, body_passed_by, fault_looked, none_looked, probes_so_far}
 use Rattle.jc_instrument.proofs.OneBodyLaws.{grown_body}
 use Rattle.jc_instrument.proofs.looking.look_at.Goals as goal
 
@@ -36,3 +36,7 @@ pub returns-in_ok-so_far-in-Err-clause-looked : goal.returns-in_ok-so_far-in-Err
 returns-in_ok-so_far-in-Err-clause-looked c =
     fault_looked c.args.names.now c.read_body.new.names c.args.class.now c.args.number c.args.so_far.now c.in_ok-so_far-in-Err.field-0 c.in-Err.fail
     c.in-Err.ensures.refused c.in_ok-so_far-in-Err.ensures.kept c.requires.before
+
+pub look_at_body-requires-clause-probes : goal.look_at_body-requires-clause-probes
+look_at_body-requires-clause-probes c =
+    probes_so_far c.args.names.now c.args.class.now c.args.number c.args.so_far.now c.requires.text c.requires.before (c.is_wanted.ensures.0 c.if-is_wanted.true).0

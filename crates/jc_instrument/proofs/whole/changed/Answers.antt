@@ -1,5 +1,6 @@
-use Rattle.std.proofs.Common.{inl, [], ◌∷◌, refl, ◌∙◌}
+use Rattle.std.proofs.Common.{inl, [], ◌∷◌, refl, ◌∙◌, arith}
 use Rattle.std.proofs.lemmas.Result.{err_from_is_err_and}
+use Rattle.jc_bytes.proofs.OneTextLaws.{are_bytes}
 use Rattle.jc_instrument.specs.Causes.{IsFirstCause}
 use Rattle.jc_instrument.specs.Changing.{changing_causes}
 use Rattle.jc_instrument.specs.ReadyClass.{making_causes}
@@ -53,3 +54,8 @@ returns-clause-changed c =
       no_cause = none_in_both (making_causes class) (HasFullPool c.args.id class ∷ []) r.no_cause
           (no_full_pool c.args.id w.names w.array w.works class t.twin w.written, tt);
     }
+
+pub named_class-requires-clause-text : goal.named_class-requires-clause-text
+named_class-requires-clause-text c =
+    let bytes = c.args.bytes.now in
+    record { bytes = bytes; are = are_bytes bytes (λ i. omega (arith, c.type_inv.bytes i)); few = c.requires.few; text = c.requires.read }
