@@ -108,25 +108,25 @@ module _ (names : Names) (b : Body) (plan : Plan) (first : ℕ) (l : Laid) (plan
       subst (λ (code : List Insn). chosen_length code ≤ 65535) (emission_code b first [] 0) (laid_length (emission b first [] 0) l (laid first [] 0 plan_is))
 
   module _ (old new : List PlannedBody) where
-    pub puts_ready : (states : List State) → IsWellMade b → plan.next ≤ 32767 → HasRoom b → AreNumberedFrames (length names) b.frames → AreStates names b states
+    pub puts_ready : (states : List State) → IsWellMade b → plan.next ≤ 32767 → HasRoom b → length b.handlers ≤ 65535 → AreNumberedFrames (length names) b.frames → AreStates names b states
         → new ≡ old ++ Ready (record { body = b; plan = plan; laid = l; states = states }) ∷ [] → PutsPlanned names b first old new
-    puts_ready states made few room numbered are put = record {
+    puts_ready states made few room rows numbered are put = record {
       planned = Ready (record { body = b; plan = plan; laid = l; states = states });
       put = put;
       is = (
-        record { made = made; numbered = numbered; plan = (first, plan_is); next = few; room = room; laid = laid; states = are },
+        record { made = made; numbered = numbered; plan = (first, plan_is); next = few; room = room; rows = rows; laid = laid; states = are },
         refl,
         plan_is,
       );
       short = laid_short;
     }
 
-    pub puts_unread : IsWellMade b → IsTaken b → plan.next ≤ 32767 → new ≡ old ++ Unread (record { method = b.method; first = first }) ∷ []
+    pub puts_unread : IsWellMade b → IsTaken b → length b.handlers ≤ 65535 → plan.next ≤ 32767 → new ≡ old ++ Unread (record { method = b.method; first = first }) ∷ []
         → PutsPlanned names b first old new
-    puts_unread made taken few put = record {
+    puts_unread made taken rows few put = record {
       planned = Unread (record { method = b.method; first = first });
       put = put;
-      is = (refl, refl, record { made = made; taken = taken; next = subst (λ (p : Plan). p.next ≤ 32767) plan_is few; short = laid_short });
+      is = (refl, refl, record { made = made; taken = taken; rows = rows; next = subst (λ (p : Plan). p.next ≤ 32767) plan_is few; short = laid_short });
       short = laid_short;
     }
 

@@ -4,12 +4,17 @@ use Rattle.std.specs.List.{sum_by}
 use Rattle.std.proofs.lemmas.List.Sums.{sum_by-cons}
 use Rattle.std.proofs.lemmas.Option.{none-some, same_Some}
 use Rattle.jc_bytes.specs.Reader.{most_read}
+use Rattle.jc_bytes.proofs.ListLaws.{all_at}
 use Rattle.jc_methods.specs.VerificationTypes.{Names}
 use Rattle.jc_methods.specs.WellMade.{insns_and_arms}
 use Rattle.jc_methods.specs.declared.body.Body.{Body}
 use Rattle.jc_class.specs.declared.class_file.ClassFile.{ClassFile}
 use Rattle.jc_class.specs.declared.class_file.Member.{Member}
+use Rattle.jc_class.proofs.ReadClassLaws.{IsOfBytes, class_read}
+use Rattle.jc_body.specs.BodyOf.{BodyOf}
+use Rattle.jc_body.specs.Faults.{faults}
 use Rattle.jc_plan.specs.Analysed.{all_insns_and_arms, all_probes}
+use Rattle.jc_instrument_reread.proofs.ReadNumbersLaws.{body_short}
 use Rattle.jc_instrument.specs.Bodies.{AreBodiesBelow, AreBodiesOf, AreBodiesUnless, IsReadable}
 use Rattle.jc_instrument.specs.LeftAlone.{is_left_alone}
 use Rattle.jc_instrument.proofs.BodySizesLaws.{insns_few}
@@ -103,6 +108,12 @@ module _ (names : Names) (c : ClassFile) (n : ℕ) (bodies : List Body) (from : 
 
   pub probes_below : all_probes bodies ≤ 134217728
   probes_below = let few = few_below in let most = all_probes_most bodies in omega (arith, few, most)
+
+-- a body has as many exception rows as a count of two bytes tells
+pub few_rows : (names : Names) (c : ClassFile) (number : ℕ) (b : Body) → IsReadable c → BodyOf names c number b → length b.handlers ≤ 65535
+few_rows names c number b from body =
+    let method = all_at IsOfBytes c.methods number body.method (class_read from.bytes c from.are from.text).methods body.at in
+    (body_short (faults c.major c.pool b.owner body.method) names c number body.method b body.is method.attributes).rows
 
 pub few_of_class : (c : ClassFile) (bodies : List Body) → IsReadable c → AreBodiesOf c bodies → all_insns_and_arms bodies ≤ most_read
 few_of_class c bodies from is = by (is_left_alone c) is.are

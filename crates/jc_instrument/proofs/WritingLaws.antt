@@ -1,6 +1,7 @@
 -- What is written of one body is its work's, whatever the names with which it was read.
-use Rattle.std.proofs.Common.{◌≡◌, ℕ, ◌≤◌, List, [], ◌∷◌, length, map, sym, ◌∙◌, ap, subst}
+use Rattle.std.proofs.Common.{◌≡◌, ℕ, ◌≤◌, false, List, [], ◌∷◌, length, map, sym, ◌∙◌, ap, subst, arith}
 use Rattle.std.specs.List.{AllByRecursion}
+use Rattle.std.proofs.lemmas.List.{length-map}
 use Rattle.jc_methods.specs.VerificationTypes.{AreNumberedFrames, Grows, Names, TypeStateAt, type_state_at}
 use Rattle.jc_methods.specs.declared.body.Body.{Body}
 use Rattle.jc_methods.specs.declared.body.FrameAt.{FrameAt}
@@ -15,6 +16,8 @@ use Rattle.jc_frames.specs.FullTable.{CanBeWritten, FitsFull, RefusesClasses, Ta
 use Rattle.jc_frames.proofs.TakenLaws.{all_stand}
 use Rattle.jc_plan.specs.Plan.{plan_of}
 use Rattle.jc_emit.specs.Emission.{emission}
+use Rattle.jc_emit.specs.Items.{land_of, lead_of}
+use Rattle.jc_emit.specs.TwinTables.{moved_row}
 use Rattle.jc_emit.specs.Stages.{AreLayoutFrames, moved_tables}
 use Rattle.jc_kinds.specs.Answers.{AreStates}
 use Rattle.jc_methods.specs.declared.kind.State.{State}
@@ -49,6 +52,7 @@ ready_grown old new r grows ready = record {
   plan = ready.plan;
   next = ready.next;
   room = ready.room;
+  rows = ready.rows;
   laid = ready.laid;
   states = states_grown old new r.body r.states grows ready.numbered ready.states;
 }
@@ -65,6 +69,12 @@ frames_of old now r first frames states grows ready same framed = record {
 
 pub few_bytes : (names : Names) (r : ReadyBody) → IsReady names r → length r.laid.code ≤ 65535
 few_bytes names r ready = (ready.laid ready.plan.0 [] 0 ready.plan.1).few
+
+pub few_rows : (r : ReadyBody) (first : ℕ) (tables : MovedTables) → length r.body.handlers ≤ 65535 → tables ≡ moved_tables r.body first
+    → length tables.handlers ≤ 65535
+few_rows r first tables few is =
+    let same = ap (λ (t : MovedTables). length t.handlers) is ∙ length-map r.body.handlers (moved_row (lead_of r.body first false) (land_of r.body first false)) in
+    omega (arith, same, few)
 
 pub can_be_written : (now : Names) (r : ReadyBody) → IsReady now r → (frames : List FrameAt) (first : ℕ) → r.plan ≡ plan_of r.body first
     → AreFramesOf now r.body first r.laid.wide frames → CanBeWritten r.laid.starts (length now) frames

@@ -41,6 +41,7 @@ pub record IsReady (names : Names) (r : ReadyBody) : Type 0 where
   pub plan : HasPlan r.body r.plan
   pub next : r.plan.next ≤ 32767
   pub room : HasRoom r.body
+  pub rows : length r.body.handlers ≤ 65535
   pub laid : IsLaidFor r.body r.plan r.laid
   pub states : AreStates names r.body r.states
 
@@ -50,6 +51,7 @@ pub record IsReady (names : Names) (r : ReadyBody) : Type 0 where
 pub record TakesProbes (b : Body) (first : ℕ) : Type 0 where
   pub made : IsWellMade b
   pub taken : IsTaken b
+  pub rows : length b.handlers ≤ 65535
   pub next : (plan_of b first).next ≤ 32767
   pub short : chosen_length (probed_code b first) ≤ 65535
 

@@ -65,6 +65,7 @@ fn plan_next(
     requires plan { plan ≡ plan_of body first }
     requires next { plan.next ≤ 32767 }
     requires taken { IsTaken body }
+    requires rows { length body.handlers ≤ 65535 }
     ensures put { (names : ClassNames) → AreNumberedFrames (length names) body.frames → IfSome states (AreStates names body)
         → OnOk result (PutsPlanned names body first bodies.old bodies.new) }
     ensures few { OnOk result (places_kept bodies.new ≤ places_kept bodies.old + places_if_kept body states) }
@@ -97,6 +98,7 @@ fn look_at_passing(
     so_far: &mut Looking,
 ) -> Result<(), Memory>
     requires made { IsWellMade body }
+    requires rows { length body.handlers ≤ 65535 }
     requires probes { so_far.old.probes ≤ 134217728 }
     ensures on { (names : ClassNames) → AreNumberedFrames (length names) body.frames → IfSome states (AreStates names body)
         → OnOk result (LooksOn names body so_far.old so_far.new) }
@@ -137,6 +139,7 @@ fn look_at_body(
 ) -> Result<(), Memory>
     requires made { IsWellMade body }
     requires frames { AreNumberedFrames (length names.old) body.frames }
+    requires rows { length body.handlers ≤ 65535 }
     requires probes { AreFramesFine so_far.old.frames → so_far.old.probes ≤ 134217728 }
     ensures looks { OnOk result (LooksAtBody names.new body so_far.old so_far.new) }
     ensures few { OnOk result (places_kept so_far.new.bodies + so_far.new.left ≤ places_kept so_far.old.bodies + so_far.old.left) }

@@ -20,15 +20,11 @@ use jc_methods::FrameAt;
 use jc_pool::{Pool, PoolFull};
 use std::alloc::Global;
 
-/// The most rows that an exception table has (JVM Specification 4.7.3).
-const MOST_ROWS: usize = 65_535;
-
 /// What the Code attribute of an instrumented method holds (JVM Specification 4.7.3).
 ///
 /// # Errors
 ///
-/// `Memory` where memory was refused, and where there are more rows than an exception table has, or
-/// more bytes than an attribute holds.
+/// `Memory` where memory was refused, and where there are more bytes than an attribute holds.
 fn code_text(
     alloc: Global,
     tables: &MovedTables,
@@ -38,6 +34,7 @@ fn code_text(
     places: &CodePlaces,
     pool: &mut Pool,
 ) -> Result<Bytes, Memory>
+    requires rows { length tables.now.handlers ≤ 65535 }
     requires few { length laid.now.code ≤ 65535 }
     requires frames { CanBeWritten laid.now.starts (length names.now) frames.now }
     requires classes { AllByRecursion (HasPlace pool.old) (named_by_all (map (type_state_at names.now) frames.now)) }
@@ -53,9 +50,6 @@ fn code_text(
         vars: &tables.vars,
         kind_vars: &tables.kind_vars,
     };
-    if tables.handlers.len() > MOST_ROWS {
-        return Err(Memory);
-    }
     write_laid(alloc, &tables, laid, frames, names, places, pool)
 }
 

@@ -24,6 +24,7 @@ returns-clause-ready c =
       plan = (c.args.first, c.in_ok-plan.ensures);
       next = subst (λ (p : Plan). p.next ≤ 32767) (sym c.in_ok-plan.ensures) c.requires.takes.next;
       room = c.in_ok-laid.ensures.room;
+      rows = c.requires.takes.rows;
       laid = c.in_ok-laid.ensures.laid;
       states = found.states;
     }

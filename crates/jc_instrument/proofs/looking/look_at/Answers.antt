@@ -3,6 +3,7 @@ use Rattle.std.proofs.lemmas.Bool.{true≢false}
 use Rattle.jc_methods.proofs.MetNamesLaws.{grows_both}
 use Rattle.jc_instrument.proofs.LookedLaws.{body_looked, body_passed_by, fault_looked, none_looked, probes_so_far}
 use Rattle.jc_instrument.proofs.OneBodyLaws.{grown_body}
+use Rattle.jc_instrument.proofs.SmallBodiesLaws.{few_rows}
 use Rattle.jc_instrument.proofs.looking.look_at.Goals as goal
 
 pub returns-in_ok-look_at_body-in-Ok-Some-clause-looked : goal.returns-in_ok-look_at_body-in-Ok-Some-clause-looked
@@ -40,3 +41,8 @@ returns-in_ok-so_far-in-Err-clause-looked c =
 pub look_at_body-requires-clause-probes : goal.look_at_body-requires-clause-probes
 look_at_body-requires-clause-probes c =
     probes_so_far c.args.names.now c.args.class.now c.args.number c.args.so_far.now c.requires.text c.requires.before (c.is_wanted.ensures.0 c.if-is_wanted.true).0
+
+pub look_at_body-requires-clause-rows : goal.look_at_body-requires-clause-rows
+look_at_body-requires-clause-rows c =
+    let body = rw c.in-Ok-Some.field-0-is at c.in-Ok-Some.ensures.body in
+    few_rows c.read_body.new.names c.args.class.now c.args.number c.in-Ok-Some.body c.requires.text body

@@ -17,9 +17,9 @@ returns-clause-put c = λ names numbered has.
     elim c.match-states-2.branch [
       | in-Some w ↦
           (puts_ready names b c.args.plan c.args.first l c.requires.plan laid old new w.in-Some.states c.requires.made c.requires.next c.in_ok-laid.ensures.room
-          numbered (subst (λ (o : Option (List State)). IfSome o (AreStates names b)) w.in-Some.is has)
+          c.requires.rows numbered (subst (λ (o : Option (List State)). IfSome o (AreStates names b)) w.in-Some.is has)
           (c.in_ok-push.ensures.ok ∙ ap (λ (p : PlannedBody). old ++ p ∷ []) w.next-is))
       | in-None w ↦
-          (puts_unread names b c.args.plan c.args.first l c.requires.plan laid old new c.requires.made c.requires.taken c.requires.next
+          (puts_unread names b c.args.plan c.args.first l c.requires.plan laid old new c.requires.made c.requires.taken c.requires.rows c.requires.next
           (c.in_ok-push.ensures.ok ∙ ap (λ (p : PlannedBody). old ++ p ∷ []) w.next-is))
     ]

@@ -10,7 +10,7 @@ use Rattle.jc_kinds.specs.Answers.{AreStates}
 use Rattle.jc_instrument_code.specs.LaidText.{laid_text}
 use Rattle.jc_instrument.specs.BodiesWithStates.{emitted_of}
 use Rattle.jc_instrument.specs.Writing.{IsWrittenBody}
-use Rattle.jc_instrument.proofs.WritingLaws.{body_written, can_be_written, few_bytes, frames_of, meant_refused, numbered_of, ready_grown}
+use Rattle.jc_instrument.proofs.WritingLaws.{body_written, can_be_written, few_bytes, few_rows, frames_of, meant_refused, numbered_of, ready_grown}
 use Rattle.jc_instrument.proofs.writing.body_text.Goals as goal
 
 pub emit_frames-requires-clause-states : goal.emit_frames-requires-clause-states
@@ -26,6 +26,11 @@ take_classes-requires c =
     subst (AreNumberedFrames (length now)) (sym c.deref-2.ensures)
     (numbered_of r.laid.starts (length now) c.in_ok-frames.frames
     (can_be_written now r ready c.in_ok-frames.frames plan.0 plan.1 (frames_of c.args.names.now now r plan.0 c.in_ok-frames.frames c.deref.result.now c.in_ok-frames.ensures.names c.requires c.deref.ensures (c.in_ok-frames.ensures.frames plan.0 plan.1))))
+
+pub code_text-requires-clause-rows : goal.code_text-requires-clause-rows
+code_text-requires-clause-rows c =
+    let plan = c.requires.plan in
+    few_rows c.args.ready plan.0 c.in_ok-tables.tables c.requires.rows (c.in_ok-tables.ensures plan.0 plan.1)
 
 pub code_text-requires-clause-few : goal.code_text-requires-clause-few
 code_text-requires-clause-few c = few_bytes c.args.names.now c.args.ready c.requires
