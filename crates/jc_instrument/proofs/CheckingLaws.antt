@@ -1,112 +1,226 @@
--- The kind check of the bodies of a class, one after the other.
-use Rattle.std.proofs.Common.{◌≡◌, ◌⊎◌, inl, inr, ℕ, ◌+◌, ◌<◌, List, ◌++◌, length, get_or, Option, Some, None, slice_get, refl, sym, ◌∙◌, ap, subst, arith, append_assoc}
-use Rattle.std.specs.Prelude.{All}
-use Rattle.std.specs.Option.{MatchOption}
-use Rattle.std.proofs.lemmas.Option.{slice_get-get_or}
+-- The kind check of the bodies of a class, one after the other: the first refusals of the bodies so far.
+use Rattle.std.proofs.Common.{◌≡◌, ◌⊎◌, inl, inr, ℕ, zero, suc, ◌+◌, ◌<◌, List, [], ◌∷◌, ◌++◌, length, take, Option, Some, None, slice_get, refl, sym, ◌∙◌, ap, subst, arith}
+use Rattle.std.specs.Prelude.{All, unwrap_or}
+use Rattle.std.proofs.lemmas.List.{take_more}
+use Rattle.std.proofs.lemmas.Option.{get_or_from_slice_get, none-some, same_Some, slice_get_within}
 use Rattle.jc_methods.specs.VerificationTypes.{Names, AreNumberedFrames, Grows}
 use Rattle.jc_methods.specs.declared.body.Body.{Body}
-use Rattle.jc_bytes.specs.declared.refusal.Refusal.{Refusal}
-use Rattle.jc_bytes.specs.declared.refusal.RefusalKind.TheVariants as kinds
 use Rattle.jc_methods.proofs.NumberedLaws.{grown_count, frames_numbered}
-use Rattle.jc_bytes.proofs.ListLaws.{below_or_last}
+use Rattle.jc_bytes.specs.declared.refusal.Refusal.{Refusal}
+use Rattle.jc_bytes.specs.declared.refusal.RefusalKind.{RefusalKind}
+use Rattle.jc_bytes.specs.declared.refusal.RefusalKind.TheVariants as kinds
+use Rattle.jc_bytes.proofs.ListLaws.{put_cases, put_last, put_stays}
+use Rattle.jc_kinds.specs.Answers.{IsKindReason, IsKindRefusal}
 use Rattle.jc_kinds.specs.Checked.{Checked, FirstMissing, FirstClash}
 use Rattle.jc_kinds.proofs.CheckLaws.{checked_not_missing, checked_not_clash}
-use Rattle.jc_instrument.specs.Steps.{InBodies, IsFrameRefusal, KeepsClash}
+use Rattle.jc_instrument.specs.Causes.{of_method}
+use Rattle.jc_instrument.specs.Found.{ChecksOn, FramesSoFar, first_of, noted}
+use Rattle.jc_instrument.specs.Steps.{InBodies, IsFrameRefusal}
+use Rattle.jc_instrument.specs.declared.found.FrameRefusals.{FrameRefusals}
 use Rattle.jc_instrument.proofs.FrameCauseLaws.{each_at}
 use Rattle.jc_instrument_reread.proofs.SameBodyLaws.{AreSame, turned, grown_same, same_clash, same_check}
 
-same_item : {x y : Body} → Some x ≡ Some y → x ≡ y
-same_item e = cc
+pub some_is_none : {X : Type 0} (x : X) → Some x ≡ None → ⊥
+some_is_none x e = cc
 
-pub grown_on : (first names more : Names) → Grows first names → Grows names more → Grows first more
-grown_on first names more one two = (one.0 ++ two.0, two.1 ∙ ap (λ (l : Names). l ++ two.0) one.1 ∙ append_assoc first one.0 two.0)
+-- ---- the first of which a fact holds, once one more body stands last
 
--- ---- the bodies so far
-
--- they pass the kind check, or this refusal of the first clash is kept
-abbrev pub Found : Names → List Body → ℕ → Option Refusal → Type 0
-Found names bodies n clash =
-    MatchOption clash ((i : ℕ) (b : Body) → i < n → slice_get bodies i ≡ Some b → Checked names b) (InBodies kinds.FrameClash (FirstClash names) bodies)
-
--- No frame is missing in the first n bodies. They pass the kind check, or this refusal of the first clash is kept.
-pub record IsChecking (first names : Names) (bodies : List Body) (n : ℕ) (clash : Option Refusal) : Type 0 where
-  pub grows : Grows first names
-  pub none_missing : (i place : ℕ) (b : Body) → i < n → slice_get bodies i ≡ Some b → FirstMissing b place → ⊥
-  pub found : Found names bodies n clash
-
-module _ (first names more : Names) (bodies : List Body) (numbered : All (λ b. AreNumberedFrames (length first) b.frames) bodies)
-    (since : Grows first names) (grows : Grows names more) where
-  numbered_at : (i : ℕ) (b : Body) → slice_get bodies i ≡ Some b → AreNumberedFrames (length names) b.frames
-  numbered_at i b stands =
-      frames_numbered _ _ b.frames (grown_count first names since) (each_at (λ x. AreNumberedFrames (length first) x.frames) bodies numbered i b stands)
-
-  same_at : (i : ℕ) (b : Body) → slice_get bodies i ≡ Some b → AreSame names more b b
-  same_at i b stands = grown_same names more b grows (numbered_at i b stands)
-
-  clash_stays : (r : Refusal) → InBodies kinds.FrameClash (FirstClash names) bodies r → InBodies kinds.FrameClash (FirstClash more) bodies r
-  clash_stays r f = record {
+module _ (kind : RefusalKind) (Fact : Body → ℕ → Type 0) (bodies : List Body) (b : Body) where
+  -- it stays
+  pub first_stays : (r : Refusal) → InBodies kind Fact bodies r → InBodies kind Fact (bodies ++ b ∷ []) r
+  first_stays r f = record {
     index = f.index;
     place = f.place;
     body = f.body;
-    stands = f.stands;
+    stands = put_stays bodies b f.body f.index f.stands;
     refusal = f.refusal;
-    holds = same_clash names more f.body f.body (same_at f.index f.body f.stands) f.place f.holds;
-    none_before = λ before at other less stands clash.
-        f.none_before before at other less stands (same_clash more names other other (turned names more other other (same_at before other stands)) at clash);
+    holds = f.holds;
+    none_before = λ before at other less stands fact. earlier before at other less fact (put_cases bodies b other before stands);
   }
+    where
+      earlier : (before at : ℕ) (other : Body) → before < f.index → Fact other at
+          → (slice_get bodies before ≡ Some other) ⊎ ((before ≡ length bodies) × (b ≡ other)) → ⊥
+      earlier before at other less fact (inl there) = f.none_before before at other less there fact
+      earlier before at other less fact (inr last) =
+          let within = slice_get_within bodies f.index f.body f.stands in
+          let end = last.0 in
+          omega (arith, less, within, end)
 
-  module _ (n : ℕ) (clash new : Option Refusal) (b : Body) (stands : slice_get bodies n ≡ Some b) (before : IsChecking first names bodies n clash) where
-    none_in_this : KeepsClash more b clash new → (place : ℕ) → FirstMissing b place → ⊥
-    none_in_this (inl checked) place f = checked_not_missing more b place checked.0 f
-    none_in_this (inr found) place f = found.1.0 place f.there
+  module _ (none : (i place : ℕ) (x : Body) → slice_get bodies i ≡ Some x → Fact x place → ⊥) where
+    -- it holds of none of them, and not of the last
+    pub none_on : ((place : ℕ) → Fact b place → ⊥) → (i place : ℕ) (x : Body) → slice_get (bodies ++ b ∷ []) i ≡ Some x → Fact x place → ⊥
+    none_on here i place x stands fact = by (put_cases bodies b x i stands)
+      where
+        by : (slice_get bodies i ≡ Some x) ⊎ ((i ≡ length bodies) × (b ≡ x)) → ⊥
+        by (inl there) = none i place x there fact
+        by (inr last) = here place (subst (λ (y : Body). Fact y place) (sym last.1) fact)
 
-    here : (i : ℕ) (x : Body) → i ≡ n → slice_get bodies i ≡ Some x → b ≡ x
-    here i x last at = same_item (sym stands ∙ ap (slice_get bodies) (sym last) ∙ at)
-
-    pub checks_on : KeepsClash more b clash new → IsChecking first more bodies (n + 1) new
-    checks_on keeps = record {
-      grows = grown_on first names more since grows;
-      none_missing = λ i place x less at f. none i place x at f (below_or_last n i less);
-      found = found clash before.found keeps;
+    -- the last is the first
+    pub last_first : (r : Refusal) (place : ℕ) → r ≡ of_method kind b.method place → Fact b place → InBodies kind Fact (bodies ++ b ∷ []) r
+    last_first r place is holds = record {
+      index = length bodies;
+      place = place;
+      body = b;
+      stands = put_last bodies b;
+      refusal = is;
+      holds = holds;
+      none_before = λ before at other less stands fact. earlier before at other less fact (put_cases bodies b other before stands);
     }
       where
-        none : (i place : ℕ) (x : Body) → slice_get bodies i ≡ Some x → FirstMissing x place → (i < n) ⊎ (i ≡ n) → ⊥
-        none i place x at f (inl less) = before.none_missing i place x less at f
-        none i place x at f (inr last) = none_in_this keeps place (subst (λ (y : Body). FirstMissing y place) (sym (here i x last at)) f)
+        earlier : (before at : ℕ) (other : Body) → before < length bodies → Fact other at
+            → (slice_get bodies before ≡ Some other) ⊎ ((before ≡ length bodies) × (b ≡ other)) → ⊥
+        earlier before at other less fact (inl there) = none before at other there fact
+        earlier before at other less fact (inr last) = let end = last.0 in omega (arith, less, end)
 
-        found : (kept : Option Refusal) → Found names bodies n kept → KeepsClash more b kept new → Found more bodies (n + 1) new
-        found None all (inl checked) = subst (Found more bodies (n + 1)) (sym checked.1) (λ i x less at. each i x at (below_or_last n i less))
-          where
-            each : (i : ℕ) (x : Body) → slice_get bodies i ≡ Some x → (i < n) ⊎ (i ≡ n) → Checked more x
-            each i x at (inl less) = same_check names more x x (same_at i x at) (all i x less at)
-            each i x at (inr last) = subst (Checked more) (here i x last at) checked.0
-        found None all (inr clash) = subst (Found more bodies (n + 1)) (sym clash.2) (record {
-          index = n;
-          place = clash.0;
-          body = b;
-          stands = stands;
-          refusal = refl;
-          holds = clash.1;
-          none_before = λ i place x less at f. checked_not_clash more x place (same_check names more x x (same_at i x at) (all i x less at)) f;
-        })
-        found (Some r) kept (inl checked) = subst (Found more bodies (n + 1)) (sym checked.1) (clash_stays r kept)
-        found (Some r) kept (inr clash) = subst (Found more bodies (n + 1)) (sym clash.2) (clash_stays r kept)
+-- ---- the kind check, once one more body stands last
+
+module _ (names : Names) (bodies : List Body) (b : Body) where
+  not_missing : (place : ℕ) → FirstClash names b place → (at : ℕ) → FirstMissing b at → ⊥
+  not_missing place clash at missing = clash.0 at missing.there
+
+  none_missing : ((i : ℕ) (x : Body) → slice_get bodies i ≡ Some x → Checked names x) → (i place : ℕ) (x : Body) → slice_get bodies i ≡ Some x
+      → FirstMissing x place → ⊥
+  none_missing all i place x at missing = checked_not_missing names x place (all i x at) missing
+
+  none_clashes : ((i : ℕ) (x : Body) → slice_get bodies i ≡ Some x → Checked names x) → (i place : ℕ) (x : Body) → slice_get bodies i ≡ Some x
+      → FirstClash names x place → ⊥
+  none_clashes all i place x at clash = checked_not_clash names x place (all i x at) clash
+
+  pub frames_pass : (missing clash : Option Refusal) → FramesSoFar names bodies missing clash → Checked names b
+      → FramesSoFar names (bodies ++ b ∷ []) missing clash
+  frames_pass (Some r) clash found checked = first_stays kinds.FrameMissing FirstMissing bodies b r found
+  frames_pass None (Some r) found checked = (
+    none_on kinds.FrameMissing FirstMissing bodies b found.0 (λ place f. checked_not_missing names b place checked f),
+    first_stays kinds.FrameClash (FirstClash names) bodies b r found.1,
+  )
+  frames_pass None None all checked = λ i x stands. by i x (put_cases bodies b x i stands)
+    where
+      by : (i : ℕ) (x : Body) → (slice_get bodies i ≡ Some x) ⊎ ((i ≡ length bodies) × (b ≡ x)) → Checked names x
+      by i x (inl there) = all i x there
+      by i x (inr last) = subst (Checked names) last.1 checked
+
+  missing_noted : (missing clash : Option Refusal) (r : Refusal) → FramesSoFar names bodies missing clash → r ≡ of_method kinds.FrameMissing b.method r.place
+      → FirstMissing b r.place → InBodies kinds.FrameMissing FirstMissing (bodies ++ b ∷ []) (unwrap_or missing r)
+  missing_noted (Some s) clash r found is here = first_stays kinds.FrameMissing FirstMissing bodies b s found
+  missing_noted None (Some s) r found is here = last_first kinds.FrameMissing FirstMissing bodies b found.0 r r.place is here
+  missing_noted None None r all is here = last_first kinds.FrameMissing FirstMissing bodies b (none_missing all) r r.place is here
+
+  clash_noted : (missing clash : Option Refusal) (r : Refusal) → FramesSoFar names bodies missing clash → r ≡ of_method kinds.FrameClash b.method r.place
+      → FirstClash names b r.place → FramesSoFar names (bodies ++ b ∷ []) missing (Some (unwrap_or clash r))
+  clash_noted (Some s) clash r found is here = first_stays kinds.FrameMissing FirstMissing bodies b s found
+  clash_noted None (Some s) r found is here = (
+    none_on kinds.FrameMissing FirstMissing bodies b found.0 (not_missing r.place here),
+    first_stays kinds.FrameClash (FirstClash names) bodies b s found.1,
+  )
+  clash_noted None None r all is here = (
+    none_on kinds.FrameMissing FirstMissing bodies b (none_missing all) (not_missing r.place here),
+    last_first kinds.FrameClash (FirstClash names) bodies b (none_clashes all) r r.place is here,
+  )
+
+  pub frames_refused : (first : FrameRefusals) (r : Refusal) → FramesSoFar names bodies first.missing first.clash → IsKindRefusal names b r
+      → FramesSoFar names (bodies ++ b ∷ []) (noted r.kind r first).missing (noted r.kind r first).clash
+  frames_refused first r found refused = by r.kind refl refused.reason
+    where
+      is : (kind : RefusalKind) → r.kind ≡ kind → r ≡ of_method kind b.method r.place
+      is kind same = λ i. record { kind = same i; method = refused.method_is i; place = r.place }
+
+      by : (kind : RefusalKind) → r.kind ≡ kind → IsKindReason names b kind r.place
+          → FramesSoFar names (bodies ++ b ∷ []) (noted kind r first).missing (noted kind r first).clash
+      by kinds.FrameMissing same missing = missing_noted first.missing first.clash r found (is kinds.FrameMissing same) missing
+      by kinds.FrameClash same clash = clash_noted first.missing first.clash r found (is kinds.FrameClash same) clash
+      by kind same reason = absurd reason
+
+  -- behind a missing frame nothing more is asked
+  pub missing_kept : (r : Refusal) (missing clash : Option Refusal) → missing ≡ Some r → FramesSoFar names bodies missing clash
+      → FramesSoFar names (bodies ++ b ∷ []) missing clash
+  missing_kept r (Some q) clash is found = first_stays kinds.FrameMissing FirstMissing bodies b q found
+  missing_kept r None clash is found = absurd (some_is_none r (sym is))
+
+  pub checked_on : (old new : FrameRefusals) → FramesSoFar names bodies old.missing old.clash → ChecksOn names b old new
+      → FramesSoFar names (bodies ++ b ∷ []) new.missing new.clash
+  checked_on old new found (inl behind) =
+      subst (λ (f : FrameRefusals). FramesSoFar names (bodies ++ b ∷ []) f.missing f.clash) (sym behind.2)
+      (missing_kept behind.0 old.missing old.clash behind.1 found)
+  checked_on old new found (inr (inl passes)) =
+      subst (λ (f : FrameRefusals). FramesSoFar names (bodies ++ b ∷ []) f.missing f.clash) (sym passes.1)
+      (frames_pass old.missing old.clash found passes.0)
+  checked_on old new found (inr (inr refused)) =
+      subst (λ (f : FrameRefusals). FramesSoFar names (bodies ++ b ∷ []) f.missing f.clash) (sym refused.2)
+      (frames_refused old refused.0 found refused.1)
+
+-- ---- more names
+
+module _ (old new : Names) (grows : Grows old new) (bodies : List Body)
+    (numbered : (i : ℕ) (x : Body) → slice_get bodies i ≡ Some x → AreNumberedFrames (length old) x.frames) where
+  same_at : (i : ℕ) (x : Body) → slice_get bodies i ≡ Some x → AreSame old new x x
+  same_at i x at = grown_same old new x grows (numbered i x at)
+
+  pub frames_grown : (missing clash : Option Refusal) → FramesSoFar old bodies missing clash → FramesSoFar new bodies missing clash
+  frames_grown (Some r) clash found = found
+  frames_grown None (Some r) found =
+      let f = found.1 in (
+        found.0,
+        record {
+          index = f.index;
+          place = f.place;
+          body = f.body;
+          stands = f.stands;
+          refusal = f.refusal;
+          holds = same_clash old new f.body f.body (same_at f.index f.body f.stands) f.place f.holds;
+          none_before = λ before at other less stands clash.
+              f.none_before before at other less stands
+              (same_clash new old other other (turned old new other other (same_at before other stands)) at clash);
+        },
+      )
+  frames_grown None None all = λ i x at. same_check old new x x (same_at i x at) (all i x at)
+
+-- ---- bodies of a list, from the first on
+
+in_front : {X : Type 0} (xs : List X) (n i : ℕ) (x : X) → slice_get (take n xs) i ≡ Some x → slice_get xs i ≡ Some x
+in_front xs zero i x at = absurd (none-some x at)
+in_front [] (suc n) i x at = absurd (none-some x at)
+in_front (y ∷ xs) (suc n) zero x at = at
+in_front (y ∷ xs) (suc n) (suc i) x at = in_front xs n i x at
+
+module _ (first names more : Names) (bodies : List Body) (numbered : All (λ b. AreNumberedFrames (length first) b.frames) bodies)
+    (since : Grows first names) (grows : Grows names more) (n : ℕ) (b : Body) (stands : slice_get bodies n ≡ Some b) where
+  numbered_at : (i : ℕ) (x : Body) → slice_get (take n bodies) i ≡ Some x → AreNumberedFrames (length names) x.frames
+  numbered_at i x at =
+      frames_numbered _ _ x.frames (grown_count first names since)
+      (each_at (λ y. AreNumberedFrames (length first) y.frames) bodies numbered i x (in_front bodies n i x at))
+
+  one_more : take (n + 1) bodies ≡ take n bodies ++ b ∷ []
+  one_more =
+      take_more bodies n b (slice_get_within bodies n b stands)
+      ∙ ap (λ (x : Body). take n bodies ++ x ∷ []) (get_or_from_slice_get bodies n b b stands)
+
+  pub checks_on : (old new : FrameRefusals) → FramesSoFar names (take n bodies) old.missing old.clash → ChecksOn more b old new
+      → FramesSoFar more (take (n + 1) bodies) new.missing new.clash
+  checks_on old new so on =
+      subst (λ (l : List Body). FramesSoFar more l new.missing new.clash) (sym one_more)
+      (checked_on more (take n bodies) b old new (frames_grown names more grows (take n bodies) numbered_at old.missing old.clash so) on)
 
 -- ---- the end
 
-pub clash_ends : (first names : Names) (bodies : List Body) (n : ℕ) (clash : Option Refusal) (r : Refusal) → clash ≡ Some r
-    → ((i : ℕ) (b : Body) → slice_get bodies i ≡ Some b → i < n) → IsChecking first names bodies n clash → IsFrameRefusal names bodies r
-clash_ends first names bodies n clash r is whole all = inr (
-  λ i place b stands f. all.none_missing i place b (whole i b stands) stands f,
-  subst (Found names bodies n) is all.found,
-)
+none_is_some : {X : Type 0} (x : X) → None ≡ Some x → ⊥
+none_is_some x e = cc
 
-pub all_checked : (first names : Names) (bodies : List Body) (n : ℕ) (clash : Option Refusal) → clash ≡ None → n ≡ length bodies
-    → IsChecking first names bodies n clash → All (Checked names) bodies
-all_checked first names bodies n clash is whole all = λ k d less.
-    each k (get_or bodies k d) (slice_get-get_or bodies k d less) (let l : k < n = omega (arith, less, whole) in l)
-  where
-    each : (i : ℕ) (b : Body) → slice_get bodies i ≡ Some b → i < n → Checked names b
-    each i b stands less =
-        subst (Found names bodies n) is all.found
-        i b less stands
+pub frames_fine : (missing clash : Option Refusal) → first_of missing clash ≡ None → (missing ≡ None) × (clash ≡ None)
+frames_fine (Some q) clash is = absurd (some_is_none q is)
+frames_fine None clash is = (refl, is)
+
+module _ (names : Names) (bodies : List Body) where
+  pub frame_found : (missing clash : Option Refusal) (r : Refusal) → FramesSoFar names bodies missing clash → first_of missing clash ≡ Some r
+      → IsFrameRefusal names bodies r
+  frame_found (Some q) clash r found is = inl (subst (InBodies kinds.FrameMissing FirstMissing bodies) (same_Some q r is) found)
+  frame_found None (Some q) r found is = inr (
+    found.0,
+    subst (InBodies kinds.FrameClash (FirstClash names) bodies) (same_Some q r is) found.1,
+  )
+  frame_found None None r all is = absurd (none_is_some r is)
+
+  pub all_checked : (missing clash : Option Refusal) → first_of missing clash ≡ None → FramesSoFar names bodies missing clash
+      → (i : ℕ) (b : Body) → slice_get bodies i ≡ Some b → Checked names b
+  all_checked (Some q) clash is found = absurd (some_is_none q is)
+  all_checked None (Some q) is found = absurd (some_is_none q is)
+  all_checked None None is all = all

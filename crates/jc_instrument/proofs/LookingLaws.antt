@@ -13,80 +13,25 @@ use Rattle.jc_bytes.specs.declared.refusal.Refusal.{Refusal}
 use Rattle.jc_bytes.specs.declared.refusal.RefusalKind.{RefusalKind}
 use Rattle.jc_bytes.specs.declared.refusal.RefusalKind.TheVariants as kinds
 use Rattle.jc_bytes.proofs.ListLaws.{below_or_last, put_cases, put_last, put_stays}
-use Rattle.jc_kinds.specs.Answers.{IsKindReason, IsKindRefusal}
-use Rattle.jc_kinds.specs.Checked.{Checked, FirstMissing, FirstClash}
-use Rattle.jc_kinds.proofs.CheckLaws.{checked_not_missing, checked_not_clash}
 use Rattle.jc_emit.specs.Refusing.{IsTaken}
 use Rattle.jc_emit.specs.Straddling.{IsEmitReason}
 use Rattle.jc_layout.specs.Layout.{chosen_length}
 use Rattle.jc_plan.specs.Analysed.{all_probes}
 use Rattle.jc_plan.specs.Probed.{first_id, probe_count}
-use Rattle.jc_instrument_reread.proofs.SameBodyLaws.{AreSame, turned, grown_same, same_clash, same_check}
-use Rattle.jc_instrument.specs.Causes.{of_method}
-use Rattle.jc_instrument.specs.Found.{AreFramesFine, HasRoomSoFar, KeepsLack, noted}
-use Rattle.jc_instrument.specs.Looking.{AreLookedAt, FramesSoFar, LooksAtBody, LooksOn, PassesOn, PlannedSoFar, PlansOn, PutsPlanned, RefusedOn, RoomSoFar}
+use Rattle.jc_instrument.specs.Found.{AreFramesFine, FramesSoFar, HasRoomSoFar, KeepsLack, noted}
+use Rattle.jc_instrument.specs.Looking.{AreLookedAt, LooksAtBody, LooksOn, PassesOn, PlannedSoFar, PlansOn, PutsPlanned, RefusedOn, RoomSoFar}
 use Rattle.jc_instrument.specs.Probing.{AreShortBelow, IsFirstTooLong, IsTooLong}
 use Rattle.jc_instrument.specs.Ready.{ArePlanned, IsPlannedAt, IsPlannedBody}
 use Rattle.jc_instrument.specs.Room.{IsFirstThatLacks, LacksRoom}
 use Rattle.jc_instrument.specs.RoomCauses.{probed_code}
-use Rattle.jc_instrument.specs.Steps.{InBodies}
 use Rattle.jc_instrument.specs.declared.found.FrameRefusals.{FrameRefusals}
 use Rattle.jc_instrument.specs.declared.found.RoomRefusals.{RoomRefusals}
 use Rattle.jc_instrument.specs.declared.looking.Looking.{Looking}
 use Rattle.jc_instrument.specs.declared.ready.PlannedBody.{PlannedBody}
+use Rattle.jc_instrument.proofs.CheckingLaws.{first_stays, frames_grown, frames_pass, frames_refused, last_first, missing_kept, none_on, some_is_none}
 use Rattle.jc_instrument.proofs.PlannedLaws.{planned_grown}
 
-some_is_none : {X : Type 0} (x : X) → Some x ≡ None → ⊥
-some_is_none x e = cc
-
--- ---- the first of which a fact holds, once one more body stands last
-
-module _ (kind : RefusalKind) (Fact : Body → ℕ → Type 0) (bodies : List Body) (b : Body) where
-  -- it stays
-  pub first_stays : (r : Refusal) → InBodies kind Fact bodies r → InBodies kind Fact (bodies ++ b ∷ []) r
-  first_stays r f = record {
-    index = f.index;
-    place = f.place;
-    body = f.body;
-    stands = put_stays bodies b f.body f.index f.stands;
-    refusal = f.refusal;
-    holds = f.holds;
-    none_before = λ before at other less stands fact. earlier before at other less fact (put_cases bodies b other before stands);
-  }
-    where
-      earlier : (before at : ℕ) (other : Body) → before < f.index → Fact other at
-          → (slice_get bodies before ≡ Some other) ⊎ ((before ≡ length bodies) × (b ≡ other)) → ⊥
-      earlier before at other less fact (inl there) = f.none_before before at other less there fact
-      earlier before at other less fact (inr last) =
-          let within = slice_get_within bodies f.index f.body f.stands in
-          let end = last.0 in
-          omega (arith, less, within, end)
-
-  module _ (none : (i place : ℕ) (x : Body) → slice_get bodies i ≡ Some x → Fact x place → ⊥) where
-    -- it holds of none of them, and not of the last
-    pub none_on : ((place : ℕ) → Fact b place → ⊥) → (i place : ℕ) (x : Body) → slice_get (bodies ++ b ∷ []) i ≡ Some x → Fact x place → ⊥
-    none_on here i place x stands fact = by (put_cases bodies b x i stands)
-      where
-        by : (slice_get bodies i ≡ Some x) ⊎ ((i ≡ length bodies) × (b ≡ x)) → ⊥
-        by (inl there) = none i place x there fact
-        by (inr last) = here place (subst (λ (y : Body). Fact y place) (sym last.1) fact)
-
-    -- the last is the first
-    pub last_first : (r : Refusal) (place : ℕ) → r ≡ of_method kind b.method place → Fact b place → InBodies kind Fact (bodies ++ b ∷ []) r
-    last_first r place is holds = record {
-      index = length bodies;
-      place = place;
-      body = b;
-      stands = put_last bodies b;
-      refusal = is;
-      holds = holds;
-      none_before = λ before at other less stands fact. earlier before at other less fact (put_cases bodies b other before stands);
-    }
-      where
-        earlier : (before at : ℕ) (other : Body) → before < length bodies → Fact other at
-            → (slice_get bodies before ≡ Some other) ⊎ ((before ≡ length bodies) × (b ≡ other)) → ⊥
-        earlier before at other less fact (inl there) = none before at other there fact
-        earlier before at other less fact (inr last) = let end = last.0 in omega (arith, less, end)
+-- ---- lacks of room, once one more body stands last
 
 pub lack_on : (kind : RefusalKind) (bodies : List Body) (b : Body) (first new : Option Refusal) → IsFirstThatLacks kind bodies first
     → KeepsLack kind b first new → IsFirstThatLacks kind (bodies ++ b ∷ []) new
@@ -238,64 +183,6 @@ module _ (names : Names) (bodies : List Body) (b : Body) where
         plans_on old new old.large so.probes (so.planned (room_before old new on has) (omega (arith, few, more))) (on.planned has few);
   }
 
--- ---- the kind check, once one more body stands last
-
-module _ (names : Names) (bodies : List Body) (b : Body) where
-  not_missing : (place : ℕ) → FirstClash names b place → (at : ℕ) → FirstMissing b at → ⊥
-  not_missing place clash at missing = clash.0 at missing.there
-
-  none_missing : ((i : ℕ) (x : Body) → slice_get bodies i ≡ Some x → Checked names x) → (i place : ℕ) (x : Body) → slice_get bodies i ≡ Some x
-      → FirstMissing x place → ⊥
-  none_missing all i place x at missing = checked_not_missing names x place (all i x at) missing
-
-  none_clashes : ((i : ℕ) (x : Body) → slice_get bodies i ≡ Some x → Checked names x) → (i place : ℕ) (x : Body) → slice_get bodies i ≡ Some x
-      → FirstClash names x place → ⊥
-  none_clashes all i place x at clash = checked_not_clash names x place (all i x at) clash
-
-  frames_pass : (missing clash : Option Refusal) → FramesSoFar names bodies missing clash → Checked names b
-      → FramesSoFar names (bodies ++ b ∷ []) missing clash
-  frames_pass (Some r) clash found checked = first_stays kinds.FrameMissing FirstMissing bodies b r found
-  frames_pass None (Some r) found checked = (
-    none_on kinds.FrameMissing FirstMissing bodies b found.0 (λ place f. checked_not_missing names b place checked f),
-    first_stays kinds.FrameClash (FirstClash names) bodies b r found.1,
-  )
-  frames_pass None None all checked = λ i x stands. by i x (put_cases bodies b x i stands)
-    where
-      by : (i : ℕ) (x : Body) → (slice_get bodies i ≡ Some x) ⊎ ((i ≡ length bodies) × (b ≡ x)) → Checked names x
-      by i x (inl there) = all i x there
-      by i x (inr last) = subst (Checked names) last.1 checked
-
-  missing_noted : (missing clash : Option Refusal) (r : Refusal) → FramesSoFar names bodies missing clash → r ≡ of_method kinds.FrameMissing b.method r.place
-      → FirstMissing b r.place → InBodies kinds.FrameMissing FirstMissing (bodies ++ b ∷ []) (unwrap_or missing r)
-  missing_noted (Some s) clash r found is here = first_stays kinds.FrameMissing FirstMissing bodies b s found
-  missing_noted None (Some s) r found is here = last_first kinds.FrameMissing FirstMissing bodies b found.0 r r.place is here
-  missing_noted None None r all is here = last_first kinds.FrameMissing FirstMissing bodies b (none_missing all) r r.place is here
-
-  clash_noted : (missing clash : Option Refusal) (r : Refusal) → FramesSoFar names bodies missing clash → r ≡ of_method kinds.FrameClash b.method r.place
-      → FirstClash names b r.place → FramesSoFar names (bodies ++ b ∷ []) missing (Some (unwrap_or clash r))
-  clash_noted (Some s) clash r found is here = first_stays kinds.FrameMissing FirstMissing bodies b s found
-  clash_noted None (Some s) r found is here = (
-    none_on kinds.FrameMissing FirstMissing bodies b found.0 (not_missing r.place here),
-    first_stays kinds.FrameClash (FirstClash names) bodies b s found.1,
-  )
-  clash_noted None None r all is here = (
-    none_on kinds.FrameMissing FirstMissing bodies b (none_missing all) (not_missing r.place here),
-    last_first kinds.FrameClash (FirstClash names) bodies b (none_clashes all) r r.place is here,
-  )
-
-  frames_refused : (first : FrameRefusals) (r : Refusal) → FramesSoFar names bodies first.missing first.clash → IsKindRefusal names b r
-      → FramesSoFar names (bodies ++ b ∷ []) (noted r.kind r first).missing (noted r.kind r first).clash
-  frames_refused first r found refused = by r.kind refl refused.reason
-    where
-      is : (kind : RefusalKind) → r.kind ≡ kind → r ≡ of_method kind b.method r.place
-      is kind same = λ i. record { kind = same i; method = refused.method_is i; place = r.place }
-
-      by : (kind : RefusalKind) → r.kind ≡ kind → IsKindReason names b kind r.place
-          → FramesSoFar names (bodies ++ b ∷ []) (noted kind r first).missing (noted kind r first).clash
-      by kinds.FrameMissing same missing = missing_noted first.missing first.clash r found (is kinds.FrameMissing same) missing
-      by kinds.FrameClash same clash = clash_noted first.missing first.clash r found (is kinds.FrameClash same) clash
-      by kind same reason = absurd reason
-
 not_fine : (kind : RefusalKind) (r : Refusal) (first : FrameRefusals) → AreFramesFine (noted kind r first) → ⊥
 not_fine kinds.FrameMissing r first fine = some_is_none (unwrap_or first.missing r) fine.0
 not_fine kind r first fine = some_is_none (unwrap_or first.clash r) fine.1
@@ -329,9 +216,7 @@ module _ (names : Names) (bodies : List Body) (b : Body) (made : IsWellMade b) (
   pub missing_stays : (r : Refusal) → old.frames.missing ≡ Some r → AreLookedAt names (bodies ++ b ∷ []) old
   missing_stays r is = record {
     made = All-push IsWellMade bodies b so.made made;
-    frames = subst (λ (o : Option Refusal). FramesSoFar names (bodies ++ b ∷ []) o old.frames.clash) (sym is)
-        (first_stays kinds.FrameMissing FirstMissing bodies b r
-        (subst (λ (o : Option Refusal). FramesSoFar names bodies o old.frames.clash) is so.frames));
+    frames = missing_kept names bodies b r old.frames.missing old.frames.clash is so.frames;
     room = λ fine. absurd (some_is_none r (sym is ∙ fine.0));
   }
 
@@ -339,28 +224,6 @@ module _ (names : Names) (bodies : List Body) (b : Body) (made : IsWellMade b) (
 
 module _ (old new : Names) (grows : Grows old new) where
   module _ (bodies : List Body) (numbered : (i : ℕ) (x : Body) → slice_get bodies i ≡ Some x → AreNumberedFrames (length old) x.frames) where
-    same_at : (i : ℕ) (x : Body) → slice_get bodies i ≡ Some x → AreSame old new x x
-    same_at i x at = grown_same old new x grows (numbered i x at)
-
-    frames_grown : (missing clash : Option Refusal) → FramesSoFar old bodies missing clash → FramesSoFar new bodies missing clash
-    frames_grown (Some r) clash found = found
-    frames_grown None (Some r) found =
-        let f = found.1 in (
-          found.0,
-          record {
-            index = f.index;
-            place = f.place;
-            body = f.body;
-            stands = f.stands;
-            refusal = f.refusal;
-            holds = same_clash old new f.body f.body (same_at f.index f.body f.stands) f.place f.holds;
-            none_before = λ before at other less stands clash.
-                f.none_before before at other less stands
-                (same_clash new old other other (turned old new other other (same_at before other stands)) at clash);
-          },
-        )
-    frames_grown None None all = λ i x at. same_check old new x x (same_at i x at) (all i x at)
-
     so_far_grown : (planned : List PlannedBody) (large : Option Refusal) → PlannedSoFar old bodies planned large → PlannedSoFar new bodies planned large
     so_far_grown planned (Some r) found = found
     so_far_grown planned None so = record {
@@ -374,7 +237,7 @@ module _ (old new : Names) (grows : Grows old new) where
     pub looked_grown : (s : Looking) → AreLookedAt old bodies s → AreLookedAt new bodies s
     looked_grown s so = record {
       made = so.made;
-      frames = frames_grown s.frames.missing s.frames.clash so.frames;
+      frames = frames_grown old new grows bodies numbered s.frames.missing s.frames.clash so.frames;
       room = λ fine.
           let r = so.room fine in
           record { lacks = r.lacks; probes = r.probes; planned = λ has few. so_far_grown s.bodies s.large (r.planned has few) };

@@ -14,7 +14,7 @@ use Rattle.jc_bytes.specs.declared.refusal.Refusal.{Refusal}
 use Rattle.jc_bytes.specs.declared.refusal.RefusalKind.TheVariants as kinds
 use Rattle.jc_class.specs.declared.class_file.ClassFile.{ClassFile}
 use Rattle.jc_body.specs.BodyOf.{BodyOf}
-use Rattle.jc_kinds.specs.Checked.{Checked, FirstMissing, FirstClash}
+use Rattle.jc_kinds.specs.Checked.{Checked}
 use Rattle.jc_plan.specs.Analysed.{all_probes}
 use Rattle.jc_plan.specs.Probed.{first_id}
 use Rattle.jc_instrument_reread.proofs.SameBodyLaws.{grown_same}
@@ -23,18 +23,19 @@ use Rattle.jc_instrument.specs.BodiesWithStates.{AreBodiesWithStates, BodyWithSt
 use Rattle.jc_instrument.specs.Causes.{Cause, IsFirstCause, NoCause, InMethod}
 use Rattle.jc_instrument.specs.Found.{first_of}
 use Rattle.jc_instrument.specs.LeftAlone.{is_left_alone}
-use Rattle.jc_instrument.specs.Looking.{FramesSoFar, HaveBodies, IsLooking, RoomSoFar}
+use Rattle.jc_instrument.specs.Looking.{HaveBodies, IsLooking, RoomSoFar}
 use Rattle.jc_instrument.specs.Probing.{IsFirstTooLong}
 use Rattle.jc_instrument.specs.Ready.{ArePlanned, IsPlannedBody}
 use Rattle.jc_instrument.specs.ReadyClass.{IsReadyClass, making_causes}
 use Rattle.jc_instrument.specs.Reasons.{IsFaulty, code_causes, frame_causes, method_causes}
 use Rattle.jc_instrument.specs.RoomCauses.{HasTooLargeCode, early_room_causes}
-use Rattle.jc_instrument.specs.Steps.{AreCheckedUnder, InBodies, IsFrameRefusal}
+use Rattle.jc_instrument.specs.Steps.{AreCheckedUnder}
 use Rattle.jc_instrument.specs.Writing.{ArePlannedWorks, IsPlannedWork}
 use Rattle.jc_instrument.specs.declared.looking.Looking.{Looking}
 use Rattle.jc_instrument.specs.declared.ready.PlannedBody.{PlannedBody}
 use Rattle.jc_instrument.specs.declared.ready_class.ReadyClass.{ReadyClass}
 use Rattle.jc_instrument.proofs.CauseLaws.{first_behind, first_in_front, none_in_both}
+use Rattle.jc_instrument.proofs.CheckingLaws.{all_checked, frame_found, frames_fine}
 use Rattle.jc_instrument.proofs.FrameCauseLaws.{each_at}
 use Rattle.jc_instrument.proofs.ListedLaws.{body_at}
 use Rattle.jc_instrument.proofs.ReadingLaws.{bad_code_refused}
@@ -100,22 +101,10 @@ module _ (names : Names) (c : ClassFile) (s : Looking) (so : IsLooking names c (
   abbrev Have : Type 0
   Have = HaveBodies names c (length c.methods) s
 
-  frame_found : (bodies : List Body) (missing clash : Option Refusal) (r : Refusal) → FramesSoFar names bodies missing clash → first_of missing clash ≡ Some r
-      → IsFrameRefusal names bodies r
-  frame_found bodies (Some q) clash r found is = inl (subst (InBodies kinds.FrameMissing FirstMissing bodies) (same_Some q r is) found)
-  frame_found bodies None (Some q) r found is = inr (
-    found.0,
-    subst (InBodies kinds.FrameClash (FirstClash names) bodies) (same_Some q r is) found.1,
-  )
-  frame_found bodies None None r all is = absurd (none_is_some r is)
-    where
-      none_is_some : (x : Refusal) → None ≡ Some x → ⊥
-      none_is_some x e = cc
-
   code_found : (bad : Option Refusal) (r : Refusal) → MatchOption bad Have (InMethod kinds.BadCode (IsFaulty c kinds.BadCode))
       → first_of bad (first_of s.frames.missing s.frames.clash) ≡ Some r → IsFirstCause (code_causes c) r
   code_found None r h is =
-      check_refused names names c h.bodies r (grows_none names) h.are (frame_found h.bodies s.frames.missing s.frames.clash r h.so.frames is)
+      check_refused names names c h.bodies r (grows_none names) h.are (frame_found names h.bodies s.frames.missing s.frames.clash r h.so.frames is)
   code_found (Some q) r first is =
       first_in_front (method_causes c) (frame_causes c) r
       (bad_code_refused names c (record { bodies = []; bad = Some q }) r is
@@ -124,24 +113,11 @@ module _ (names : Names) (c : ClassFile) (s : Looking) (so : IsLooking names c (
   pub code_refused : (r : Refusal) → first_of s.bad (first_of s.frames.missing s.frames.clash) ≡ Some r → IsFirstCause (making_causes c) r
   code_refused r is = first_in_front (code_causes c) (room c) r (code_found s.bad r so.found is)
 
-  frames_fine : (missing clash : Option Refusal) → first_of missing clash ≡ None → (missing ≡ None) × (clash ≡ None)
-  frames_fine (Some q) clash is = absurd (some_is_none is)
-    where
-      some_is_none : Some q ≡ None → ⊥
-      some_is_none e = cc
-  frames_fine None clash is = (refl, is)
-
-  all_checked : (bodies : List Body) (missing clash : Option Refusal) → missing ≡ None → clash ≡ None → FramesSoFar names bodies missing clash
-      → (i : ℕ) (b : Body) → slice_get bodies i ≡ Some b → Checked names b
-  all_checked bodies missing clash no_missing no_clash found =
-      subst (λ (o : Option Refusal). FramesSoFar names bodies None o) no_clash
-      (subst (λ (o : Option Refusal). FramesSoFar names bodies o clash) no_missing found)
-
   fine_of : (bad : Option Refusal) → MatchOption bad Have (InMethod kinds.BadCode (IsFaulty c kinds.BadCode))
       → first_of bad (first_of s.frames.missing s.frames.clash) ≡ None → AreFine names c s
   fine_of None h is =
       let fine = frames_fine s.frames.missing s.frames.clash is in
-      let checked = all_checked h.bodies s.frames.missing s.frames.clash fine.0 fine.1 h.so.frames in
+      let checked = all_checked names h.bodies s.frames.missing s.frames.clash is h.so.frames in
       record {
         bodies = h.bodies;
         are = record {

@@ -1,11 +1,15 @@
--- The first refusals that are found while the methods of a class are looked at.
-use Rattle.std.specs.Prelude.{◌≡◌, ℕ, Option, Some, None, unwrap_or}
+-- The first refusals that are found while the bodies of a class are looked at.
+use Rattle.std.specs.Prelude.{◌≡◌, ◌⊎◌, ℕ, List, Option, Some, None, slice_get, unwrap_or}
+use Rattle.jc_methods.specs.VerificationTypes.{Names}
 use Rattle.jc_methods.specs.declared.body.Body.{Body}
 use Rattle.jc_bytes.specs.declared.refusal.Refusal.{Refusal}
 use Rattle.jc_bytes.specs.declared.refusal.RefusalKind.{RefusalKind}
 use Rattle.jc_bytes.specs.declared.refusal.RefusalKind.TheVariants as kinds
+use Rattle.jc_kinds.specs.Answers.{IsKindRefusal}
+use Rattle.jc_kinds.specs.Checked.{Checked, FirstMissing, FirstClash}
 use Rattle.jc_instrument.specs.Causes.{of_method}
 use Rattle.jc_instrument.specs.Room.{LacksRoom}
+use Rattle.jc_instrument.specs.Steps.{InBodies, NoneMissing}
 use Rattle.jc_instrument.specs.declared.found.FrameRefusals.{FrameRefusals}
 use Rattle.jc_instrument.specs.declared.found.RoomRefusals.{RoomRefusals}
 
@@ -21,6 +25,19 @@ HasRoomSoFar first = (first.straddling ≡ None) × (first.locals ≡ None) × (
 abbrev pub noted : RefusalKind → Refusal → FrameRefusals → FrameRefusals
 noted kinds.FrameMissing r first = record { missing = Some (unwrap_or first.missing r); clash = first.clash }
 noted kind r first = record { missing = first.missing; clash = Some (unwrap_or first.clash r) }
+
+-- the first missing frame; or none is missing, and this is the first clash; or each body passes the kind check
+abbrev pub FramesSoFar : Names → List Body → (missing clash : Option Refusal) → Type 0
+FramesSoFar names bodies (Some r) clash = InBodies kinds.FrameMissing FirstMissing bodies r
+FramesSoFar names bodies None (Some r) = NoneMissing bodies × InBodies kinds.FrameClash (FirstClash names) bodies r
+FramesSoFar names bodies None None = (i : ℕ) (b : Body) → slice_get bodies i ≡ Some b → Checked names b
+
+-- One more body is checked. Behind a missing frame nothing more is asked; or it passes the kind check; or its refusal is kept where
+-- it is the first one.
+abbrev pub ChecksOn : Names → Body → (old new : FrameRefusals) → Type 0
+ChecksOn names b old new =
+    ((r : Refusal) × (old.missing ≡ Some r) × (new ≡ old))
+    ⊎ ((Checked names b × (new ≡ old)) ⊎ ((r : Refusal) × IsKindRefusal names b r × (new ≡ noted r.kind r old)))
 
 -- what was kept stays; or else the body's lack of room of this kind is kept, if it has one
 abbrev pub KeepsLack : RefusalKind → Body → Option Refusal → Option Refusal → Type 0

@@ -1,5 +1,5 @@
 -- What is known of the first methods of a class that gets probes.
-use Rattle.std.specs.Prelude.{◌≡◌, ◌⊎◌, ℕ, ◌<◌, ◌≤◌, List, [], ◌∷◌, ◌++◌, Option, Some, None, All, slice_get, MatchOption}
+use Rattle.std.specs.Prelude.{◌≡◌, ◌⊎◌, ℕ, ◌<◌, ◌≤◌, List, [], ◌∷◌, ◌++◌, Option, Some, None, All, MatchOption}
 use Rattle.jc_methods.specs.VerificationTypes.{Names}
 use Rattle.jc_methods.specs.WellMade.{IsWellMade}
 use Rattle.jc_methods.specs.declared.body.Body.{Body}
@@ -7,29 +7,22 @@ use Rattle.jc_bytes.specs.declared.refusal.Refusal.{Refusal}
 use Rattle.jc_bytes.specs.declared.refusal.RefusalKind.TheVariants as kinds
 use Rattle.jc_class.specs.declared.class_file.ClassFile.{ClassFile}
 use Rattle.jc_kinds.specs.Answers.{IsKindRefusal}
-use Rattle.jc_kinds.specs.Checked.{Checked, FirstMissing, FirstClash}
+use Rattle.jc_kinds.specs.Checked.{Checked}
 use Rattle.jc_layout.specs.Layout.{chosen_length}
 use Rattle.jc_plan.specs.Analysed.{all_probes}
 use Rattle.jc_plan.specs.Plan.{plan_of}
 use Rattle.jc_instrument.specs.Bodies.{AreBodiesBelow}
 use Rattle.jc_instrument.specs.Causes.{InMethod}
-use Rattle.jc_instrument.specs.Found.{AreFramesFine, HasRoomSoFar, KeepsLack, noted}
+use Rattle.jc_instrument.specs.Found.{AreFramesFine, FramesSoFar, HasRoomSoFar, KeepsLack, noted}
 use Rattle.jc_instrument.specs.Probing.{IsFirstTooLong, IsTooLong}
 use Rattle.jc_instrument.specs.Ready.{ArePlanned, IsPlannedBody}
 use Rattle.jc_instrument.specs.Reasons.{IsFaulty}
 use Rattle.jc_instrument.specs.Room.{AreFirstLacks}
 use Rattle.jc_instrument.specs.RoomCauses.{probed_code}
-use Rattle.jc_instrument.specs.Steps.{InBodies, NoneMissing}
 use Rattle.jc_instrument.specs.declared.looking.Looking.{Looking}
 use Rattle.jc_instrument.specs.declared.ready.PlannedBody.{PlannedBody}
 
 -- ---- bodies so far
-
--- the first missing frame; or none is missing, and this is the first clash; or each body passes the kind check
-abbrev pub FramesSoFar : Names → List Body → (missing clash : Option Refusal) → Type 0
-FramesSoFar names bodies (Some r) clash = InBodies kinds.FrameMissing FirstMissing bodies r
-FramesSoFar names bodies None (Some r) = NoneMissing bodies × InBodies kinds.FrameClash (FirstClash names) bodies r
-FramesSoFar names bodies None None = (i : ℕ) (b : Body) → slice_get bodies i ≡ Some b → Checked names b
 
 -- the first body whose code is too large; or none has such code, and each is planned
 abbrev pub PlannedSoFar : Names → List Body → List PlannedBody → Option Refusal → Type 0

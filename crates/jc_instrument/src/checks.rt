@@ -1,36 +1,37 @@
 //! The kind check of the bodies of a class.
-ghost use Rattle.std.specs.Prelude.{◌≡◌, length, All, IfOk, IfErr, OnOk};
+ghost use Rattle.std.specs.Prelude.{length, All, IfOk, IfErr};
 ghost use Rattle.jc_methods.specs.VerificationTypes.{Grows, AreNumberedFrames};
 ghost use Rattle.jc_methods.specs.WellMade.{IsWellMade};
 ghost use Rattle.jc_bytes.specs.Failing.{Said};
 ghost use Rattle.jc_kinds.specs.Checked.{Checked};
-ghost use Rattle.jc_instrument.specs.Steps.{IsFrameRefusal, KeepsClash, IsMissingIn};
+ghost use Rattle.jc_instrument.specs.Found.{ChecksOn};
+ghost use Rattle.jc_instrument.specs.Steps.{IsFrameRefusal};
 
-use crate::kept::keep_first;
-use jc_bytes::{Fail, Names, Refusal, RefusalKind};
+use crate::found::{FrameRefusals, frame_refusal, noted};
+use jc_bytes::{Fail, Memory, Names, Refusal};
 use jc_kinds::check_body;
 use jc_methods::Body;
 use std::alloc::Global;
 
-/// Checks one more body, and keeps the clash if it is the first. A missing frame ends the check.
+/// The first refusals once one more body is checked. Behind a missing frame nothing more is asked.
 fn check_next(
     alloc: Global,
     body: &Body,
+    first: FrameRefusals,
     names: &mut Names,
-    clash: &mut Option<Refusal>,
-) -> Result<(), Fail<Refusal>>
+) -> Result<FrameRefusals, Memory>
     requires made { IsWellMade body.now }
     requires frames { AreNumberedFrames (length names.old) body.now.frames }
-    ensures clash { OnOk result (KeepsClash names.new body.now clash.old clash.new) }
-    ensures refused { IfErr result (λ e. Said e (IsMissingIn body.now)) }
+    ensures first { IfOk result (ChecksOn names.new body.now first) }
     ensures grows { Grows names.old names.new }
 {
+    if let Some(_) = first.missing {
+        return Ok(first);
+    }
     match check_body(alloc, body, names) {
-        Ok(()) => Ok(()),
-        Err(fail) => {
-            *clash = keep_first(*clash, RefusalKind::FrameMissing, fail)?;
-            Ok(())
-        }
+        Ok(()) => Ok(first),
+        Err(Fail::Memory) => Err(Memory),
+        Err(Fail::Said(refusal)) => Ok(noted(first, refusal)),
     }
 }
 
@@ -43,11 +44,14 @@ pub fn check_bodies(alloc: Global, bodies: &[Body], names: &mut Names) -> Result
     ensures refused { IfErr result (λ e. Said e (IsFrameRefusal names.new bodies.now)) }
     ensures grows { Grows names.old names.new }
 {
-    let mut clash = None;
+    let mut first = FrameRefusals {
+        missing: None,
+        clash: None,
+    };
     'checking: for body in bodies {
-        check_next(alloc, body, names, &mut clash)?;
+        first = check_next(alloc, body, first, names)?;
     }
-    match clash {
+    match frame_refusal(&first) {
         Some(refusal) => Err(Fail::Said(refusal)),
         None => Ok(()),
     }

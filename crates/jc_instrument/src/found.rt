@@ -1,7 +1,7 @@
-//! The first refusals that are found while the methods of a class are looked at.
+//! The first refusals that are found while the bodies of a class are looked at.
 ghost use Rattle.std.specs.Prelude.{◌≡◌, ◌↔◌, IsTrue};
 ghost use Rattle.jc_methods.specs.WellMade.{IsWellMade};
-ghost use Rattle.jc_instrument.specs.Found.{AreFramesFine, HasRoomSoFar, KeepsLack, noted};
+ghost use Rattle.jc_instrument.specs.Found.{AreFramesFine, HasRoomSoFar, KeepsLack, first_of, noted};
 ghost use Rattle.jc_instrument.specs.Room.{IsWhereItLacks};
 
 use jc_bytes::{Refusal, RefusalKind};
@@ -42,6 +42,16 @@ pub fn are_frames_fine(first: &FrameRefusals) -> bool
     ensures { IsTrue result ↔ AreFramesFine first.now }
 {
     first.missing.is_none() && first.clash.is_none()
+}
+
+/// The first refusal of the kind check, if there is one: a missing frame of any body comes before a clash.
+pub fn frame_refusal(first: &FrameRefusals) -> Option<Refusal>
+    ensures { result ≡ first_of first.now.missing first.now.clash }
+{
+    if let Some(refusal) = first.missing {
+        return Some(refusal);
+    }
+    first.clash
 }
 
 /// Whether no body lacks room.

@@ -10,6 +10,7 @@ ghost use Rattle.jc_instrument.specs.Found.{first_of};
 ghost use Rattle.jc_instrument.specs.LeftAlone.{is_left_alone};
 ghost use Rattle.jc_instrument.specs.ReadyClass.{IsReadyClass, making_causes};
 
+use crate::found::frame_refusal;
 use crate::looking::{Looking, look_at_methods};
 use crate::ready::PlannedBody;
 use crate::room::room_refusal;
@@ -36,10 +37,7 @@ fn code_refusal(looked: &Looking) -> Option<Refusal>
     if let Some(refusal) = looked.bad {
         return Some(refusal);
     }
-    if let Some(refusal) = looked.frames.missing {
-        return Some(refusal);
-    }
-    looked.frames.clash
+    frame_refusal(&looked.frames)
 }
 
 /// The bodies of a class that doesn't stay as it is, with classes in their frames by their numbers in `names`; or the

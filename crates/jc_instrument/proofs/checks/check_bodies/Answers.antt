@@ -1,21 +1,43 @@
-use Rattle.std.proofs.Common.{◌<◌, length, refl, arith}
-use Rattle.std.proofs.lemmas.Option.{slice_get_within, slice_get_read}
-use Rattle.jc_instrument.proofs.CheckingLaws.{checks_on, clash_ends, all_checked}
+use Rattle.std.proofs.Common.{List, get_or, length, refl, sym, ◌∙◌, subst, arith}
+use Rattle.std.proofs.lemmas.List.{take_all}
+use Rattle.std.proofs.lemmas.Option.{none-some, slice_get-get_or, slice_get_read}
+use Rattle.jc_methods.specs.declared.body.Body.{Body}
+use Rattle.jc_methods.proofs.MetNamesLaws.{grows_both, grows_none}
+use Rattle.jc_instrument.specs.Found.{FramesSoFar}
+use Rattle.jc_instrument.proofs.CheckingLaws.{all_checked, checks_on, frame_found}
 use Rattle.jc_instrument.proofs.checks.check_bodies.Goals as goal
+
+pub checking-init : goal.checking-init
+checking-init c = record { grows = grows_none c.args.names.now; frames = λ i b at. absurd (none-some b at) }
 
 pub checking-preserved : goal.checking-preserved
 checking-preserved c =
     let bodies = c.args.bodies.now in
+    let old = c.args.names.now in
+    let names = c.checking.names in
+    let more = c.check_next.new.names in
     let at = slice_get_read bodies (length bodies) c.checking.body-index c.body-item.result refl c.checking-test.true c.body-item.is in
-    checks_on c.args.names.now c.checking.names c.check_next.new.names bodies c.requires.frames c.checking.invariant.grows c.in_ok-check_next.ensures.grows
-    c.checking.body-index c.checking.clash c.check_next.new.clash c.body-item.result at c.checking.invariant c.in_ok-check_next.ensures.clash
+    let next = c.in_ok-first.ensures in
+    record {
+      grows = grows_both old names more c.checking.invariant.grows next.grows;
+      frames = checks_on old names more bodies c.requires.frames c.checking.invariant.grows next.grows c.checking.body-index c.body-item.result at
+          c.checking.first c.in_ok-first.first c.checking.invariant.frames next.first;
+    }
 
 pub returns-in-Some-clause-refused : goal.returns-in-Some-clause-refused
 returns-in-Some-clause-refused c =
     let bodies = c.args.bodies.now in
-    clash_ends c.args.names.now c.checking.names bodies c.checking.body-index c.checking.clash c.in-Some.refusal c.in-Some.is
-    (λ i b at. let within : i < length bodies = slice_get_within bodies i b at in omega arith) c.checking.invariant
+    let first = c.checking.first in
+    let all = take_all c.checking.body-index bodies (omega arith) in
+    frame_found c.checking.names bodies first.missing first.clash c.in-Some.refusal
+    (subst (λ (l : List Body). FramesSoFar c.checking.names l first.missing first.clash) all c.checking.invariant.frames)
+    (sym c.frame_refusal.ensures ∙ c.in-Some.is)
 
 pub returns-in-None-clause-checked : goal.returns-in-None-clause-checked
 returns-in-None-clause-checked c =
-    all_checked c.args.names.now c.checking.names c.args.bodies.now c.checking.body-index c.checking.clash c.in-None.is (omega arith) c.checking.invariant
+    let bodies = c.args.bodies.now in
+    let first = c.checking.first in
+    let all = take_all c.checking.body-index bodies (omega arith) in
+    let each = all_checked c.checking.names bodies first.missing first.clash (sym c.frame_refusal.ensures ∙ c.in-None.is)
+    (subst (λ (l : List Body). FramesSoFar c.checking.names l first.missing first.clash) all c.checking.invariant.frames) in
+    λ k d less. each k (get_or bodies k d) (slice_get-get_or bodies k d less)
