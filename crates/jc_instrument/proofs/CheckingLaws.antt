@@ -1,23 +1,24 @@
 -- The kind check of the bodies of a class, one after the other: the first refusals of the bodies so far.
-use Rattle.std.proofs.Common.{◌≡◌, ◌⊎◌, inl, inr, ℕ, zero, suc, ◌+◌, ◌<◌, List, [], ◌∷◌, ◌++◌, length, take, Option, Some, None, slice_get, refl, sym, ◌∙◌, ap, subst, arith}
+use Rattle.std.proofs.Common.{◌≡◌, ◌⊎◌, inl, inr, ℕ, zero, suc, ◌+◌, ◌<◌, ◌≤◌, List, [], ◌∷◌, ◌++◌, length, get_or, take, Option, Some, None, slice_get, refl, sym, ◌∙◌, ap, subst, arith}
 use Rattle.std.specs.Prelude.{All, unwrap_or}
 use Rattle.std.proofs.lemmas.List.{take_more}
-use Rattle.std.proofs.lemmas.Option.{get_or_from_slice_get, none-some, same_Some, slice_get_within}
+use Rattle.std.proofs.lemmas.Option.{get_or_from_slice_get, none-some, same_Some, slice_get-get_or, slice_get_within}
 use Rattle.jc_methods.specs.VerificationTypes.{Names, AreNumberedFrames, Grows}
 use Rattle.jc_methods.specs.declared.body.Body.{Body}
 use Rattle.jc_methods.proofs.NumberedLaws.{grown_count, frames_numbered}
 use Rattle.jc_bytes.specs.declared.refusal.Refusal.{Refusal}
 use Rattle.jc_bytes.specs.declared.refusal.RefusalKind.{RefusalKind}
 use Rattle.jc_bytes.specs.declared.refusal.RefusalKind.TheVariants as kinds
-use Rattle.jc_bytes.proofs.ListLaws.{put_cases, put_last, put_stays}
+use Rattle.jc_bytes.proofs.ListLaws.{below_or_last, put_cases, put_last, put_stays}
 use Rattle.jc_kinds.specs.Answers.{IsKindReason, IsKindRefusal}
 use Rattle.jc_kinds.specs.Checked.{Checked, FirstMissing, FirstClash}
 use Rattle.jc_kinds.proofs.CheckLaws.{checked_not_missing, checked_not_clash}
 use Rattle.jc_instrument.specs.Causes.{of_method}
-use Rattle.jc_instrument.specs.Found.{ChecksOn, FramesSoFar, first_of, noted}
-use Rattle.jc_instrument.specs.Steps.{InBodies, IsFrameRefusal}
+use Rattle.jc_instrument.specs.Found.{AreFramesFine, ChecksOn, FramesSoFar, first_of, noted}
+use Rattle.jc_instrument.specs.Steps.{HasStates, InBodies, IsFrameRefusal}
 use Rattle.jc_instrument.specs.declared.found.FrameRefusals.{FrameRefusals}
 use Rattle.jc_instrument.proofs.FrameCauseLaws.{each_at}
+use Rattle.jc_instrument.proofs.KeptStatesLaws.{states_grown}
 use Rattle.jc_instrument_reread.proofs.SameBodyLaws.{AreSame, turned, grown_same, same_clash, same_check}
 
 pub some_is_none : {X : Type 0} (x : X) → Some x ≡ None → ⊥
@@ -148,6 +149,16 @@ module _ (names : Names) (bodies : List Body) (b : Body) where
       subst (λ (f : FrameRefusals). FramesSoFar names (bodies ++ b ∷ []) f.missing f.clash) (sym refused.2)
       (frames_refused old refused.0 found refused.1)
 
+pub not_fine : (kind : RefusalKind) (r : Refusal) (first : FrameRefusals) → AreFramesFine (noted kind r first) → ⊥
+not_fine kinds.FrameMissing r first fine = some_is_none (unwrap_or first.missing r) fine.0
+not_fine kind r first fine = some_is_none (unwrap_or first.clash r) fine.1
+
+-- where nothing is refused, nothing was
+pub fine_before : (names : Names) (b : Body) (old new : FrameRefusals) → ChecksOn names b old new → AreFramesFine new → AreFramesFine old
+fine_before names b old new (inl behind) fine = subst AreFramesFine behind.2 fine
+fine_before names b old new (inr (inl passes)) fine = subst AreFramesFine passes.1 fine
+fine_before names b old new (inr (inr refused)) fine = absurd (not_fine refused.0.kind refused.0 old (subst AreFramesFine refused.2 fine))
+
 -- ---- more names
 
 module _ (old new : Names) (grows : Grows old new) (bodies : List Body)
@@ -199,6 +210,27 @@ module _ (first names more : Names) (bodies : List Body) (numbered : All (λ b. 
   checks_on old new so on =
       subst (λ (l : List Body). FramesSoFar more l new.missing new.clash) (sym one_more)
       (checked_on more (take n bodies) b old new (frames_grown names more grows (take n bodies) numbered_at old.missing old.clash so) on)
+
+-- ---- the classes in states
+
+-- those in the states of the first bodies have numbers
+abbrev pub HaveStatesBelow : Names → List Body → ℕ → Type 0
+HaveStatesBelow names bodies n = (k : ℕ) (b : Body) → k < n → slice_get bodies k ≡ Some b → HasStates names b
+
+pub next_states : (first old new : Names) (bodies : List Body) (n : ℕ) (b : Body) → Grows first old → Grows old new
+    → All (λ x. AreNumberedFrames (length first) x.frames) bodies → slice_get bodies n ≡ Some b → HasStates new b → HaveStatesBelow old bodies n
+    → HaveStatesBelow new bodies (n + 1)
+next_states first old new bodies n b from grows numbered at here before k x less there = by (below_or_last n k less)
+  where
+    in_old : AreNumberedFrames (length old) x.frames
+    in_old = frames_numbered _ _ x.frames (grown_count first old from) (each_at (λ y. AreNumberedFrames (length first) y.frames) bodies numbered k x there)
+
+    by : (k < n) ⊎ (k ≡ n) → HasStates new x
+    by (inl below) = let s = before k x below there in (s.0, states_grown old new x s.0 grows in_old s.1)
+    by (inr last) = subst (HasStates new) (same_Some b x (sym at ∙ ap (slice_get bodies) (sym last) ∙ there)) here
+
+pub all_states : (names : Names) (bodies : List Body) (n : ℕ) → length bodies ≤ n → HaveStatesBelow names bodies n → All (HasStates names) bodies
+all_states names bodies n most h = λ k d less. h k (get_or bodies k d) (omega (arith, most, less)) (slice_get-get_or bodies k d less)
 
 -- ---- the end
 

@@ -28,7 +28,7 @@ use Rattle.jc_instrument.specs.declared.found.FrameRefusals.{FrameRefusals}
 use Rattle.jc_instrument.specs.declared.found.RoomRefusals.{RoomRefusals}
 use Rattle.jc_instrument.specs.declared.looking.Looking.{Looking}
 use Rattle.jc_instrument.specs.declared.ready.PlannedBody.{PlannedBody}
-use Rattle.jc_instrument.proofs.CheckingLaws.{first_stays, frames_grown, frames_pass, frames_refused, last_first, missing_kept, none_on, some_is_none}
+use Rattle.jc_instrument.proofs.CheckingLaws.{first_stays, frames_grown, frames_pass, frames_refused, last_first, missing_kept, none_on, not_fine, some_is_none}
 use Rattle.jc_instrument.proofs.PlannedLaws.{planned_grown}
 
 -- ---- lacks of room, once one more body stands last
@@ -182,10 +182,6 @@ module _ (names : Names) (bodies : List Body) (b : Body) where
         let more = on.probes in
         plans_on old new old.large so.probes (so.planned (room_before old new on has) (omega (arith, few, more))) (on.planned has few);
   }
-
-not_fine : (kind : RefusalKind) (r : Refusal) (first : FrameRefusals) → AreFramesFine (noted kind r first) → ⊥
-not_fine kinds.FrameMissing r first fine = some_is_none (unwrap_or first.missing r) fine.0
-not_fine kind r first fine = some_is_none (unwrap_or first.clash r) fine.1
 
 -- ---- all that is known, once one more body stands last
 

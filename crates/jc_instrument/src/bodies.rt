@@ -1,5 +1,5 @@
 //! The bodies of a class.
-ghost use Rattle.std.specs.Prelude.{◌<◌, ◌≤◌, ◌+◌, length, All, IfOk, IfErr, OnOk};
+ghost use Rattle.std.specs.Prelude.{◌≡◌, ◌<◌, ◌≤◌, ◌+◌, true, length, All, IfOk, IfErr, OnOk};
 ghost use Rattle.jc_methods.specs.VerificationTypes.{Grows};
 ghost use Rattle.jc_bytes.specs.Reader.{most_read};
 ghost use Rattle.jc_methods.specs.WellMade.{IsWellMade};
@@ -9,7 +9,7 @@ ghost use Rattle.jc_bytes.specs.Failing.{Said};
 ghost use Rattle.jc_instrument.specs.Bodies.{AreBodies, AreBodiesOf};
 ghost use Rattle.jc_instrument.specs.Causes.{NoCause, IsFirstCause};
 ghost use Rattle.jc_instrument.specs.Reasons.{method_causes, code_causes, analysis_causes};
-ghost use Rattle.jc_instrument.specs.Steps.{IsReading, IsSubroutineAt, AreCheckedUnder, AreCheckedBodies};
+ghost use Rattle.jc_instrument.specs.Steps.{HasStates, IsReading, IsSubroutineAt, AreCheckedUnder, AreCheckedBodies};
 
 use crate::alone::{interface_refusal, is_left_alone};
 use crate::checks::check_bodies;
@@ -88,7 +88,28 @@ fn read_bodies(
 }
 
 /// The bodies of a class's methods, each of which passes the kind check, with classes in their frames by their numbers
-/// in `names`.
+/// in `names`. If they are to be numbered, the classes in their states get numbers there, too.
+fn bodies_under(
+    alloc: Global,
+    class: &ClassFile,
+    numbers: bool,
+    names: &mut Names,
+) -> Result<List<Body>, Fail<Refusal>>
+    requires class { IsClassFile class.now }
+    requires sizes { All (λ m. BodiesWithin most_read m.attributes) class.now.methods }
+    ensures bodies { IfOk result (AreCheckedUnder names.new class.now) }
+    ensures states { numbers ≡ true → IfOk result (All (HasStates names.new)) }
+    ensures well_made { IfOk result (All IsWellMade) }
+    ensures refused { IfErr result (λ e. Said e (IsFirstCause (code_causes class.now))) }
+    ensures grows { Grows names.old names.new }
+{
+    let bodies = read_bodies(alloc, class, names)?;
+    check_bodies(alloc, &bodies, numbers, names)?;
+    Ok(bodies)
+}
+
+/// The bodies of a class's methods, each of which passes the kind check, with classes in their frames and in their states
+/// by their numbers in `names`.
 pub fn named_bodies(
     alloc: Global,
     class: &ClassFile,
@@ -97,13 +118,12 @@ pub fn named_bodies(
     requires class { IsClassFile class.now }
     requires sizes { All (λ m. BodiesWithin most_read m.attributes) class.now.methods }
     ensures bodies { IfOk result (AreCheckedUnder names.new class.now) }
+    ensures states { IfOk result (All (HasStates names.new)) }
     ensures well_made { IfOk result (All IsWellMade) }
     ensures refused { IfErr result (λ e. Said e (IsFirstCause (code_causes class.now))) }
     ensures grows { Grows names.old names.new }
 {
-    let bodies = read_bodies(alloc, class, names)?;
-    check_bodies(alloc, &bodies, names)?;
-    Ok(bodies)
+    bodies_under(alloc, class, true, names)
 }
 
 /// The bodies, with names that aren't kept.
@@ -115,7 +135,7 @@ fn checked_bodies(alloc: Global, class: &ClassFile) -> Result<List<Body>, Fail<R
     ensures refused { IfErr result (λ e. Said e (IsFirstCause (code_causes class.now))) }
 {
     let mut names = Names::new(alloc)?;
-    named_bodies(alloc, class, &mut names)
+    bodies_under(alloc, class, false, &mut names)
 }
 
 /// The bodies of a class: none where it stays as it is, else those of its methods, each of which passes the kind

@@ -49,7 +49,8 @@ use Rattle.jc_instrument.proofs.PoolTextLaws.{class_pool}
 use Rattle.jc_instrument.proofs.RoomDecidedLaws.{none_straddles}
 use Rattle.jc_instrument_laws.proofs.ReadCodeLaws.{id_below}
 use Rattle.jc_instrument_laws.specs.TwinClass.{AreBodiesOfAnySize, TwinClass}
-use Rattle.jc_link_programs.specs.Linking.{HasStates, IsLinkedOf, IsLinkedClass}
+use Rattle.jc_instrument.specs.Steps.{HasStates}
+use Rattle.jc_link_programs.specs.Linking.{IsLinkedOf, IsLinkedClass}
 use Rattle.jc_link_programs.specs.ProbeInits.{init_of, is_init}
 use Rattle.jc_link_programs.specs.Statics.{is_clinit, static_of, statics_among}
 use Rattle.jc_link_programs.proofs.PairedLaws.{AreThere, IsThere, AreSameWhere, paired}

@@ -35,7 +35,8 @@ use Rattle.jc_instrument.proofs.SomeBodiesLaws.{AllBodies, all_bodies, made_well
 use Rattle.jc_instrument.proofs.TextSizesLaws.{class_size, method_size}
 use Rattle.jc_instrument.proofs.SomeStatesLaws.{all_states}
 use Rattle.jc_kinds.specs.Checked.{FirstMissing, FirstClash}
-use Rattle.jc_link_programs.specs.Linking.{HasStates, link_causes, LinkReason, IsLinkedOf, IsLinkedClass, AreLinkedClasses, IsProgramOf, IsFirstRefused, IsLinkRefusal, refused, one_name, one_id}
+use Rattle.jc_instrument.specs.Steps.{HasStates}
+use Rattle.jc_link_programs.specs.Linking.{link_causes, LinkReason, IsLinkedOf, IsLinkedClass, AreLinkedClasses, IsProgramOf, IsFirstRefused, IsLinkRefusal, refused, one_name, one_id}
 use Rattle.jc_link_programs.specs.Pairs.{HaveOneName, HaveOneId, NoPair, IsFirstPair}
 use Rattle.jc_link_programs.specs.Statics.{has_clinit, statics_of}
 use Rattle.jc_link_programs.specs.declared.link_refusal.LinkRefusal.{LinkRefusal}

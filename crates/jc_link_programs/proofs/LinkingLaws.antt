@@ -17,13 +17,12 @@ use Rattle.jc_kinds.specs.Checked.{Checked}
 use Rattle.jc_instrument_reread.proofs.SameBodyLaws.{grown_same, same_check}
 use Rattle.jc_instrument.specs.Causes.{IsFirstCause, NoCause}
 use Rattle.jc_instrument.specs.Reasons.{IsOutside, code_causes}
-use Rattle.jc_instrument.specs.Steps.{AreCheckedUnder}
+use Rattle.jc_instrument.specs.Steps.{AreCheckedUnder, HasStates}
 use Rattle.jc_instrument.proofs.KeptStatesLaws.{states_grown}
 use Rattle.jc_instrument.proofs.ListedLaws.{few_bodies, grown_bodies}
-use Rattle.jc_instrument.proofs.FrameCauseLaws.{each_at}
 use Rattle.jc_instrument.proofs.WholeLaws.{bodies_numbered, no_code_cause}
 use Rattle.jc_machine_model.specs.Programs.{IsStatic, IsProgramBody, IsLinked}
-use Rattle.jc_link_programs.specs.Linking.{HasStates, link_causes, LinkReason, IsLinkedOf, IsLinkedClass, AreLinkedClasses, IsFirstRefused}
+use Rattle.jc_link_programs.specs.Linking.{link_causes, LinkReason, IsLinkedOf, IsLinkedClass, AreLinkedClasses, IsFirstRefused}
 use Rattle.jc_link_programs.specs.ProbeInits.{AreProbes}
 use Rattle.jc_link_programs.specs.Statics.{has_clinit, statics_of}
 use Rattle.jc_link_programs.proofs.SingleLaws.{all_put}
@@ -188,32 +187,3 @@ no_link_cause names c bodies inside are = (λ r w. inside w.outside, no_code_cau
 
 pub later_cause : (c : ClassFile) (r : Refusal) → (IsOutside c.major → ⊥) → IsFirstCause (code_causes c) r → IsFirstCause (link_causes c) r
 later_cause c r inside first = inr (λ s w. inside w.outside, first)
-
--- ---- states
-
--- the classes in the states of the first bodies have numbers
-abbrev pub HaveStatesBelow : Names → List Body → ℕ → Type 0
-HaveStatesBelow names bodies n = (k : ℕ) (b : Body) → k < n → slice_get bodies k ≡ Some b → HasStates names b
-
-pub next_states : (first old new : Names) (bodies : List Body) (n : ℕ) (b : Body) → Grows first old → Grows old new
-    → All (λ x. AreNumberedFrames (length first) x.frames) bodies → slice_get bodies n ≡ Some b → HasStates new b → HaveStatesBelow old bodies n → HaveStatesBelow new bodies (n + 1)
-next_states first old new bodies n b from grows numbered at here before k x less there = by (below_or_last n k less)
-  where
-    in_old : AreNumberedFrames (length old) x.frames
-    in_old = frames_numbered _ _ x.frames (grown_count first old from) (each_at (λ y. AreNumberedFrames (length first) y.frames) bodies numbered k x there)
-
-    same : {y z : Body} → Some y ≡ Some z → y ≡ z
-    same e = cc
-
-    by : (k < n) ⊎ (k ≡ n) → HasStates new x
-    by (inl below) = let s = before k x below there in (s.0, states_grown old new x s.0 grows in_old s.1)
-    by (inr last) = subst (HasStates new) (same (sym at ∙ ap (λ (m : ℕ). slice_get bodies m) (sym last) ∙ there)) here
-
-pub all_states : (names : Names) (bodies : List Body) (n : ℕ) → length bodies ≤ n → HaveStatesBelow names bodies n → All (HasStates names) bodies
-all_states names bodies n most h = λ k d less. h k (get_or bodies k d) (omega (arith, most, less)) (slice_get-get_or bodies k d less)
-
--- a body that passes under some names passes under more
-pub passes_more : (first old : Names) (bodies : List Body) (n : ℕ) (b : Body) → Grows first old → All (λ x. AreNumberedFrames (length first) x.frames) bodies
-    → All (Checked first) bodies → slice_get bodies n ≡ Some b → Checked old b
-passes_more first old bodies n b grows numbered checked at =
-    checked_more first old b grows (each_at (λ y. AreNumberedFrames (length first) y.frames) bodies numbered n b at) (each_at (Checked first) bodies checked n b at)

@@ -3,16 +3,14 @@ use Rattle.std.specs.Prelude.{◌≡◌, ⊤, ℕ, ◌<◌, List, [], ◌∷◌,
 use Rattle.jc_bytes.specs.declared.refusal.Refusal.{Refusal}
 use Rattle.jc_methods.specs.VerificationTypes.{Names}
 use Rattle.jc_methods.specs.declared.body.Body.{Body}
-use Rattle.jc_methods.specs.declared.kind.State.{State}
 use Rattle.jc_programs.specs.declared.program.Program.{Program}
 use Rattle.jc_programs.specs.declared.program.Linked.{Linked}
 use Rattle.jc_pool.specs.Lookup.{class_name_of}
 use Rattle.jc_class.specs.declared.class_file.ClassFile.{ClassFile}
 use Rattle.jc_class.specs.ClassText.{ClassText}
-use Rattle.jc_kinds.specs.Answers.{AreStates}
 use Rattle.jc_instrument.specs.Causes.{Cause, NoCause}
 use Rattle.jc_instrument.specs.Reasons.{WrongVersion, code_causes, ReasonBy}
-use Rattle.jc_instrument.specs.Steps.{AreCheckedUnder}
+use Rattle.jc_instrument.specs.Steps.{AreCheckedUnder, HasStates}
 use Rattle.jc_link_programs.specs.Pairs.{HaveOneName, HaveOneId, NoPair, IsFirstPair}
 use Rattle.jc_link_programs.specs.ProbeInits.{AreProbes}
 use Rattle.jc_link_programs.specs.Statics.{statics_of, has_clinit}
@@ -29,10 +27,6 @@ link_causes c = WrongVersion c ∷ code_causes c
 -- why bytes aren't linked, if they aren't
 abbrev pub LinkReason : List ℕ → Option Refusal → Type 0
 LinkReason = ReasonBy link_causes
-
--- the classes in the states before the instructions of a body have numbers of the list of names, too
-abbrev pub HasStates : Names → Body → Type 0
-HasStates names b = (states : List State) × AreStates names b states
 
 -- what is linked of a class file, with the classes of its frames by their numbers in the list of names
 pub record IsLinkedOf (names : Names) (file : ClassFile) (linked : Linked) : Type 0 where

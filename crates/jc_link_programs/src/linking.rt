@@ -1,10 +1,8 @@
 //! Programs of class files.
-ghost use Rattle.std.specs.Prelude.{◌≡◌, ◌⊎◌, ◌++◌, ◌∷◌, [], ◌<◌, ◌≤◌, ◌^◌, ⊤, length, All, Some, IfOk, IfErr, OnOk, MatchResult};
+ghost use Rattle.std.specs.Prelude.{◌≡◌, ◌⊎◌, ◌++◌, ◌∷◌, [], ◌<◌, ◌≤◌, ◌^◌, ⊤, length, All, Some, IfOk, IfErr, MatchResult};
 ghost use Rattle.jc_bytes.specs.Failing.{Said};
 ghost use Rattle.jc_bytes.specs.Reader.{most_read};
-ghost use Rattle.jc_methods.specs.VerificationTypes.{AreNumberedFrames, Grows};
-ghost use Rattle.jc_methods.specs.WellMade.{IsWellMade};
-ghost use Rattle.jc_kinds.specs.Checked.{Checked};
+ghost use Rattle.jc_methods.specs.VerificationTypes.{Grows};
 ghost use Rattle.jc_pool.specs.Lookup.{class_name_of};
 ghost use Rattle.jc_class.specs.Writable.{IsClassFile};
 ghost use Rattle.jc_class.specs.Sizes.{BodiesWithin};
@@ -12,7 +10,7 @@ ghost use Rattle.jc_instrument.specs.Causes.{NoCause, IsFirstCause};
 ghost use Rattle.jc_machine_model.specs.Programs.{IsLinked, IsProgram, IsStatic};
 ghost use Rattle.jc_programs.specs.declared.program.Program.{Program as Linking};
 ghost use Rattle.jc_link_programs.specs.declared.link_refusal.LinkRefusal.{LinkRefusal as Reason};
-ghost use Rattle.jc_link_programs.specs.Linking.{HasStates, link_causes, LinkReason, IsLinkedOf, IsLinkedClass, AreLinkedClasses, IsProgramOf, IsLinkRefusal};
+ghost use Rattle.jc_link_programs.specs.Linking.{link_causes, LinkReason, IsLinkedOf, IsLinkedClass, AreLinkedClasses, IsProgramOf, IsLinkRefusal};
 ghost use Rattle.jc_link_programs.specs.ProbeInits.{AreProbes};
 ghost use Rattle.jc_link_programs.specs.Statics.{has_clinit, statics_of};
 ghost use Rattle.jc_link_programs.specs.Steps.{IsAnswer, PairAnswer};
@@ -24,7 +22,6 @@ use crate::statics::{has_clinit, statics_of};
 use jc_bytes::{Bytes, Fail, List, Memory, Names, Refusal, RefusalKind};
 use jc_class::{ClassFile, read_class};
 use jc_instrument::{is_wrong_version, named_bodies};
-use jc_kinds::states;
 use jc_methods::Body;
 use jc_programs::{Linked, Program};
 use std::alloc::Global;
@@ -34,8 +31,10 @@ fn class_name(alloc: Global, class: &ClassFile) -> Result<Bytes, Memory>
     requires { IsClassFile class.now }
     ensures { IfOk result (λ name. class_name_of class.now.pool class.now.this_class ≡ Some name) }
 {
-    let name = class.pool.class_at(class.this_class).unwrap_or(&[]);
-    Ok(Bytes::copy_of(alloc, name)?)
+    match class.pool.class_at(class.this_class) {
+        Ok(name) => Ok(Bytes::copy_of(alloc, name)?),
+        Err(_) => unreachable!(),
+    }
 }
 
 /// The class with these bodies of its methods.
@@ -60,22 +59,6 @@ fn class_with(alloc: Global, class: &ClassFile, bodies: List<Body>) -> Result<Li
     })
 }
 
-/// Numbers the classes in the states of bodies, each of which passes the kind check.
-fn number_states(alloc: Global, bodies: &[Body], names: &mut Names) -> Result<(), Memory>
-    requires made { All IsWellMade bodies.now }
-    requires numbered { All (λ b. AreNumberedFrames (length names.old) b.frames) bodies.now }
-    requires checked { All (Checked names.old) bodies.now }
-    ensures states { OnOk result (All (HasStates names.new) bodies.now) }
-    ensures grows { Grows names.old names.new }
-{
-    'numbering: for body in bodies {
-        if states(alloc, body, names).is_err() {
-            return Err(Memory);
-        }
-    }
-    Ok(())
-}
-
 /// What is linked of a class file, with the classes of its frames by their numbers in `names`.
 fn linked_of(alloc: Global, class: &ClassFile, names: &mut Names) -> Result<Linked, Fail<Refusal>>
     requires class { IsClassFile class.now }
@@ -94,7 +77,6 @@ fn linked_of(alloc: Global, class: &ClassFile, names: &mut Names) -> Result<Link
         }));
     }
     let bodies = named_bodies(alloc, class, names)?;
-    number_states(alloc, &bodies, names)?;
     Ok(class_with(alloc, class, bodies)?)
 }
 

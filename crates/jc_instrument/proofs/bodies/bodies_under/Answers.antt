@@ -7,10 +7,10 @@ use Rattle.jc_bytes.specs.Failing.{Said}
 use Rattle.jc_kinds.specs.Checked.{Checked}
 use Rattle.jc_instrument.specs.Causes.{IsFirstCause}
 use Rattle.jc_instrument.specs.Reasons.{code_causes}
-use Rattle.jc_instrument.specs.Steps.{IsFrameRefusal}
+use Rattle.jc_instrument.specs.Steps.{HasStates, IsFrameRefusal}
 use Rattle.jc_instrument.proofs.AnswerLaws.{said_more}
 use Rattle.jc_instrument.proofs.WholeLaws.{bodies_numbered, check_refused, checked_under}
-use Rattle.jc_instrument.proofs.bodies.named_bodies.Goals as goal
+use Rattle.jc_instrument.proofs.bodies.bodies_under.Goals as goal
 
 pub check_bodies-requires-clause-frames : goal.check_bodies-requires-clause-frames
 check_bodies-requires-clause-frames c =
@@ -33,3 +33,6 @@ returns-clause-bodies c =
     let names = c.check_bodies.new.names in
     checked_under c.read_bodies.new.names names c.args.class.now c.in_ok-bodies.bodies c.in_ok-check_bodies.ensures.grows c.in_ok-bodies.ensures.bodies
     (subst (All (Checked names)) c.deref.ensures c.in_ok-check_bodies.ensures.checked)
+
+pub returns-clause-states : goal.returns-clause-states
+returns-clause-states c = λ numbers. subst (All (HasStates c.check_bodies.new.names)) c.deref.ensures (c.in_ok-check_bodies.ensures.states numbers)
