@@ -2,7 +2,7 @@
 ghost use Rattle.std.specs.Prelude.{◌≡◌, ◌≤◌, List, ℕ, All, length, option_map, slice_index_or, IfOk};
 ghost use Rattle.jc_bytes.specs.Failing.{Said};
 ghost use Rattle.jc_bytes.specs.Reader.{most_read};
-ghost use Rattle.jc_link_programs.specs.Linking.{IsProgramOf, IsLinkRefusal};
+ghost use Rattle.jc_link_programs.specs.Linking.{IsProgramOf, IsLinkClash};
 ghost use Rattle.jc_machine_laws.specs.Frameless.{frameless};
 ghost use Rattle.jc_command_run.specs.RunAnswers.{IsRunProgram};
 ghost use Rattle.jc_headline.specs.CoverWork.{LookedFile, IsLinkEnd};
@@ -17,7 +17,7 @@ use crate::accepted::Accepted;
 use jc_bytes::{Bytes, Fail};
 use jc_command_run::link_stop;
 use jc_command_work::{Fault, Stop};
-use jc_link_programs::{LinkRefusal, link};
+use jc_link_programs::{LinkClash, link_or_clash};
 use jc_programs::Program;
 use std::alloc::Global;
 
@@ -79,14 +79,13 @@ fn among_all<'a>(stop: Stop<'a>, places: &[u32]) -> Stop<'a>
 /// How accepted files that are read back as no program stop the command: they are named by their places among all files.
 fn no_program<'a>(
     alloc: Global,
-    fail: Fail<LinkRefusal>,
+    fail: Fail<LinkClash>,
     accepted: &Accepted<'a>,
     written: &[Bytes],
 ) -> Stop<'a>
-    requires refused { Said fail (IsLinkRefusal written.now) }
+    requires refused { Said fail (IsLinkClash written.now) }
     requires whole { AreWhole accepted.now }
     requires each { length written.now ≡ length accepted.now.targets.items }
-    requires short { All (λ t. length t ≤ most_read) written.now }
     ensures { (dest : Word) (looked : List LookedFile) → AreAccepted dest looked accepted.entry.now
         → StopsBy (IsLinkEnd looked written.now) (stop_seen result) }
 {
@@ -108,7 +107,7 @@ pub fn program_of<'a>(
     ensures decides { (dest : Word) (looked : List LookedFile) → AreAccepted dest looked accepted.entry.now
         → Decides (IsRunProgram written.now) (IsLinkEnd looked written.now) frameless stop_seen result }
 {
-    match link(alloc, written) {
+    match link_or_clash(alloc, written) {
         Ok(program) => Ok(program),
         Err(fail) => Err(no_program(alloc, fail, accepted, written)),
     }

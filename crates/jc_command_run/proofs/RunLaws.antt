@@ -7,7 +7,7 @@ use Rattle.jc_programs.specs.declared.run_plan.RunPlan.{RunPlan}
 use Rattle.jc_run_plans.specs.Plans.{IsPlanText, FirstUnfit}
 use Rattle.jc_link_programs.specs.declared.link_refusal.LinkRefusal.{LinkRefusal}
 use Rattle.jc_link_programs.specs.declared.link_refusal.LinkRefusal.TheVariants as refusals
-use Rattle.jc_link_programs.specs.Linking.{IsLinkedClass, IsProgramOf, IsLinkRefusal}
+use Rattle.jc_link_programs.specs.Linking.{HasId, HasName, IsLinkedClass, IsProgramOf, IsLinkRefusal}
 use Rattle.jc_link_programs.proofs.OneRefusalLaws.{one_refusal, program_or_refusal, same_program}
 use Rattle.jc_link_programs.proofs.SameLinkedLaws.{same_linked}
 use Rattle.jc_command_work.specs.declared.status.Fault.TheVariants as fault
@@ -15,7 +15,7 @@ use Rattle.jc_command_work.specs.Step.{Word}
 use Rattle.jc_command_work.specs.Part.{End, refused}
 use Rattle.jc_command_work.specs.Answered.{Answer, refusal_of}
 use Rattle.jc_command_run.specs.PairTexts.{same_name_text, same_id_text}
-use Rattle.jc_command_run.specs.RunAnswers.{path_at, HasName, HasId, IsPlanEnd, IsRunProgram, EndsAs, IsLinkEnd, RunsFiles, RunAnswers}
+use Rattle.jc_command_run.specs.RunAnswers.{path_at, IsPlanEnd, IsRunProgram, EndsAs, IsLinkEnd, RunsFiles, RunAnswers}
 use Rattle.jc_command_run.specs.RunStore.{threads_of, first_without}
 use Rattle.jc_command_run.proofs.ChoiceLaws.{IsOneChoice, one_choice}
 use Rattle.jc_command_run.proofs.StoreLaws.{same_frameless}

@@ -1,16 +1,13 @@
 -- What the command `run` makes of a run plan and class files.
-use Rattle.std.specs.Prelude.{◌≡◌, ◌⊎◌, ℕ, List, [], ◌∷◌, Option, Some, None, slice_get, slice_index_or}
-use Rattle.jc_methods.specs.VerificationTypes.{Names}
+use Rattle.std.specs.Prelude.{◌≡◌, ◌⊎◌, ℕ, List, [], ◌∷◌, Option, Some, None, slice_index_or}
 use Rattle.jc_programs.specs.declared.program.Program.{Program}
-use Rattle.jc_programs.specs.declared.program.Linked.{Linked}
-use Rattle.jc_programs.specs.declared.program.ProbeInit.{ProbeInit}
 use Rattle.jc_programs.specs.declared.run_plan.RunPlan.{RunPlan}
 use Rattle.jc_programs.specs.declared.run_plan.ThreadLine.{ThreadLine}
 use Rattle.jc_exec.specs.Writing.{exec_text}
 use Rattle.jc_run_plans.specs.Plans.{IsPlanText, FirstUnfit}
 use Rattle.jc_link_programs.specs.declared.link_refusal.LinkRefusal.{LinkRefusal}
 use Rattle.jc_link_programs.specs.declared.link_refusal.LinkRefusal.TheVariants as refusals
-use Rattle.jc_link_programs.specs.Linking.{IsLinkedClass, IsProgramOf, IsLinkRefusal}
+use Rattle.jc_link_programs.specs.Linking.{HasId, HasName, IsProgramOf, IsLinkRefusal}
 use Rattle.jc_machine_model.specs.CaseText.{case_texts}
 use Rattle.jc_command_work.specs.declared.status.Fault.TheVariants as fault
 use Rattle.jc_command_work.specs.Step.{Word, to_file, to_out}
@@ -22,26 +19,6 @@ use Rattle.jc_command_run.specs.PairTexts.{same_name_text, same_id_text}
 
 abbrev pub path_at : List Word → ℕ → Word
 path_at paths index = slice_index_or paths index []
-
--- the file at the index is of a class with this name
-pub record HasName (files : List (List ℕ)) (index : ℕ) (name : List ℕ) : Type 0 where
-  pub names : Names
-  pub bytes : List ℕ
-  pub linked : Linked
-  pub stands : slice_get files index ≡ Some bytes
-  pub is : IsLinkedClass names bytes linked
-  pub named : name ≡ linked.name
-
--- the probes of the class of the file at the index have this id
-pub record HasId (files : List (List ℕ)) (index : ℕ) (id : ℕ) : Type 0 where
-  pub names : Names
-  pub bytes : List ℕ
-  pub linked : Linked
-  pub init : ProbeInit
-  pub stands : slice_get files index ≡ Some bytes
-  pub is : IsLinkedClass names bytes linked
-  pub probes : linked.probes ≡ Some init
-  pub id_is : id ≡ init.id
 
 -- ---- one decision behind the other
 

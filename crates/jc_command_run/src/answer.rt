@@ -16,7 +16,7 @@ use crate::plans::plan_of;
 use crate::program::{Ran, run_program};
 use jc_bytes::{Bytes, Memory};
 use jc_command_work::{Fault, Stop, Write};
-use jc_link_programs::link;
+use jc_link_programs::link_or_clash;
 use jc_programs::{Program, RunPlan};
 use jc_workers::Gate;
 use std::alloc::Global;
@@ -88,7 +88,7 @@ pub fn decided<'a, R: Threads + Sync, G: Gate + Sync>(
     ensures { AnswersWith (RunsFiles plan.entry.now destfile.entry.now (texts_of paths.entry.now) plan_text.now texts.now) result }
 {
     let run_plan = plan_of(alloc, plan, plan_text)?;
-    match link(alloc, texts) {
+    match link_or_clash(alloc, texts) {
         Ok(program) => run_writes(
             rt, alloc, gate, plan, destfile, workers, &program, &run_plan,
         ),

@@ -1,16 +1,14 @@
 //! Class files that are no program.
-ghost use Rattle.std.specs.Prelude.{◌≡◌, ◌<◌, ◌≤◌, ◌∷◌, [], All, length, slice_index_or, string_bytes, IfOk};
+ghost use Rattle.std.specs.Prelude.{◌≡◌, ◌<◌, ℕ, List as Seq, length, string_bytes, IfOk};
 ghost use Rattle.jc_bytes.specs.Failing.{Said};
-ghost use Rattle.jc_bytes.specs.Reader.{most_read};
-ghost use Rattle.jc_link_programs.specs.Linking.{IsProgramOf, IsLinkRefusal};
+ghost use Rattle.jc_link_programs.specs.Linking.{HasId, HasName, IsLinkClash};
 ghost use Rattle.jc_command_run.specs.PairTexts.{pair_start, same_name_text, same_id_text};
 ghost use Rattle.jc_command_run.specs.Clash.{StopsAs, LinkStops, id_end};
 ghost use Rattle.jc_command_work.specs.Seen.{texts_of, stop_seen};
 
 use jc_bytes::{Bytes, Fail, Memory};
 use jc_command_work::{Fault, Stop, class_stop};
-use jc_link_programs::{LinkRefusal, link};
-use jc_programs::Program;
+use jc_link_programs::{LinkClash, LinkRefusal};
 use std::alloc::{AllocError, Global};
 
 /// Two paths in front of what their files have in common.
@@ -53,40 +51,20 @@ fn same_id_text(alloc: Global, first: &str, second: &str, id: u64) -> Result<Vec
     Ok(text)
 }
 
-/// The program of one file, which is linked with others.
-fn alone(alloc: Global, files: &[Bytes], index: u32) -> Result<Program, Memory>
-    requires within { index < length files.now }
-    requires short { All (λ t. length t ≤ most_read) files.now }
-    ensures { IfOk result (IsProgramOf (slice_index_or files.now index [] ∷ [])) }
-{
-    let index = index as usize;
-    match link(alloc, &files[index..index + 1]) {
-        Ok(program) => Ok(program),
-        Err(_) => Err(Memory),
-    }
-}
-
 /// How two files of one class name stop a command.
 fn name_stop<'a>(
     alloc: Global,
-    files: &[Bytes],
     paths: &[&'a str],
     first: u32,
     second: u32,
+    name: &[u8],
 ) -> Result<Stop<'a>, Memory>
-    requires first { first < length files.now }
-    requires second { second < length files.now }
-    requires each { length files.now ≡ length paths.now }
-    requires short { All (λ t. length t ≤ most_read) files.now }
-    ensures { IfOk result (λ stop. StopsAs (texts_of paths.entry.now) files.now (LinkRefusal.SameName first second) (stop_seen stop)) }
+    requires first { first < length paths.now }
+    requires second { second < length paths.now }
+    ensures { (files : Seq (Seq ℕ)) → HasName files first name.now
+        → IfOk result (λ stop. StopsAs (texts_of paths.entry.now) files (LinkRefusal.SameName first second) (stop_seen stop)) }
 {
-    let program = alone(alloc, files, first)?;
-    let line = same_name_text(
-        alloc,
-        paths[first as usize],
-        paths[second as usize],
-        &program.classes[0].name,
-    )?;
+    let line = same_name_text(alloc, paths[first as usize], paths[second as usize], name)?;
     let fault = Fault::SameName { first, second };
     Ok(Stop::Clash { fault, line })
 }
@@ -94,57 +72,42 @@ fn name_stop<'a>(
 /// How two files whose probes have one class id stop a command.
 fn id_stop<'a>(
     alloc: Global,
-    files: &[Bytes],
     paths: &[&'a str],
     first: u32,
     second: u32,
+    id: u64,
 ) -> Result<Stop<'a>, Memory>
-    requires first { first < length files.now }
-    requires second { second < length files.now }
-    requires each { length files.now ≡ length paths.now }
-    requires short { All (λ t. length t ≤ most_read) files.now }
-    ensures { IfOk result (λ stop. StopsAs (texts_of paths.entry.now) files.now (LinkRefusal.SameId first second) (stop_seen stop)) }
+    requires first { first < length paths.now }
+    requires second { second < length paths.now }
+    ensures { (files : Seq (Seq ℕ)) → HasId files first id
+        → IfOk result (λ stop. StopsAs (texts_of paths.entry.now) files (LinkRefusal.SameId first second) (stop_seen stop)) }
 {
-    let program = alone(alloc, files, first)?;
-    let class = &program.classes[0];
-    let Some(init) = class.probes else {
-        return Err(Memory);
-    };
-    let line = same_id_text(
-        alloc,
-        paths[first as usize],
-        paths[second as usize],
-        init.id,
-    )?;
+    let line = same_id_text(alloc, paths[first as usize], paths[second as usize], id)?;
     let fault = Fault::SameId { first, second };
     Ok(Stop::Clash { fault, line })
 }
 
 /// How a reason for which class files are no program stops a command. A line that names two files has what they have in
-/// common, which is found by linking the first of them alone.
-fn refusal_stop<'a>(
-    alloc: Global,
-    refusal: LinkRefusal,
-    files: &[Bytes],
-    paths: &[&'a str],
-) -> Stop<'a>
-    requires refused { IsLinkRefusal files.now refusal }
+/// common.
+fn clash_stop<'a>(alloc: Global, clash: LinkClash, files: &[Bytes], paths: &[&'a str]) -> Stop<'a>
+    requires refused { IsLinkClash files.now clash }
     requires each { length files.now ≡ length paths.now }
-    requires short { All (λ t. length t ≤ most_read) files.now }
     ensures { LinkStops (texts_of paths.entry.now) files.now (stop_seen result) }
 {
-    match refusal {
-        LinkRefusal::Class { index, refusal } => {
+    match clash {
+        LinkClash::Class { index, refusal } => {
             class_stop(Fail::Said(refusal), index, paths[index as usize])
         }
-        LinkRefusal::SameName { first, second } => {
-            match name_stop(alloc, files, paths, first, second) {
-                Ok(stop) => stop,
-                Err(Memory) => Stop::Memory,
-            }
-        }
-        LinkRefusal::SameId { first, second } => {
-            match id_stop(alloc, files, paths, first, second) {
+        LinkClash::SameName {
+            first,
+            second,
+            name,
+        } => match name_stop(alloc, paths, first, second, &name) {
+            Ok(stop) => stop,
+            Err(Memory) => Stop::Memory,
+        },
+        LinkClash::SameId { first, second, id } => {
+            match id_stop(alloc, paths, first, second, id) {
                 Ok(stop) => stop,
                 Err(Memory) => Stop::Memory,
             }
@@ -156,17 +119,16 @@ fn refusal_stop<'a>(
 /// one class name or one id of their probes.
 pub fn link_stop<'a>(
     alloc: Global,
-    fail: Fail<LinkRefusal>,
+    fail: Fail<LinkClash>,
     files: &[Bytes],
     paths: &[&'a str],
 ) -> Stop<'a>
-    requires refused { Said fail (IsLinkRefusal files.now) }
+    requires refused { Said fail (IsLinkClash files.now) }
     requires each { length files.now ≡ length paths.now }
-    requires short { All (λ t. length t ≤ most_read) files.now }
     ensures { LinkStops (texts_of paths.entry.now) files.now (stop_seen result) }
 {
     match fail {
         Fail::Memory => Stop::Memory,
-        Fail::Said(refusal) => refusal_stop(alloc, refusal, files, paths),
+        Fail::Said(clash) => clash_stop(alloc, clash, files, paths),
     }
 }

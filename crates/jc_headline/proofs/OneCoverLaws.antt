@@ -19,7 +19,7 @@ use Rattle.jc_instrument_laws.proofs.EachFileLaws.{each_file}
 use Rattle.jc_instrument.proofs.OneTwinLaws.{one_file, file_or_reason}
 use Rattle.jc_instrument.proofs.RoomCauseLaws.{one_reason}
 use Rattle.jc_run_plans.specs.Plans.{IsPlanText, FirstUnfit}
-use Rattle.jc_link_programs.specs.Linking.{IsLinkedClass, IsProgramOf, IsLinkRefusal, refused, one_name, one_id}
+use Rattle.jc_link_programs.specs.Linking.{HasId, HasName, IsLinkedClass, IsProgramOf, IsLinkRefusal, refused, one_name, one_id}
 use Rattle.jc_link_programs.specs.declared.link_refusal.LinkRefusal.{LinkRefusal}
 use Rattle.jc_link_programs.specs.declared.link_refusal.LinkRefusal.TheVariants as refusals
 use Rattle.jc_link_programs.proofs.OneRefusalLaws.{one_refusal, program_or_refusal, same_program}
@@ -43,7 +43,7 @@ use Rattle.jc_command_classes.specs.ReportSteps.{counted_classes}
 use Rattle.jc_command_classes.proofs.CountedLaws.{are_counted, all_counted}
 use Rattle.jc_command_classes.proofs.ReportLaws.{one_items, some_items, one_clash, no_clash_in_front}
 use Rattle.jc_command_run.specs.PairTexts.{same_name_text, same_id_text}
-use Rattle.jc_command_run.specs.RunAnswers.{HasName, HasId, IsPlanEnd, IsRunProgram}
+use Rattle.jc_command_run.specs.RunAnswers.{IsPlanEnd, IsRunProgram}
 use Rattle.jc_command_run.specs.RunStore.{threads_of, first_without, run_store}
 use Rattle.jc_command_run.proofs.StoreLaws.{same_frameless}
 use Rattle.jc_headline.specs.CoverWork.{Cover, LookedFile, AreLooked, all_file_writes, accepted, texts_in, targets, place_of, path_of, EndsAmongAll, IsLinkEnd, HaveEntries, IsEntryEnd, IsReportText, IsClashEnd, instrumenting, running, cover_work}

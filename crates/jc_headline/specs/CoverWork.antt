@@ -9,7 +9,7 @@ use Rattle.jc_exec.specs.Writing.{exec_text}
 use Rattle.jc_exec.specs.declared.refusal.ExecRefusal.{ExecRefusal}
 use Rattle.jc_report.specs.declared.row.Counted.{Counted}
 use Rattle.jc_run_plans.specs.Plans.{IsPlanText}
-use Rattle.jc_link_programs.specs.Linking.{IsLinkRefusal}
+use Rattle.jc_link_programs.specs.Linking.{HasId, HasName, IsLinkRefusal}
 use Rattle.jc_link_programs.specs.declared.link_refusal.LinkRefusal.{LinkRefusal}
 use Rattle.jc_link_programs.specs.declared.link_refusal.LinkRefusal.TheVariants as refusals
 use Rattle.jc_machine_model.specs.CaseText.{case_texts}
@@ -23,7 +23,7 @@ use Rattle.jc_command_classes.specs.Instrument.{Decision, refused_file, accepted
 use Rattle.jc_command_classes.specs.Report.{ReportedFile, AreItems, first_clash, AreCountedItems, report_text}
 use Rattle.jc_command_classes.specs.ReportSteps.{FrontClashes}
 use Rattle.jc_command_run.specs.PairTexts.{same_name_text, same_id_text}
-use Rattle.jc_command_run.specs.RunAnswers.{path_at, HasName, HasId, IsPlanEnd, IsRunProgram}
+use Rattle.jc_command_run.specs.RunAnswers.{path_at, IsPlanEnd, IsRunProgram}
 use Rattle.jc_command_run.specs.RunStore.{threads_of, first_without, run_store}
 
 -- ---- what the words say

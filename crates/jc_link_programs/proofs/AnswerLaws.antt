@@ -1,22 +1,25 @@
 -- What is answered is so, and what is so is answered.
-use Rattle.std.proofs.Common.{◌≡◌, ◌⊎◌, inl, inr, ℕ, suc, ◌<◌, ◌^◌, Bool, true, false, List, [], ◌∷◌, length, map, Some, None, bytes_eq, Result, Ok, Err, MatchResult, refl, sym, ap, arith}
+use Rattle.std.proofs.Common.{◌≡◌, ℕ, zero, suc, ◌<◌, ◌^◌, Bool, true, false, List, [], ◌∷◌, length, map, Option, Some, None, bytes_eq, Result, Ok, Err, MatchResult, refl, sym, ap, subst, arith}
 use Rattle.std.specs.Prelude.{All, slice_get}
 use Rattle.std.specs.List.{AllByRecursion, IsDistinct}
 use Rattle.std.proofs.lemmas.Slice.Eq.{bytes_eq-Decides}
 use Rattle.std.specs.Bool.{⊤}
+use Rattle.std.specs.Option.{option_map}
+use Rattle.std.proofs.lemmas.Option.{none-some, same_Some}
 use Rattle.jc_bytes.specs.declared.fail.Fail.{Fail}
 use Rattle.jc_bytes.specs.declared.fail.Fail.TheVariants as fails
 use Rattle.jc_programs.specs.declared.program.Program.{Program}
 use Rattle.jc_methods.specs.VerificationTypes.{Names}
 use Rattle.jc_programs.specs.declared.program.Linked.{Linked}
+use Rattle.jc_programs.specs.declared.program.ProbeInit.{ProbeInit}
 use Rattle.jc_machine_model.specs.Programs.{IsLinked, IsProgram}
-use Rattle.jc_link_programs.specs.Linking.{AreLinkedClasses, IsProgramOf, IsLinkRefusal, one_name, one_id}
+use Rattle.jc_link_programs.specs.Linking.{AreLinkedClasses, IsLinkClash, IsLinkedClass, IsProgramOf, one_name, one_id, plain}
 use Rattle.jc_link_programs.specs.Pairs.{HaveOneName, NoPair}
 use Rattle.jc_link_programs.specs.Steps.{IsAnswer, PairAnswer}
-use Rattle.jc_link_programs.specs.declared.link_refusal.LinkRefusal.{LinkRefusal}
-use Rattle.jc_link_programs.specs.declared.link_refusal.LinkRefusal.TheVariants as refusals
+use Rattle.jc_link_programs.specs.declared.link_refusal.LinkClash.{LinkClash}
+use Rattle.jc_link_programs.specs.declared.link_refusal.LinkClash.TheVariants as clashes
 use Rattle.jc_link_programs.proofs.LinkingLaws.{linked_count}
-use Rattle.jc_link_programs.proofs.OneRefusalLaws.{one_refusal, program_or_refusal}
+use Rattle.jc_link_programs.proofs.OneRefusalLaws.{program_or_refusal}
 
 -- ---- the program
 
@@ -70,25 +73,58 @@ program_is files p few classes fit none = (
 
 -- ---- two classes of one name, or of one id
 
-pub pair_refused : (names : Names) (files : List (List ℕ)) (classes : List Linked) (r : LinkRefusal) → AreLinkedClasses names files classes
-    → PairAnswer classes (Some r) → IsLinkRefusal files r
-pair_refused names files classes (refusals.SameName first second) are pair = one_name names classes are pair
-pair_refused names files classes (refusals.SameId first second) are pair = one_id names classes are pair.0 pair.1
-pair_refused names files classes (refusals.Class index refusal) are pair = absurd pair
+-- a linked class is that of its file
+linked_at : (names : Names) (files : List (List ℕ)) (classes : List Linked) (i : ℕ) (c : Linked) → AreLinkedClasses names files classes
+    → slice_get classes i ≡ Some c → (bytes : List ℕ) × (slice_get files i ≡ Some bytes) × IsLinkedClass names bytes c
+linked_at names [] [] i c are at = absurd (none-some c at)
+linked_at names [] (d ∷ classes) i c are at = absurd are
+linked_at names (bytes ∷ files) [] i c are at = absurd are
+linked_at names (bytes ∷ files) (d ∷ classes) zero c are at = (bytes, refl, subst (IsLinkedClass names bytes) (same_Some d c at) are.0)
+linked_at names (bytes ∷ files) (d ∷ classes) (suc i) c are at = linked_at names files classes i c are.1 at
+
+with_id : (o : Option ProbeInit) (id : ℕ) → option_map (λ (p : ProbeInit). p.id) o ≡ Some id → (init : ProbeInit) × (o ≡ Some init) × (id ≡ init.id)
+with_id None id is = absurd (none-some id is)
+with_id (Some init) id is = (init, refl, sym (same_Some init.id id is))
+
+pub pair_refused : (names : Names) (files : List (List ℕ)) (classes : List Linked) (clash : LinkClash) → AreLinkedClasses names files classes
+    → PairAnswer classes (Some clash) → IsLinkClash files clash
+pair_refused names files classes (clashes.SameName first second name) are pair =
+    let key = pair.1 in
+    let at = linked_at names files classes first key.linked are key.stands in
+    record {
+      refusal = one_name names classes are pair.0;
+      common = record {
+        names = names;
+        bytes = at.0;
+        linked = key.linked;
+        stands = at.1;
+        is = at.2;
+        named = sym (same_Some key.linked.name name key.is);
+      };
+    }
+pair_refused names files classes (clashes.SameId first second id) are pair =
+    let key = pair.2 in
+    let at = linked_at names files classes first key.linked are key.stands in
+    let has = with_id key.linked.probes id key.is in
+    record {
+      refusal = one_id names classes are pair.0 pair.1;
+      common = record {
+        names = names;
+        bytes = at.0;
+        linked = key.linked;
+        init = has.0;
+        stands = at.1;
+        is = at.2;
+        probes = has.1;
+        id_is = has.2;
+      };
+    }
+pair_refused names files classes (clashes.Class index refusal) are pair = absurd pair
 
 -- ---- what is so is answered
 
-abbrev Answer : Type 0
-Answer = Result Program (Fail LinkRefusal)
-
-pub program_answered : (files : List (List ℕ)) (answer : Answer) → IsAnswer files answer → (p : Program) → IsProgramOf files p
+pub program_answered : (files : List (List ℕ)) (answer : Result Program (Fail LinkClash)) → IsAnswer files answer → (p : Program) → IsProgramOf files p
     → MatchResult answer (λ _. ⊤) (λ e. e ≡ fails.Memory)
 program_answered files (Ok q) is p program = tt
 program_answered files (Err fails.Memory) is p program = refl
-program_answered files (Err (fails.Said r)) is p program = absurd (program_or_refusal files p r program is)
-
-pub reason_answered : (files : List (List ℕ)) (answer : Answer) → IsAnswer files answer → (r : LinkRefusal) → IsLinkRefusal files r
-    → MatchResult answer (λ _. ⊥) (λ e. (e ≡ fails.Memory) ⊎ (e ≡ fails.Said r))
-reason_answered files (Ok p) is r given = program_or_refusal files p r is.0 given
-reason_answered files (Err fails.Memory) is r given = inl refl
-reason_answered files (Err (fails.Said s)) is r given = inr (ap fails.Said (one_refusal files s r is given))
+program_answered files (Err (fails.Said clash)) is p program = absurd (program_or_refusal files p (plain clash) program is.refusal)

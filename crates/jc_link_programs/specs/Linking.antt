@@ -5,6 +5,7 @@ use Rattle.jc_methods.specs.VerificationTypes.{Names}
 use Rattle.jc_methods.specs.declared.body.Body.{Body}
 use Rattle.jc_programs.specs.declared.program.Program.{Program}
 use Rattle.jc_programs.specs.declared.program.Linked.{Linked}
+use Rattle.jc_programs.specs.declared.program.ProbeInit.{ProbeInit}
 use Rattle.jc_pool.specs.Lookup.{class_name_of}
 use Rattle.jc_class.specs.declared.class_file.ClassFile.{ClassFile}
 use Rattle.jc_class.specs.ClassText.{ClassText}
@@ -14,6 +15,8 @@ use Rattle.jc_instrument.specs.Steps.{AreCheckedUnder, HasStates}
 use Rattle.jc_link_programs.specs.Pairs.{HaveOneName, HaveOneId, NoPair, IsFirstPair}
 use Rattle.jc_link_programs.specs.ProbeInits.{AreProbes}
 use Rattle.jc_link_programs.specs.Statics.{statics_of, has_clinit}
+use Rattle.jc_link_programs.specs.declared.link_refusal.LinkClash.{LinkClash}
+use Rattle.jc_link_programs.specs.declared.link_refusal.LinkClash.TheVariants as clashes
 use Rattle.jc_link_programs.specs.declared.link_refusal.LinkRefusal.{LinkRefusal}
 use Rattle.jc_link_programs.specs.declared.link_refusal.LinkRefusal.TheVariants as refusals
 
@@ -73,3 +76,41 @@ pub data IsLinkRefusal (files : List (List ℕ)) : LinkRefusal → Type 0 where
       → IsFirstPair (HaveOneName classes) first second → IsLinkRefusal files (refusals.SameName first second)
   one_id : {first second : ℕ} (names : Names) (classes : List Linked) → AreLinkedClasses names files classes
       → NoPair (HaveOneName classes) → IsFirstPair (HaveOneId classes) first second → IsLinkRefusal files (refusals.SameId first second)
+
+-- ---- what two files have in common
+
+-- the file at the index is of a class with this name
+pub record HasName (files : List (List ℕ)) (index : ℕ) (name : List ℕ) : Type 0 where
+  pub names : Names
+  pub bytes : List ℕ
+  pub linked : Linked
+  pub stands : slice_get files index ≡ Some bytes
+  pub is : IsLinkedClass names bytes linked
+  pub named : name ≡ linked.name
+
+-- the probes of the class of the file at the index have this id
+pub record HasId (files : List (List ℕ)) (index : ℕ) (id : ℕ) : Type 0 where
+  pub names : Names
+  pub bytes : List ℕ
+  pub linked : Linked
+  pub init : ProbeInit
+  pub stands : slice_get files index ≡ Some bytes
+  pub is : IsLinkedClass names bytes linked
+  pub probes : linked.probes ≡ Some init
+  pub id_is : id ≡ init.id
+
+abbrev pub HaveInCommon : List (List ℕ) → LinkClash → Type 0
+HaveInCommon files (clashes.Class index refusal) = ⊤
+HaveInCommon files (clashes.SameName first second name) = HasName files first name
+HaveInCommon files (clashes.SameId first second id) = HasId files first id
+
+-- the reason alone
+abbrev pub plain : LinkClash → LinkRefusal
+plain (clashes.Class index refusal) = refusals.Class index refusal
+plain (clashes.SameName first second name) = refusals.SameName first second
+plain (clashes.SameId first second id) = refusals.SameId first second
+
+-- why files have no program, with what two of them have in common
+pub record IsLinkClash (files : List (List ℕ)) (clash : LinkClash) : Type 0 where
+  pub refusal : IsLinkRefusal files (plain clash)
+  pub common : HaveInCommon files clash

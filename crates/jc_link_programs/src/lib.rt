@@ -9,5 +9,5 @@ mod probe_inits;
 mod statics;
 
 pub use laws::{each_file_has_one_link_reason, files_have_a_program_or_one_refusal};
-pub use link_refusal::LinkRefusal;
-pub use linking::link;
+pub use link_refusal::{LinkClash, LinkRefusal};
+pub use linking::{link, link_or_clash};

@@ -10,12 +10,13 @@ ghost use Rattle.jc_instrument.specs.Causes.{NoCause, IsFirstCause};
 ghost use Rattle.jc_machine_model.specs.Programs.{IsLinked, IsProgram, IsStatic};
 ghost use Rattle.jc_programs.specs.declared.program.Program.{Program as Linking};
 ghost use Rattle.jc_link_programs.specs.declared.link_refusal.LinkRefusal.{LinkRefusal as Reason};
-ghost use Rattle.jc_link_programs.specs.Linking.{link_causes, LinkReason, IsLinkedOf, IsLinkedClass, AreLinkedClasses, IsProgramOf, IsLinkRefusal};
+ghost use Rattle.jc_link_programs.specs.Linking.{link_causes, LinkReason, IsLinkedOf, IsLinkedClass, AreLinkedClasses, IsProgramOf, IsLinkClash, IsLinkRefusal};
+ghost use Rattle.jc_link_programs.specs.Pairs.{HaveOneId, HaveOneName, IsFirstPair, NoPair};
 ghost use Rattle.jc_link_programs.specs.ProbeInits.{AreProbes};
 ghost use Rattle.jc_link_programs.specs.Statics.{has_clinit, statics_of};
 ghost use Rattle.jc_link_programs.specs.Steps.{IsAnswer, PairAnswer};
 
-use crate::LinkRefusal;
+use crate::link_refusal::{LinkClash, LinkRefusal, plain};
 use crate::pairs::{Pair, first_of_one_id, first_of_one_name};
 use crate::probe_inits::probes_of;
 use crate::statics::{has_clinit, statics_of};
@@ -98,12 +99,12 @@ fn classes_of(
     alloc: Global,
     files: &[Bytes],
     names: &mut Names,
-) -> Result<List<Linked>, Fail<LinkRefusal>>
+) -> Result<List<Linked>, Fail<LinkClash>>
     requires few { length files.now < 2 ^ 32 }
     requires sizes { All (λ f. length f ≤ most_read) files.now }
     ensures classes { IfOk result (AreLinkedClasses names.new files.now) }
     ensures fit { IfOk result (All (IsLinked names.new)) }
-    ensures refused { IfErr result (λ e. Said e (IsLinkRefusal files.now)) }
+    ensures refused { IfErr result (λ e. Said e (IsLinkClash files.now)) }
 {
     let mut classes = List::new(alloc);
     'linking: for (index, bytes) in files.iter().enumerate() {
@@ -112,39 +113,87 @@ fn classes_of(
             Err(Fail::Memory) => return Err(Fail::Memory),
             Err(Fail::Said(refusal)) => {
                 let index = index as u32;
-                return Err(Fail::Said(LinkRefusal::Class { index, refusal }));
+                return Err(Fail::Said(LinkClash::Class { index, refusal }));
             }
         }
     }
     Ok(classes)
 }
 
+/// Two classes of one name, with that name.
+fn name_clash(alloc: Global, classes: &[Linked], pair: Pair) -> Result<LinkClash, Memory>
+    requires { IsFirstPair (HaveOneName classes.now) pair.first pair.second }
+    ensures { IfOk result (λ clash. PairAnswer classes.now (Some clash)) }
+{
+    let Pair { first, second } = pair;
+    let name = Bytes::copy_of(alloc, &classes[first as usize].name)?;
+    Ok(LinkClash::SameName {
+        first,
+        second,
+        name,
+    })
+}
+
+/// Two classes whose probes have one id, with that id.
+fn id_clash(classes: &[Linked], pair: Pair) -> LinkClash
+    requires names { NoPair (HaveOneName classes.now) }
+    requires pair { IsFirstPair (HaveOneId classes.now) pair.first pair.second }
+    ensures { PairAnswer classes.now (Some result) }
+{
+    let Pair { first, second } = pair;
+    let Some(init) = classes[first as usize].probes else {
+        unreachable!();
+    };
+    LinkClash::SameId {
+        first,
+        second,
+        id: init.id,
+    }
+}
+
 /// Why classes are no program, if they are none: two of one name, or else two whose probes have one id.
-fn pair_refusal(alloc: Global, classes: &[Linked]) -> Result<Option<LinkRefusal>, Memory>
+fn pair_clash(alloc: Global, classes: &[Linked]) -> Result<Option<LinkClash>, Memory>
     requires { length classes.now < 2 ^ 32 }
     ensures { IfOk result (PairAnswer classes.now) }
 {
-    if let Some(Pair { first, second }) = first_of_one_name(alloc, classes)? {
-        return Ok(Some(LinkRefusal::SameName { first, second }));
+    if let Some(pair) = first_of_one_name(alloc, classes)? {
+        return Ok(Some(name_clash(alloc, classes, pair)?));
     }
-    if let Some(Pair { first, second }) = first_of_one_id(alloc, classes)? {
-        return Ok(Some(LinkRefusal::SameId { first, second }));
+    if let Some(pair) = first_of_one_id(alloc, classes)? {
+        return Ok(Some(id_clash(classes, pair)));
     }
     Ok(None)
 }
 
 /// The program, or why there is none.
-fn answer(alloc: Global, files: &[Bytes]) -> Result<Program, Fail<LinkRefusal>>
+fn answer(alloc: Global, files: &[Bytes]) -> Result<Program, Fail<LinkClash>>
     requires few { length files.now < 2 ^ 32 }
     requires sizes { All (λ f. length f ≤ most_read) files.now }
     ensures { IsAnswer files.now result }
 {
     let mut names = Names::new(alloc)?;
     let classes = classes_of(alloc, files, &mut names)?;
-    match pair_refusal(alloc, &classes)? {
-        Some(refusal) => Err(Fail::Said(refusal)),
+    match pair_clash(alloc, &classes)? {
+        Some(clash) => Err(Fail::Said(clash)),
         None => Ok(Program { classes, names }),
     }
+}
+
+/// The program of class files, as [`link`] says, or why they have none, with what two of them have in common.
+///
+/// # Errors
+///
+/// `Memory` where memory was refused. Else `Said`, the refusal of [`link`], with the class name or the class id that two
+/// files have in common.
+pub fn link_or_clash(alloc: Global, files: &[Bytes]) -> Result<Program, Fail<LinkClash>>
+    requires few { length files.now < 2 ^ 32 }
+    requires sizes { All (λ f. length f ≤ most_read) files.now }
+    ensures linked { IfOk result (IsProgramOf files.now) }
+    ensures program { IfOk result IsProgram }
+    ensures refused { IfErr result (λ e. Said e (IsLinkClash files.now)) }
+    ensures accepted { (p : Linking) → IsProgramOf files.now p → MatchResult result (λ _. ⊤) (λ e. e ≡ Fail.Memory) }
+{
+    answer(alloc, files)
 }
 
 /// The program of class files: for each its class, with the bodies of its methods, which pass the kind check (JVM
@@ -174,5 +223,9 @@ pub fn link(alloc: Global, files: &[Bytes]) -> Result<Program, Fail<LinkRefusal>
     ensures reason { (r : Reason) → IsLinkRefusal files.now r
         → MatchResult result (λ _. ⊥) (λ e. (e ≡ Fail.Memory) ⊎ (e ≡ Fail.Said r)) }
 {
-    answer(alloc, files)
+    match link_or_clash(alloc, files) {
+        Ok(program) => Ok(program),
+        Err(Fail::Memory) => Err(Fail::Memory),
+        Err(Fail::Said(clash)) => Err(Fail::Said(plain(clash))),
+    }
 }

@@ -5,20 +5,17 @@ use Rattle.jc_command_run.proofs.FitLaws.{fit_records}
 use Rattle.jc_command_run.proofs.DecidedLaws.{as_many_files, are_bytes, are_short, plan_refused, files_refused, program_runs}
 use Rattle.jc_command_run.proofs.answer.decided.Goals as goal
 
-pub link-requires-clause-few : goal.link-requires-clause-few
-link-requires-clause-few g c = let many = as_many_files c.args.paths.now c.args.texts.now c.requires.read in omega (arith, many, c.requires.few)
+pub link_or_clash-requires-clause-few : goal.link_or_clash-requires-clause-few
+link_or_clash-requires-clause-few g c = let many = as_many_files c.args.paths.now c.args.texts.now c.requires.read in omega (arith, many, c.requires.few)
 
-pub link-requires-clause-sizes : goal.link-requires-clause-sizes
-link-requires-clause-sizes g c = are_short (texts_of c.args.paths.now) c.args.texts.now c.requires.read
+pub link_or_clash-requires-clause-sizes : goal.link_or_clash-requires-clause-sizes
+link_or_clash-requires-clause-sizes g c = are_short (texts_of c.args.paths.now) c.args.texts.now c.requires.read
 
 pub run_writes-requires-clause-fits : goal.run_writes-requires-clause-fits
 run_writes-requires-clause-fits g c _ _ = fit_records c.args.texts.now c.in-Ok.program (are_bytes (texts_of c.args.paths.now) c.args.texts.now c.requires.read) c.in-Ok.ensures.linked
 
 pub link_stop-requires-clause-each : goal.link_stop-requires-clause-each
 link_stop-requires-clause-each g c = as_many_files c.args.paths.now c.args.texts.now c.requires.read
-
-pub link_stop-requires-clause-short : goal.link_stop-requires-clause-short
-link_stop-requires-clause-short g c = are_short (texts_of c.args.paths.now) c.args.texts.now c.requires.read
 
 pub returns-in_err-run_plan : goal.returns-in_err-run_plan
 returns-in_err-run_plan g c =

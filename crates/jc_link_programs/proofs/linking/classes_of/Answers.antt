@@ -14,8 +14,11 @@ returns-in-Err-Said-clause-refused c =
     let refusal = c.in-Err-Said.refusal in
     let said = subst (λ e. Said e (λ r. LinkReason c.deref.result.now (Some r))) c.in-Err-Said.field-0-is c.in-Err-Said.ensures.refused in
     let reason = subst (λ b. LinkReason b (Some refusal)) c.deref.ensures said in
-    subst (λ r. IsLinkRefusal files (refusals.Class c.linking.index r)) (sym c.in-Err-Said.refusal-is)
-    (refused (first_refused c.linking.names files c.linking.classes c.linking.index c.index-files-index.result refusal c.linking.invariant.0 at reason))
+    record {
+      refusal = subst (λ r. IsLinkRefusal files (refusals.Class c.linking.index r)) (sym c.in-Err-Said.refusal-is)
+          (refused (first_refused c.linking.names files c.linking.classes c.linking.index c.index-files-index.result refusal c.linking.invariant.0 at reason));
+      common = tt;
+    }
 
 pub linking-preserved : goal.linking-preserved
 linking-preserved c =
