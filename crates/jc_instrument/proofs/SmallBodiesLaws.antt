@@ -57,27 +57,28 @@ module _ {X Y : Type 0} (number size : X → ℕ) (room : Y → ℕ) where
   all_within [] first [] each rising = omega arith
   all_within [] first (x ∷ xs) each rising = let w = each 0 x refl in absurd (none-some w.item w.stands)
   all_within (y ∷ ys) first [] each rising = omega arith
-  all_within (y ∷ ys) first (x ∷ xs) each rising = by w.place refl
+  all_within (y ∷ ys) first (x ∷ xs) each rising = by (all_within ys (suc first)) w.place refl
     where
-      abbrev w : IsWithin (y ∷ ys) first x
+      w : IsWithin (y ∷ ys) first x
       w = each 0 x refl
 
-      by : (k : ℕ) → w.place ≡ k → sum_by size (x ∷ xs) ≤ sum_by room (y ∷ ys)
-      by zero is =
+      by : ((zs : List X) → ((i : ℕ) (z : X) → slice_get zs i ≡ Some z → IsWithin ys (suc first) z) → Rising zs → sum_by size zs ≤ sum_by room ys)
+          → (k : ℕ) → w.place ≡ k → sum_by size (x ∷ xs) ≤ sum_by room (y ∷ ys)
+      by behind zero is =
           let number_is = w.number_is in
           let here : y ≡ w.item = same_Some y w.item (sym (ap (slice_get (y ∷ ys)) is) ∙ w.stands) in
           let same = ap room here in
           let fits = w.fits in
-          let rest = all_within ys (suc first) xs
+          let rest = behind xs
           (λ i z at.
           let more = rising 0 (suc i) x z (omega arith) refl at in
           later y ys first z (omega (arith, more, number_is, is)) (each (suc i) z at)) (tail_rising x xs rising) in
           let own = sum_by-cons size x xs in
           let all = sum_by-cons room y ys in
           omega (arith, same, fits, rest, own, all)
-      by (suc k) is =
+      by behind (suc k) is =
           let number_is = w.number_is in
-          let rest = all_within ys (suc first) (x ∷ xs)
+          let rest = behind (x ∷ xs)
           (λ i z at. let most = head_least x xs rising i z at in later y ys first z (omega (arith, most, number_is, is)) (each i z at)) rising in
           let all = sum_by-cons room y ys in
           omega (arith, rest, all)

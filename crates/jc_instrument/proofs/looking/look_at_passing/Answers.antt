@@ -9,5 +9,5 @@ returns-in-Err-Said-clause-few c = let same = ap places_kept c.in-Err-Said.ensur
 pub plan_next-requires-clause-taken : goal.plan_next-requires-clause-taken
 plan_next-requires-clause-taken c =
     let first = c.args.so_far.now.room in
-    let l = c.lacks.ensures in
-    has_taken c.args.body first c.lacks.result l.straddling l.locals l.stack (c.has_room_so_far.ensures.0 c.if-not-has_room_so_far.false)
+    let l = c.lacks-so_far.ensures in
+    has_taken c.args.body first c.lacks-so_far.result l.straddling l.locals l.stack (c.has_room_so_far.ensures.0 c.if-not-has_room_so_far.false)

@@ -12,8 +12,8 @@ putting-init c =
     putting_begun c.args.names.now c.args.source.now c.args.pool.now c.args.places.now c.args.bodies c.args.methods c.into_vec-methods.result.items
     c.into_vec-methods.ensures c.requires.coded
 
-pub planned_text-requires-clause-ready : goal.planned_text-requires-clause-ready
-planned_text-requires-clause-ready c =
+pub planned_text-requires : goal.planned_text-requires
+planned_text-requires c =
     let ready = c.args.bodies in
     let turn = YieldsList-turn (YieldsList-from_vec {s = c.into_iter-planned-iterator.result} ready (cc) (search rules)) c.putting.yielded c.putting.planned-iterator
     c.putting.yielded_by c.next.result c.next.new.self c.in-Some.planned c.in-Some.is c.next.ensures.steps in
