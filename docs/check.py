@@ -13,6 +13,7 @@ docs/check.py          prints each name that isn't there, by page and line
 - docs/callers: the code behind the words `From FILE:`, FILE in backquotes, stands in that file word for word, and all Rust code
   of these pages is so.
 - The text that a must-fail edit changes stands once in its file.
+- No line of a definition or a proof has more than 200 characters, but for imports.
 """
 import glob
 import os
@@ -227,6 +228,14 @@ def check_edits():
             wrong.append(f"{path}: its text isn't once in {file}")
 
 
+def check_lines():
+    """Each line of a definition or a proof can be read without scrolling: no more than 200 characters, but for imports."""
+    for path in files("crates/*/specs/**/*.antt", "crates/*/proofs/**/*.antt"):
+        for number, line in enumerate(read(path).split("\n"), 1):
+            if len(line) > 200 and not line.startswith(("use ", "pub use ")):
+                wrong.append(f"{path}:{number}: {len(line)} characters")
+
+
 def main():
     names = set(crates())
     words = set(re.findall(r"[\w$]+", " ".join(read(path) + " " + path for path in files(*SOURCES) if not path.endswith(UNREAD))))
@@ -246,6 +255,7 @@ def main():
     check_stands()
     check_old_names()
     check_edits()
+    check_lines()
     sys.exit("\n".join(wrong) if wrong else 0)
 
 

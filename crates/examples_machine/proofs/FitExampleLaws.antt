@@ -66,7 +66,8 @@ pub int_is_type : IsFieldType Int
 int_is_type = record { named = tt; few = omega arith }
 
 -- one entry is for the place
-used : (uses : List Use) (u : Use) → what_used uses u.place ≡ Some u.what → length (entries_for uses u.place) ≡ 1 → (F : What → Type 0) → F u.what → (place : ℕ) → Some u.place ≡ Some place → HasUse uses place F
+used : (uses : List Use) (u : Use) → what_used uses u.place ≡ Some u.what → length (entries_for uses u.place) ≡ 1 → (F : What → Type 0) → F u.what
+    → (place : ℕ) → Some u.place ≡ Some place → HasUse uses place F
 used uses u e one F f place g = subst (λ k. HasUse uses k F) (some_is u.place place g) (record { what = u.what; used = e; one = one; fact = f })
 
 -- an int takes one slot, so that nothing has to stand behind it
@@ -84,12 +85,17 @@ abs_code = record {
   few = omega arith;
   well_formed = All-from_recursion IsWellFormed abs.code (refl, (refl, (refl, (refl, (refl, (refl, (refl, tt)))))));
   places = All-from_recursion (LeadsWithin 7) abs.code (tt, ((omega arith, tt), (tt, (tt, (tt, (tt, (tt, tt)))))));
-  ends = no_falls (insns.Simple opcode.ireturn) (insns.Local opcode.iload 0 ∷ insns.Simple opcode.ireturn ∷ insns.Simple opcode.ineg ∷ insns.Local opcode.iload 0 ∷ insns.Jump opcode.ifge 5 ∷ insns.Local opcode.iload 0 ∷ []) abs.code refl (return_ends 0);
+  ends = no_falls (insns.Simple opcode.ireturn) (insns.Local opcode.iload 0 ∷ insns.Simple opcode.ireturn ∷ insns.Simple opcode.ineg
+      ∷ insns.Local opcode.iload 0 ∷ insns.Jump opcode.ifge 5 ∷ insns.Local opcode.iload 0 ∷ []) abs.code refl (return_ends 0);
 }
 
 abs_uses : AreUses abs.code abs.handlers abs.uses
 abs_uses = record {
-  by_insns = All-from_recursion (λ (insn : Insn). (place : ℕ) → pool_place insn ≡ Some place → HasUse [] place (Suits insn)) abs.code ((λ place e. absurd (none_some e)), ((λ place e. absurd (none_some e)), ((λ place e. absurd (none_some e)), ((λ place e. absurd (none_some e)), ((λ place e. absurd (none_some e)), ((λ place e. absurd (none_some e)), ((λ place e. absurd (none_some e)), tt)))))));
+  by_insns = All-from_recursion (λ (insn : Insn). (place : ℕ) → pool_place insn ≡ Some place → HasUse [] place (Suits insn)) abs.code
+      ((λ place e. absurd (none_some e)),
+        ((λ place e. absurd (none_some e)),
+          ((λ place e. absurd (none_some e)),
+            ((λ place e. absurd (none_some e)), ((λ place e. absurd (none_some e)), ((λ place e. absurd (none_some e)), ((λ place e. absurd (none_some e)), tt)))))));
   by_handlers = All-from_recursion (λ (h : Handler). h.class ≢ 0 → HasUse [] h.class IsClass) [] tt;
   short = All-from_recursion (λ (u : Use). HasShortTexts u.what) [] tt;
 }
@@ -111,8 +117,11 @@ abs_made = record {
     };
     arguments_fit = omega arith;
     uses = abs_uses;
-    frames = (omega arith, omega arith, record { locals = refl; pairs = (int_before [], tt); stack = omega arith; local_kinds = All-from_recursion (IsKind abs.code) (kinds.Int ∷ []) (tt, tt); stack_kinds = All-from_recursion (IsKind abs.code) [] tt }, tt);
-    sizes = record { owner = omega arith; name = omega arith; desc = omega arith; handlers = omega arith; lines = omega arith; vars = omega arith; kind_vars = omega arith; frames = omega arith; uses = omega arith };
+    frames = (omega arith, omega arith,
+        record { locals = refl; pairs = (int_before [], tt); stack = omega arith; local_kinds = All-from_recursion (IsKind abs.code) (kinds.Int ∷ [])
+          (tt, tt); stack_kinds = All-from_recursion (IsKind abs.code) [] tt }, tt);
+    sizes = record { owner = omega arith; name = omega arith; desc = omega arith; handlers = omega arith; lines = omega arith; vars = omega arith;
+        kind_vars = omega arith; frames = omega arith; uses = omega arith };
   };
   bound = omega arith;
 }
@@ -126,7 +135,9 @@ unfolding IsDistinct
 abs_is_program = record {
   classes = All-from_recursion (IsLinked (codes "[Z" ∷ [])) abs_program.classes (
     record {
-      bodies = All-from_recursion (IsProgramBody (codes "[Z" ∷ [])) (abs ∷ []) (record { well_made = abs_made; checked = passes_checked (codes "[Z" ∷ []) abs (omega arith) abs_verdict; numbered = (record { locals = (tt, tt); stack = tt }, tt) }, tt);
+      bodies = All-from_recursion (IsProgramBody (codes "[Z" ∷ [])) (abs ∷ [])
+          (record { well_made = abs_made; checked = passes_checked (codes "[Z" ∷ []) abs (omega arith) abs_verdict; numbered =
+              (record { locals = (tt, tt); stack = tt }, tt) }, tt);
       statics = All-from_recursion IsStatic [] tt;
       few_bodies = omega arith;
       few_statics = omega arith;
@@ -146,7 +157,8 @@ inc_code_is = record {
   few = omega arith;
   well_formed = All-from_recursion IsWellFormed inc.code (refl, (refl, (refl, (refl, (refl, tt)))));
   places = All-from_recursion (LeadsWithin 5) inc.code (tt, (tt, (tt, (tt, (tt, tt)))));
-  ends = no_falls (insns.Simple opcode.return) (insns.Member opcode.putstatic 1 ∷ insns.Simple opcode.iadd ∷ insns.Simple opcode.iconst_1 ∷ insns.Member opcode.getstatic 1 ∷ []) inc.code refl void_ends;
+  ends = no_falls (insns.Simple opcode.return) (insns.Member opcode.putstatic 1 ∷ insns.Simple opcode.iadd ∷ insns.Simple opcode.iconst_1
+      ∷ insns.Member opcode.getstatic 1 ∷ []) inc.code refl void_ends;
 }
 
 x_used : (op : ℕ) → op ≤ 181 → (place : ℕ) → Some 1 ≡ Some place → HasUse (x_use ∷ []) place (Suits (insns.Member op 1))
@@ -154,7 +166,9 @@ x_used op l place e = used (x_use ∷ []) x_use refl refl (Suits (insns.Member o
 
 inc_uses : AreUses inc.code inc.handlers inc.uses
 inc_uses = record {
-  by_insns = All-from_recursion (λ (insn : Insn). (place : ℕ) → pool_place insn ≡ Some place → HasUse (x_use ∷ []) place (Suits insn)) inc.code (x_used 178 (omega arith), ((λ place e. absurd (none_some e)), ((λ place e. absurd (none_some e)), (x_used 179 (omega arith), ((λ place e. absurd (none_some e)), tt)))));
+  by_insns = All-from_recursion (λ (insn : Insn). (place : ℕ) → pool_place insn ≡ Some place → HasUse (x_use ∷ []) place (Suits insn)) inc.code
+      (x_used 178 (omega arith),
+        ((λ place e. absurd (none_some e)), ((λ place e. absurd (none_some e)), (x_used 179 (omega arith), ((λ place e. absurd (none_some e)), tt)))));
   by_handlers = All-from_recursion (λ (h : Handler). h.class ≢ 0 → HasUse (x_use ∷ []) h.class IsClass) [] tt;
   short = All-from_recursion (λ (u : Use). HasShortTexts u.what) (x_use ∷ []) ((omega arith, omega arith, omega arith), tt);
 }
@@ -177,7 +191,8 @@ inc_made = record {
     arguments_fit = omega arith;
     uses = inc_uses;
     frames = tt;
-    sizes = record { owner = omega arith; name = omega arith; desc = omega arith; handlers = omega arith; lines = omega arith; vars = omega arith; kind_vars = omega arith; frames = omega arith; uses = omega arith };
+    sizes = record { owner = omega arith; name = omega arith; desc = omega arith; handlers = omega arith; lines = omega arith; vars = omega arith;
+        kind_vars = omega arith; frames = omega arith; uses = omega arith };
   };
   bound = omega arith;
 }
@@ -189,7 +204,8 @@ inc_verdict = refl
 inc_static : IsLinked (codes "[Z" ∷ []) (record { name = c_name; bodies = inc ∷ []; statics = record { name = codes "x"; desc = codes "I"; first = pos 0 } ∷ []; has_clinit = false; probes = None })
 unfolding types_from
 inc_static = record {
-  bodies = All-from_recursion (IsProgramBody (codes "[Z" ∷ [])) (inc ∷ []) (record { well_made = inc_made; checked = passes_checked (codes "[Z" ∷ []) inc (omega arith) inc_verdict; numbered = tt }, tt);
+  bodies = All-from_recursion (IsProgramBody (codes "[Z" ∷ [])) (inc ∷ [])
+      (record { well_made = inc_made; checked = passes_checked (codes "[Z" ∷ []) inc (omega arith) inc_verdict; numbered = tt }, tt);
   statics = All-from_recursion IsStatic (record { name = codes "x"; desc = codes "I"; first = pos 0 } ∷ []) (refl, tt);
   few_bodies = omega arith;
   few_statics = omega arith;
@@ -204,7 +220,8 @@ unfolding entry_of types_from rest_from
 inc_entries = (refl, (refl, tt))
 
 pub inc_runs : (turns : List ℕ) → FitsWorld inc_program (run inc_program (case (inc_thread ∷ inc_thread ∷ []) (schedules.Robin 10)) turns)
-inc_runs turns = (run_fits inc_program (case (inc_thread ∷ inc_thread ∷ []) (schedules.Robin 10)) (record { class = 0; method = 0 } ∷ record { class = 0; method = 0 } ∷ []) turns inc_is_program inc_entries).0
+inc_runs turns = (run_fits inc_program (case (inc_thread ∷ inc_thread ∷ []) (schedules.Robin 10))
+    (record { class = 0; method = 0 } ∷ record { class = 0; method = 0 } ∷ []) turns inc_is_program inc_entries).0
 
 -- ---- an instrumented class
 
@@ -268,7 +285,8 @@ init_desc_is : IsMethodDescriptor (codes "()[Z")
 init_desc_is = (record { parameters = []; returns = Some (Array Boolean) }, record { parameters = tt; returns = array_is_type; spelled = refl })
 
 probes_desc_is : IsMethodDescriptor (codes "(JLjava/lang/String;I)[Z")
-probes_desc_is = (record { parameters = Long ∷ Object (codes "java/lang/String") ∷ Int ∷ []; returns = Some (Array Boolean) }, record { parameters = (long_is_type, (string_is_type, (int_is_type, tt))); returns = array_is_type; spelled = refl })
+probes_desc_is = (record { parameters = Long ∷ Object (codes "java/lang/String") ∷ Int ∷ []; returns = Some (Array Boolean) },
+    record { parameters = (long_is_type, (string_is_type, (int_is_type, tt))); returns = array_is_type; spelled = refl })
 
 abbrev probed_body : Body
 probed_body = probed_abs
@@ -278,14 +296,35 @@ unfolding form_of
 probed_code = record {
   some = omega arith;
   few = omega arith;
-  well_formed = All-from_recursion IsWellFormed probed_body.code (refl, (refl, (refl, (refl, (refl, (refl, (refl, (refl, (refl, (refl, (refl, (refl, (refl, (refl, (refl, (refl, (refl, tt)))))))))))))))));
+  well_formed = All-from_recursion IsWellFormed probed_body.code
+      (refl, (refl, (refl, (refl, (refl, (refl, (refl, (refl, (refl, (refl, (refl, (refl, (refl, (refl, (refl, (refl, (refl, tt)))))))))))))))));
   places = All-from_recursion (LeadsWithin 17) probed_body.code (tt, (tt, (tt, ((omega arith, tt), (tt, (tt, (tt, (tt, (tt, (tt, (tt, (tt, (tt, (tt, (tt, (tt, (tt, tt)))))))))))))))));
-  ends = no_falls (insns.Simple opcode.ireturn) (insns.Simple opcode.bastore ∷ insns.Simple opcode.iconst_1 ∷ insns.Simple opcode.iconst_1 ∷ insns.Local opcode.aload 1 ∷ insns.Local opcode.iload 0 ∷ insns.Simple opcode.ireturn ∷ insns.Simple opcode.bastore ∷ insns.Simple opcode.iconst_1 ∷ insns.Simple opcode.iconst_0 ∷ insns.Local opcode.aload 1 ∷ insns.Simple opcode.ineg ∷ insns.Local opcode.iload 0 ∷ insns.Jump opcode.ifge 11 ∷ insns.Local opcode.iload 0 ∷ insns.Local opcode.astore 1 ∷ insns.Member opcode.invokestatic 95 ∷ []) probed_body.code refl (return_ends 0);
+  ends = no_falls (insns.Simple opcode.ireturn) (insns.Simple opcode.bastore ∷ insns.Simple opcode.iconst_1 ∷ insns.Simple opcode.iconst_1
+      ∷ insns.Local opcode.aload 1 ∷ insns.Local opcode.iload 0 ∷ insns.Simple opcode.ireturn ∷ insns.Simple opcode.bastore
+      ∷ insns.Simple opcode.iconst_1 ∷ insns.Simple opcode.iconst_0 ∷ insns.Local opcode.aload 1 ∷ insns.Simple opcode.ineg
+      ∷ insns.Local opcode.iload 0 ∷ insns.Jump opcode.ifge 11 ∷ insns.Local opcode.iload 0 ∷ insns.Local opcode.astore 1
+      ∷ insns.Member opcode.invokestatic 95 ∷ []) probed_body.code refl (return_ends 0);
 }
 
 probed_uses : AreUses probed_body.code probed_body.handlers probed_body.uses
 probed_uses = record {
-  by_insns = All-from_recursion (λ (insn : Insn). (place : ℕ) → pool_place insn ≡ Some place → HasUse probed_body.uses place (Suits insn)) probed_body.code (used probed_body.uses (init_use a_name) refl refl (Suits (insns.Member opcode.invokestatic 95)) (inr (omega arith, init_desc_is)), ((λ place e. absurd (none_some e)), ((λ place e. absurd (none_some e)), ((λ place e. absurd (none_some e)), ((λ place e. absurd (none_some e)), ((λ place e. absurd (none_some e)), ((λ place e. absurd (none_some e)), ((λ place e. absurd (none_some e)), ((λ place e. absurd (none_some e)), ((λ place e. absurd (none_some e)), ((λ place e. absurd (none_some e)), ((λ place e. absurd (none_some e)), ((λ place e. absurd (none_some e)), ((λ place e. absurd (none_some e)), ((λ place e. absurd (none_some e)), ((λ place e. absurd (none_some e)), ((λ place e. absurd (none_some e)), tt)))))))))))))))));
+  by_insns = All-from_recursion (λ (insn : Insn). (place : ℕ) → pool_place insn ≡ Some place → HasUse probed_body.uses place (Suits insn))
+      probed_body.code (used probed_body.uses (init_use a_name) refl refl (Suits (insns.Member opcode.invokestatic 95))
+        (inr (omega arith, init_desc_is)),
+        ((λ place e. absurd (none_some e)),
+          ((λ place e. absurd (none_some e)),
+            ((λ place e. absurd (none_some e)),
+              ((λ place e. absurd (none_some e)),
+                ((λ place e. absurd (none_some e)),
+                  ((λ place e. absurd (none_some e)),
+                  ((λ place e. absurd (none_some e)),
+                  ((λ place e. absurd (none_some e)),
+                  ((λ place e. absurd (none_some e)),
+                  ((λ place e. absurd (none_some e)),
+                  ((λ place e. absurd (none_some e)),
+                  ((λ place e. absurd (none_some e)),
+                  ((λ place e. absurd (none_some e)),
+                  ((λ place e. absurd (none_some e)), ((λ place e. absurd (none_some e)), ((λ place e. absurd (none_some e)), tt)))))))))))))))));
   by_handlers = All-from_recursion (λ (h : Handler). h.class ≢ 0 → HasUse probed_body.uses h.class IsClass) [] tt;
   short = All-from_recursion (λ (u : Use). HasShortTexts u.what) probed_body.uses ((omega arith, omega arith, omega arith), tt);
 }
@@ -298,7 +337,10 @@ probed_made = record {
     lines = All-from_recursion (IsLine 17) [] tt;
     vars = All-from_recursion (IsVar 17 2) [] tt;
     kind_vars = All-from_recursion (IsVar 17 2) [] tt;
-    locals = All-from_recursion (LocalsWithin 2) probed_body.code (tt, ((omega arith, tt), ((omega arith, tt), (tt, ((omega arith, tt), (tt, ((omega arith, tt), (tt, (tt, (tt, (tt, ((omega arith, tt), ((omega arith, tt), (tt, (tt, (tt, (tt, tt)))))))))))))))));
+    locals = All-from_recursion (LocalsWithin 2) probed_body.code
+        (tt, ((omega arith, tt),
+            ((omega arith, tt), (tt,
+                ((omega arith, tt), (tt, ((omega arith, tt), (tt, (tt, (tt, (tt, ((omega arith, tt), ((omega arith, tt), (tt, (tt, (tt, (tt, tt)))))))))))))))));
     arguments = record {
       type = record { parameters = Int ∷ []; returns = Some Int };
       described = record { parameters = (int_is_type, tt); returns = int_is_type; spelled = refl };
@@ -307,8 +349,12 @@ probed_made = record {
     };
     arguments_fit = omega arith;
     uses = probed_uses;
-    frames = (omega arith, omega arith, record { locals = refl; pairs = (int_before (kinds.Object 0 ∷ []), (object_before [], tt)); stack = omega arith; local_kinds = All-from_recursion (IsKind probed_body.code) (kinds.Int ∷ kinds.Object 0 ∷ []) (tt, (tt, tt)); stack_kinds = All-from_recursion (IsKind probed_body.code) [] tt }, tt);
-    sizes = record { owner = omega arith; name = omega arith; desc = omega arith; handlers = omega arith; lines = omega arith; vars = omega arith; kind_vars = omega arith; frames = omega arith; uses = omega arith };
+    frames = (omega arith, omega arith,
+        record { locals = refl; pairs = (int_before (kinds.Object 0 ∷ []), (object_before [], tt)); stack = omega arith; local_kinds =
+          All-from_recursion (IsKind probed_body.code) (kinds.Int ∷ kinds.Object 0 ∷ []) (tt, (tt, tt)); stack_kinds =
+          All-from_recursion (IsKind probed_body.code) [] tt }, tt);
+    sizes = record { owner = omega arith; name = omega arith; desc = omega arith; handlers = omega arith; lines = omega arith; vars = omega arith;
+        kind_vars = omega arith; frames = omega arith; uses = omega arith };
   };
   bound = omega arith;
 }
@@ -331,12 +377,28 @@ init_code = record {
   few = omega arith;
   well_formed = All-from_recursion IsWellFormed init_body.code (refl, (refl, (refl, (refl, (tt, (tt, (refl, (refl, (refl, (refl, (refl, tt)))))))))));
   places = All-from_recursion (LeadsWithin 11) init_body.code (tt, (tt, ((omega arith, tt), (tt, (tt, (tt, (tt, (tt, (tt, (tt, (tt, tt)))))))))));
-  ends = no_falls (insns.Simple opcode.areturn) (insns.Member opcode.putstatic 90 ∷ insns.Simple opcode.dup ∷ insns.Member opcode.invokestatic 94 ∷ insns.Simple opcode.iconst_2 ∷ insns.Constant 93 ∷ insns.Constant2 91 ∷ insns.Simple opcode.pop ∷ insns.Jump opcode.ifnonnull 10 ∷ insns.Simple opcode.dup ∷ insns.Member opcode.getstatic 90 ∷ []) init_body.code refl (reference_ends);
+  ends = no_falls (insns.Simple opcode.areturn) (insns.Member opcode.putstatic 90 ∷ insns.Simple opcode.dup ∷ insns.Member opcode.invokestatic 94
+      ∷ insns.Simple opcode.iconst_2 ∷ insns.Constant 93 ∷ insns.Constant2 91 ∷ insns.Simple opcode.pop ∷ insns.Jump opcode.ifnonnull 10
+      ∷ insns.Simple opcode.dup ∷ insns.Member opcode.getstatic 90 ∷ []) init_body.code refl (reference_ends);
 }
 
 init_uses : AreUses init_body.code init_body.handlers init_body.uses
 init_uses = record {
-  by_insns = All-from_recursion (λ (insn : Insn). (place : ℕ) → pool_place insn ≡ Some place → HasUse init_body.uses place (Suits insn)) init_body.code (used init_body.uses (use_at 90 (whats.Field a_name (codes "$jacocoData") (codes "[Z"))) refl refl (Suits (insns.Member opcode.getstatic 90)) (inl (omega arith, data_desc_is)), ((λ place e. absurd (none_some e)), ((λ place e. absurd (none_some e)), ((λ place e. absurd (none_some e)), (used init_body.uses (use_at 91 (whats.Long (pos 7))) refl refl (Suits (insns.Constant2 91)) tt, (used init_body.uses (use_at 93 whats.Text) refl refl (Suits (insns.Constant 93)) tt, ((λ place e. absurd (none_some e)), (used init_body.uses (use_at 94 (whats.Method (codes "org/jacoco/agent/rt/internal/Offline") (codes "getProbes") (codes "(JLjava/lang/String;I)[Z"))) refl refl (Suits (insns.Member opcode.invokestatic 94)) (inr (omega arith, probes_desc_is)), ((λ place e. absurd (none_some e)), (used init_body.uses (use_at 90 (whats.Field a_name (codes "$jacocoData") (codes "[Z"))) refl refl (Suits (insns.Member opcode.putstatic 90)) (inl (omega arith, data_desc_is)), ((λ place e. absurd (none_some e)), tt)))))))))));
+  by_insns = All-from_recursion (λ (insn : Insn). (place : ℕ) → pool_place insn ≡ Some place → HasUse init_body.uses place (Suits insn))
+      init_body.code (used init_body.uses (use_at 90 (whats.Field a_name (codes "$jacocoData") (codes "[Z"))) refl refl
+        (Suits (insns.Member opcode.getstatic 90)) (inl (omega arith, data_desc_is)),
+        ((λ place e. absurd (none_some e)),
+          ((λ place e. absurd (none_some e)),
+            ((λ place e. absurd (none_some e)),
+              (used init_body.uses (use_at 91 (whats.Long (pos 7))) refl refl (Suits (insns.Constant2 91)) tt,
+                (used init_body.uses (use_at 93 whats.Text) refl refl (Suits (insns.Constant 93)) tt,
+                  ((λ place e. absurd (none_some e)),
+                  (used init_body.uses
+                  (use_at 94 (whats.Method (codes "org/jacoco/agent/rt/internal/Offline") (codes "getProbes") (codes "(JLjava/lang/String;I)[Z")))
+                  refl refl (Suits (insns.Member opcode.invokestatic 94)) (inr (omega arith, probes_desc_is)),
+                  ((λ place e. absurd (none_some e)),
+                  (used init_body.uses (use_at 90 (whats.Field a_name (codes "$jacocoData") (codes "[Z"))) refl refl
+                  (Suits (insns.Member opcode.putstatic 90)) (inl (omega arith, data_desc_is)), ((λ place e. absurd (none_some e)), tt)))))))))));
   by_handlers = All-from_recursion (λ (h : Handler). h.class ≢ 0 → HasUse init_body.uses h.class IsClass) [] tt;
   short = All-from_recursion (λ (u : Use). HasShortTexts u.what) init_body.uses ((omega arith, omega arith, omega arith), (tt, (tt, ((omega arith, omega arith, omega arith), tt))));
 }
@@ -358,8 +420,11 @@ init_made = record {
     };
     arguments_fit = omega arith;
     uses = init_uses;
-    frames = (omega arith, omega arith, record { locals = refl; pairs = tt; stack = omega arith; local_kinds = All-from_recursion (IsKind init_body.code) [] tt; stack_kinds = All-from_recursion (IsKind init_body.code) (kinds.Object 0 ∷ []) (tt, tt) }, tt);
-    sizes = record { owner = omega arith; name = omega arith; desc = omega arith; handlers = omega arith; lines = omega arith; vars = omega arith; kind_vars = omega arith; frames = omega arith; uses = omega arith };
+    frames = (omega arith, omega arith,
+        record { locals = refl; pairs = tt; stack = omega arith; local_kinds = All-from_recursion (IsKind init_body.code) [] tt; stack_kinds =
+          All-from_recursion (IsKind init_body.code) (kinds.Object 0 ∷ []) (tt, tt) }, tt);
+    sizes = record { owner = omega arith; name = omega arith; desc = omega arith; handlers = omega arith; lines = omega arith; vars = omega arith;
+        kind_vars = omega arith; frames = omega arith; uses = omega arith };
   };
   bound = omega arith;
 }
@@ -380,8 +445,10 @@ probed_is_program = record {
   classes = All-from_recursion (IsLinked (codes "[Z" ∷ [])) probed_abs_program.classes (
     record {
       bodies = All-from_recursion (IsProgramBody (codes "[Z" ∷ [])) (probed_abs ∷ init a_name (pos 7) 2 ∷ []) (
-        record { well_made = probed_made; checked = passes_checked (codes "[Z" ∷ []) probed_abs (omega arith) probed_verdict; numbered = (record { locals = (tt, (omega arith, tt)); stack = tt }, tt) },
-        (record { well_made = init_made; checked = passes_checked (codes "[Z" ∷ []) (init a_name (pos 7) 2) (omega arith) init_verdict; numbered = (record { locals = tt; stack = (omega arith, tt) }, tt) }, tt),
+        record { well_made = probed_made; checked = passes_checked (codes "[Z" ∷ []) probed_abs (omega arith) probed_verdict; numbered =
+            (record { locals = (tt, (omega arith, tt)); stack = tt }, tt) },
+        (record { well_made = init_made; checked = passes_checked (codes "[Z" ∷ []) (init a_name (pos 7) 2) (omega arith) init_verdict; numbered =
+            (record { locals = tt; stack = (omega arith, tt) }, tt) }, tt),
       );
       statics = All-from_recursion IsStatic (record { name = codes "$jacocoData"; desc = codes "[Z"; first = pos 0 } ∷ []) (probed_data, tt);
       few_bodies = omega arith;
@@ -437,8 +504,11 @@ wide_made = record {
     };
     arguments_fit = omega arith;
     uses = wide_uses;
-    frames = (omega arith, omega arith, record { locals = refl; pairs = tt; stack = omega arith; local_kinds = All-from_recursion (IsKind wide.code) [] tt; stack_kinds = All-from_recursion (IsKind wide.code) (kinds.Top ∷ []) (tt, tt) }, tt);
-    sizes = record { owner = omega arith; name = omega arith; desc = omega arith; handlers = omega arith; lines = omega arith; vars = omega arith; kind_vars = omega arith; frames = omega arith; uses = omega arith };
+    frames = (omega arith, omega arith,
+        record { locals = refl; pairs = tt; stack = omega arith; local_kinds = All-from_recursion (IsKind wide.code) [] tt; stack_kinds =
+          All-from_recursion (IsKind wide.code) (kinds.Top ∷ []) (tt, tt) }, tt);
+    sizes = record { owner = omega arith; name = omega arith; desc = omega arith; handlers = omega arith; lines = omega arith; vars = omega arith;
+        kind_vars = omega arith; frames = omega arith; uses = omega arith };
   };
   bound = omega arith;
 }
@@ -452,7 +522,9 @@ unfolding IsDistinct
 wide_is_program = record {
   classes = All-from_recursion (IsLinked (codes "[Z" ∷ [])) wide_program.classes (
     record {
-      bodies = All-from_recursion (IsProgramBody (codes "[Z" ∷ [])) (wide ∷ []) (record { well_made = wide_made; checked = passes_checked (codes "[Z" ∷ []) wide (omega arith) wide_verdict; numbered = (record { locals = tt; stack = (tt, tt) }, tt) }, tt);
+      bodies = All-from_recursion (IsProgramBody (codes "[Z" ∷ [])) (wide ∷ [])
+          (record { well_made = wide_made; checked = passes_checked (codes "[Z" ∷ []) wide (omega arith) wide_verdict; numbered =
+              (record { locals = tt; stack = (tt, tt) }, tt) }, tt);
       statics = All-from_recursion IsStatic [] tt;
       few_bodies = omega arith;
       few_statics = omega arith;

@@ -29,12 +29,14 @@ low_at (b ∷ bits) zero = ap (λ (n : ℕ). n + 2 * low_first bits) (bit_number
 low_at (b ∷ bits) (suc k) = low_at bits k
 
 -- the byte of eight bits
-pub low_of_eight : (bits : List Bool) (p a b c d e f g h : ℕ) → a ≡ bool_byte (get_or bits p false) → b ≡ bool_byte (get_or bits (p + 1) false) → c ≡ bool_byte (get_or bits (p + 2) false) → d ≡ bool_byte (get_or bits (p + 3) false)
+pub low_of_eight : (bits : List Bool) (p a b c d e f g h : ℕ) → a ≡ bool_byte (get_or bits p false) → b ≡ bool_byte (get_or bits (p + 1) false)
+    → c ≡ bool_byte (get_or bits (p + 2) false) → d ≡ bool_byte (get_or bits (p + 3) false)
     → e ≡ bool_byte (get_or bits (p + 4) false) → f ≡ bool_byte (get_or bits (p + 5) false) → g ≡ bool_byte (get_or bits (p + 6) false) → h ≡ bool_byte (get_or bits (p + 7) false)
     → (a + 2 * b) + 4 * (c + 2 * d) + 16 * (e + 2 * f) + 64 * (g + 2 * h) ≡ low_first (take 8 (drop p bits))
 low_of_eight bits p a b c d e f g h ia ib ic id ie iff ig ih =
     let eight = take 8 (drop p bits) in
-    let bit : (k : ℕ) → k < 8 → bool_byte (get_or bits (p + k) false) ≡ bool_byte (get_or eight k false) = (λ k lt. ap bool_byte (sym (get_or-take 8 (drop p bits) k false lt ∙ get_or-drop p bits k false))) in
+    let bit : (k : ℕ) → k < 8 → bool_byte (get_or bits (p + k) false) ≡ bool_byte (get_or eight k false) =
+            (λ k lt. ap bool_byte (sym (get_or-take 8 (drop p bits) k false lt ∙ get_or-drop p bits k false))) in
     let s0 = low_at eight 0 in let t0 = bit 0 (omega arith) in
     let s1 = low_at eight 1 in let t1 = bit 1 (omega arith) in
     let s2 = low_at eight 2 in let t2 = bit 2 (omega arith) in
@@ -138,16 +140,19 @@ among_ids id (r ∷ rs) = ap (λ (b : Bool). nat_eq r.id id || b) (among_ids id 
 take_next : (rs : List ClassHits) (i : ℕ) (d : ClassHits) → i < length rs → take (i + 1) rs ≡ take i rs ++ get_or rs i d ∷ []
 take_next rs i d lt = let one : i + 1 ≡ suc i = omega arith in ap (λ (k : ℕ). take k rs) one ∙ take-suc rs i d lt
 
-ids_next : (rs : List ClassHits) (i : ℕ) (r : ClassHits) → i < length rs → get_or rs i r ≡ r → first_seen (ids_of (take (i + 1) rs)) ≡ first_seen (ids_of (take i rs)) ++ cond (list_any (λ x. nat_eq x.id r.id) (take i rs)) [] (r.id ∷ [])
+ids_next : (rs : List ClassHits) (i : ℕ) (r : ClassHits) → i < length rs → get_or rs i r ≡ r → first_seen (ids_of (take (i + 1) rs))
+    ≡ first_seen (ids_of (take i rs)) ++ cond (list_any (λ x. nat_eq x.id r.id) (take i rs)) [] (r.id ∷ [])
 ids_next rs i r lt is =
     ap (λ (l : List ClassHits). first_seen (ids_of l)) (take_next rs i r lt ∙ ap (λ (x : ClassHits). take i rs ++ x ∷ []) is)
     ∙ ap first_seen (map-append (λ (c : ClassHits). c.id) (take i rs) (r ∷ []))
     ∙ first_seen-append (ids_of (take i rs)) r.id
     ∙ ap (λ (b : Bool). first_seen (ids_of (take i rs)) ++ cond b [] (r.id ∷ [])) (among_ids r.id (take i rs))
 
-pub made_new : (rs out later : List ClassHits) (i : ℕ) (r c : ClassHits) → Made rs i out → i < length rs → get_or rs i r ≡ r → list_any (λ x. nat_eq x.id r.id) (take i rs) ≡ false → c ≡ merged_record rs r → later ≡ out ++ c ∷ [] → Made rs (i + 1) later
+pub made_new : (rs out later : List ClassHits) (i : ℕ) (r c : ClassHits) → Made rs i out → i < length rs → get_or rs i r ≡ r
+    → list_any (λ x. nat_eq x.id r.id) (take i rs) ≡ false → c ≡ merged_record rs r → later ≡ out ++ c ∷ [] → Made rs (i + 1) later
 made_new rs out later i r c m lt is none merges e = subst (Made rs (i + 1)) (sym e) (record {
-  ids = map-append (λ (d : ClassHits). d.id) out (c ∷ []) ∙ (λ j. m.ids j ++ (merges j).id ∷ []) ∙ sym (ids_next rs i r lt is ∙ ap (λ (b : Bool). first_seen (ids_of (take i rs)) ++ cond b [] (r.id ∷ [])) none);
+  ids = map-append (λ (d : ClassHits). d.id) out (c ∷ []) ∙ (λ j. m.ids j ++ (merges j).id ∷ [])
+      ∙ sym (ids_next rs i r lt is ∙ ap (λ (b : Bool). first_seen (ids_of (take i rs)) ++ cond b [] (r.id ∷ [])) none);
   all = all_push (Came rs) out c m.all (record { from = r; there = (i, lt, is); merges = merges });
 })
 

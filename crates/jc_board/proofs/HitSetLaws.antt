@@ -40,7 +40,8 @@ module _ (hits : List (List Bool)) (c i : ℕ) where
       | no ne ↦ inl (sym (ap (λ (r : List Bool). get_or r j false) (get_or-set_other hits c d (set (get_or hits c []) i true) [] ne)) ∙ h)
       | yes e ↦ elim (ℕ_discrete j i) as (λ _. IsHit hits d j ⊎ ((d ≡ c) × (j ≡ i))) [
         | yes same ↦ inr (e, same)
-        | no apart ↦ inl (sym (ap (λ n. get_or (get_or (with_set hits c i) n []) j false) e ∙ ap (λ (r : List Bool). get_or r j false) (get_or-set_same hits c (set (get_or hits c []) i true) [] in_class)
+        | no apart ↦ inl (sym (ap (λ n. get_or (get_or (with_set hits c i) n []) j false) e
+            ∙ ap (λ (r : List Bool). get_or r j false) (get_or-set_same hits c (set (get_or hits c []) i true) [] in_class)
             ∙ get_or-set_other (get_or hits c []) i j true false apart ∙ ap (λ n. get_or (get_or hits n []) j false) (sym e)) ∙ h)
       ]
     ]

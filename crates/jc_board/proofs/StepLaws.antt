@@ -46,7 +46,9 @@ kept_with_hit : (counts words : List ℕ) (views : List View) (id c i : ℕ) (v 
     → IsKept counts (set words (word_at counts c i) (bit_or (get_or words (word_at counts c i) 0) (2 ^ (i % 64)))) (set views id (with_hit v c i))
 kept_with_hit counts words views id c i v k there part range =
     let m = with_bit counts words k.enough c i range.0 in
-    gains counts words m views id c i v k there part range (length-set words (word_at counts c i) (bit_or (get_or words (word_at counts c i) 0) (2 ^ (i % 64)))) (bit_here counts words k.enough c i range.0) (bit_more counts words k.enough c i range.0) (bit_less counts words k.enough c i range.0)
+    gains counts words m views id c i v k there part range
+        (length-set words (word_at counts c i) (bit_or (get_or words (word_at counts c i) 0) (2 ^ (i % 64))))
+        (bit_here counts words k.enough c i range.0) (bit_more counts words k.enough c i range.0) (bit_less counts words k.enough c i range.0)
 
 -- a view with the whole part is the only one that has hits
 pub alone : (counts words : List ℕ) (views : List View) (id c i : ℕ) (v : View) → IsKept counts words views → get_elem? views id ≡ some v → v.part ≡ whole → AnyHas views c i → Contains v.hits (c, i)
@@ -67,7 +69,8 @@ module _ {S : Type 0} where
     with_hit me.0 c i,
     keeps,
     tt,
-    subst (λ (x : ℕ × ℕ). IsKept counts (set s.words x.0 (bit_or (get_or s.words x.0 0) x.1)) (set s.views id (with_hit me.0 c i))) (λ n. (sym at n, sym is n)) (kept_with_hit counts s.words s.views id c i me.0 k there part range),
+    subst (λ (x : ℕ × ℕ). IsKept counts (set s.words x.0 (bit_or (get_or s.words x.0 0) x.1)) (set s.views id (with_hit me.0 c i)))
+        (λ n. (sym at n, sym is n)) (kept_with_hit counts s.words s.views id c i me.0 k there part range),
     refl,
   )
 
@@ -79,13 +82,17 @@ module _ {S : Type 0} where
       let known : bit_at (get_or s.words word 0) (i % 64) ≡ 1 → IsSet counts s.words c i = λ e. ap (λ n. bit_at (get_or s.words n 0) (i % 64)) (sym at) ∙ e in
       let back : IsSet counts s.words c i → bit_at (get_or s.words word 0) (i % 64) ≡ 1 = λ e. ap (λ n. bit_at (get_or s.words n 0) (i % 64)) at ∙ e in
       let had : Contains me.0.hits (c, i) → bit_at (get_or s.words word 0) (i % 64) ≡ 1 = λ h. back (k.hit_is_set c i (id, me.0, there, h)) in
-      let mine : me.0.part ≡ whole → bit_at (get_or s.words word 0) (i % 64) ≡ 1 → Contains me.0.hits (c, i) = λ p e. alone counts s.words s.views id c i me.0 k there p (k.set_only_hit c i range.0 (known e)) in
-      elim (ℕ_discrete (bit_at (get_or s.words word 0) (i % 64)) 1) as (λ _. (w : View) × (a : Act S) × Valid s.homes me.1 a × IsKept counts (set s.words word (get_or s.words word 0)) (set s.views id w) × Peeks c i me (get_or s.words word 0) (w, carried_after me.1 a)) [
+      let mine : me.0.part ≡ whole → bit_at (get_or s.words word 0) (i % 64) ≡ 1 → Contains me.0.hits (c, i) =
+              λ p e. alone counts s.words s.views id c i me.0 k there p (k.set_only_hit c i range.0 (known e)) in
+      elim (ℕ_discrete (bit_at (get_or s.words word 0) (i % 64)) 1) as
+          (λ _. (w : View) × (a : Act S) × Valid s.homes me.1 a × IsKept counts (set s.words word (get_or s.words word 0)) (set s.views id w)
+            × Peeks c i me (get_or s.words word 0) (w, carried_after me.1 a)) [
         | yes e ↦ (
           with_hit me.0 c i,
           keeps,
           tt,
-          subst (λ (ws : List ℕ). IsKept counts ws (set s.views id (with_hit me.0 c i))) (sym same) (gains counts s.words s.words s.views id c i me.0 k there part range refl (known e) (λ d j r t. t) (λ d j r t. inl t)),
+          subst (λ (ws : List ℕ). IsKept counts ws (set s.views id (with_hit me.0 c i))) (sym same)
+              (gains counts s.words s.words s.views id c i me.0 k there part range refl (known e) (λ d j r t. t) (λ d j r t. inl t)),
           record { set = λ _. refl; unset = λ ne. absurd (ne e); had = had; alone = mine },
         )
         | no ne ↦ (
@@ -146,7 +153,8 @@ split_keeps counts words views id part v more less k there =
     (omega (arith, sum_of_parts-append cut (view [] part ∷ []), sum_of_parts-set views id v left there, less))
 
 -- a seat is taken in
-pub join_keeps : (counts words : List ℕ) (views : List View) (id other : ℕ) (v w : View) → 0 < v.part → IsKept counts words views → get_elem? views id ≡ some v → ¬ (other ≡ id) → get_elem? (set views id (joined v w)) other ≡ some w
+pub join_keeps : (counts words : List ℕ) (views : List View) (id other : ℕ) (v w : View) → 0 < v.part → IsKept counts words views
+    → get_elem? views id ≡ some v → ¬ (other ≡ id) → get_elem? (set views id (joined v w)) other ≡ some w
     → IsKept counts words (set (set views id (joined v w)) other (view [] 0))
 join_keeps counts words views id other v w part k there apart yonder =
     let both = joined v w in

@@ -41,13 +41,15 @@ why major pool owner method kinds.Subroutine place r = subroutine refl r
 why major pool owner method kinds.BadCode place r = fault refl r.0 r.1
 why major pool owner method kind place r = absurd r
 
-one_why : (major : ℕ) (pool : PoolValue) (owner : List ℕ) (method : Member) (kind kind' : RefusalKind) (place place' : ℕ) → Why major pool owner method kind place → Why major pool owner method kind' place' → (kind ≡ kind') × (place ≡ place')
+one_why : (major : ℕ) (pool : PoolValue) (owner : List ℕ) (method : Member) (kind kind' : RefusalKind) (place place' : ℕ)
+    → Why major pool owner method kind place → Why major pool owner method kind' place' → (kind ≡ kind') × (place ≡ place')
 one_why major pool owner method kind kind' place place' (subroutine is at) (subroutine is' at') = (is ∙ sym is', least_once (HasSubroutine pool method) place place' at at')
 one_why major pool owner method kind kind' place place' (fault is none at) (fault is' none' at') = (is ∙ sym is', first_once (faults major pool owner method) place place' at at')
 one_why major pool owner method kind kind' place place' (subroutine is at) (fault is' none' at') = absurd (none' place at.there)
 one_why major pool owner method kind kind' place place' (fault is none at) (subroutine is' at') = absurd (none place' at'.there)
 
-pub no_reason : (major : ℕ) (pool : PoolValue) (owner : List ℕ) (method : Member) (kind : RefusalKind) (place : ℕ) → IsNowhere (HasSubroutine pool method) → AreNowhere (faults major pool owner method) → IsReason major pool owner method kind place → ⊥
+pub no_reason : (major : ℕ) (pool : PoolValue) (owner : List ℕ) (method : Member) (kind : RefusalKind) (place : ℕ)
+    → IsNowhere (HasSubroutine pool method) → AreNowhere (faults major pool owner method) → IsReason major pool owner method kind place → ⊥
 no_reason major pool owner method kind place no_subroutine no_fault r = by (why major pool owner method kind place r)
   where
     by : Why major pool owner method kind place → ⊥
@@ -61,7 +63,10 @@ none_of_all pool method none (F ∷ Fs) = (none_of_code pool method none F, none
 
 pub no_faults : (major : ℕ) (pool : PoolValue) (owner : List ℕ) (method : Member) → HasNoCode pool method → AreNowhere (faults major pool owner method)
 no_faults major pool owner method none =
-    (no_code pool method none, (not_malformed pool method none, (not_stopped pool method none kinds.BadCode, none_of_all pool method none (insn_faults major pool ++ (row_faults pool method ++ table_faults pool owner method)))))
+    (no_code pool method none,
+        (not_malformed pool method none,
+          (not_stopped pool method none kinds.BadCode,
+            none_of_all pool method none (insn_faults major pool ++ (row_faults pool method ++ table_faults pool owner method)))))
 
 -- ---- one method
 
@@ -91,7 +96,8 @@ body_or_fault names c number b r body bad =
 pub one_fault : (c : ClassFile) (number : ℕ) (r s : Refusal) → FaultOf c number r → FaultOf c number s → r ≡ s
 one_fault c number r s p q =
     let reason = same_reason c p.owner q.owner p.method q.method r p.owner_is q.owner_is (same_Some _ _ (sym p.at ∙ q.at)) p.reason in
-    let one = one_why c.major c.pool q.owner q.method r.kind s.kind r.place s.place (why c.major c.pool q.owner q.method r.kind r.place reason) (why c.major c.pool q.owner q.method s.kind s.place q.reason) in
+    let one = one_why c.major c.pool q.owner q.method r.kind s.kind r.place s.place (why c.major c.pool q.owner q.method r.kind r.place reason)
+            (why c.major c.pool q.owner q.method s.kind s.place q.reason) in
     let methods = p.method_is ∙ sym q.method_is in
     λ i. record { kind = one.0 i; method = methods i; place = one.1 i }
 

@@ -65,7 +65,8 @@ module _ (pool : PoolValue) (method : Member) (coded : Coded) (desc : List ℕ) 
       by (inr few) = inr (outside_nowhere few)
 
 -- the arguments fit where the fault is nowhere
-pub arguments_fit : (pool : PoolValue) (method : Member) (coded : Coded) (desc : List ℕ) (slots : ℕ) → utf8_of pool method.desc ≡ Some desc → TakeSlots method.flags desc slots → IsNowhere (ArgumentsOutside pool method coded) → slots ≤ coded.items.max_locals
+pub arguments_fit : (pool : PoolValue) (method : Member) (coded : Coded) (desc : List ℕ) (slots : ℕ) → utf8_of pool method.desc ≡ Some desc
+    → TakeSlots method.flags desc slots → IsNowhere (ArgumentsOutside pool method coded) → slots ≤ coded.items.max_locals
 arguments_fit pool method coded desc slots desc_is takes none = by (cases_lt coded.items.max_locals slots)
   where
     by : (coded.items.max_locals < slots) ⊎ (slots ≤ coded.items.max_locals) → slots ≤ coded.items.max_locals

@@ -46,9 +46,12 @@ at_number P (x ∷ xs) (suc number) less each = at_number P xs number (omega (ar
 abbrev pub Answer : ClassFile → ℕ → Type 0
 Answer c number = Bodiless c number ⊎ (((names : Names) × (b : Body) × IsDistinct bytes_eq names × BodyOf names c number b) ⊎ ((r : Refusal) × FaultOf c number r))
 
-module _ (c : ClassFile) (number : ℕ) (method : Member) (at : slice_get c.methods number ≡ Some method) (is : IsMember (HasText c.pool) (HasMethodDescriptor c.pool) method) (owner : HasClass c.pool c.this_class) where
+module _ (c : ClassFile) (number : ℕ) (method : Member) (at : slice_get c.methods number ≡ Some method)
+    (is : IsMember (HasText c.pool) (HasMethodDescriptor c.pool) method) (owner : HasClass c.pool c.this_class) where
   refused : (kind : RefusalKind) (place : ℕ) → IsReason c.major c.pool owner.0 method kind place → Answer c number
-  refused kind place reason = inr (inr (record { kind = kind; method = Some number; place = place }, record { method = method; at = at; owner = owner.0; owner_is = owner.1; method_is = refl; reason = reason }))
+  refused kind place reason =
+      inr (inr (record { kind = kind; method = Some number; place = place },
+          record { method = method; at = at; owner = owner.0; owner_is = owner.1; method_is = refl; reason = reason }))
 
   -- the method has no subroutine instruction and no fault
   abbrev IsFaultless : Type 0
@@ -118,7 +121,10 @@ module _ (c : ClassFile) (number : ℕ) (method : Member) (at : slice_get c.meth
   faults_of coded = map (λ F. F coded) (insn_faults c.major c.pool ++ (row_faults c.pool method ++ table_faults c.pool owner.0 method))
 
   with_code : (coded : Coded) → IsCoded c.pool method coded → Answer c number
-  with_code coded is_coded = by (each_decided (faults_of coded) (all_decided c.major c.pool owner.0 method coded (are_starts coded.items.code coded.insns coded.starts is_coded.spelled) is.name.0 is.desc.0 is.name.1 is.desc.1 is.desc.2))
+  with_code coded is_coded =
+      by (each_decided (faults_of coded)
+        (all_decided c.major c.pool owner.0 method coded (are_starts coded.items.code coded.insns coded.starts is_coded.spelled) is.name.0 is.desc.0
+          is.name.1 is.desc.1 is.desc.2))
     where
       by_tables : AreNowhere (faults_of coded)
           → ((tables : Tables) × AreTables c.pool coded.items.attributes tables) ⊎ ((tables : Tables) → AreTables c.pool coded.items.attributes tables → ⊥)

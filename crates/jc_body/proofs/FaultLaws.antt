@@ -31,10 +31,12 @@ module _ (coded : Coded) (are : AreStarts (length coded.insns) (length coded.ite
     where
       by : (before : ℕ) → before < get_or coded.starts number 0 → (other : InsnAt Fact coded before) → (other.number < number) ⊎ (number ≤ other.number) → ⊥
       by before less other (inl smaller) = found.first other.number other.insn smaller other.stands other.fault
-      by before less other (inr larger) = at_least (slice_get_within coded.insns other.number other.insn other.stands) (get_or_from_slice_get coded.starts other.number before 0 other.start) (cases_lt number other.number)
+      by before less other (inr larger) = at_least (slice_get_within coded.insns other.number other.insn other.stands)
+          (get_or_from_slice_get coded.starts other.number before 0 other.start) (cases_lt number other.number)
         where
           at_least : other.number < length coded.insns → get_or coded.starts other.number 0 ≡ before → (number < other.number) ⊎ (other.number ≤ number) → ⊥
-          at_least inside is (inl more) = let up = rising (length coded.insns) (length coded.items.code) coded.starts are number other.number more (omega (arith, inside)) in omega (arith, up, is, less)
+          at_least inside is (inl more) = let up = rising (length coded.insns) (length coded.items.code) coded.starts are number other.number more
+                                                  (omega (arith, inside)) in omega (arith, up, is, less)
           at_least inside is (inr same) =
               let equal : other.number ≡ number = omega (arith, larger, same) in
               let there = subst (λ (k : ℕ). get_or coded.starts k 0 ≡ before) equal is in
@@ -48,13 +50,15 @@ module _ (coded : Coded) (are : AreStarts (length coded.insns) (length coded.ite
   insn_decided (Some number) first = inl (get_or coded.starts number 0, insn_least number first)
 
   -- as a search over the instructions tells it
-  pub least_found : (xs : List Insn) (starts : List ℕ) (found : Option ℕ) (number : ℕ) → xs ≡ coded.insns → starts ≡ coded.starts → found ≡ Some number → FirstItem Fact xs found → IsLeast (InsnAt Fact coded) (get_or starts number 0)
+  pub least_found : (xs : List Insn) (starts : List ℕ) (found : Option ℕ) (number : ℕ) → xs ≡ coded.insns → starts ≡ coded.starts
+      → found ≡ Some number → FirstItem Fact xs found → IsLeast (InsnAt Fact coded) (get_or starts number 0)
   least_found xs starts found number xs_are starts_are is first =
       let here = subst (λ (o : Option ℕ). FirstItem Fact xs o) is first in
       let there = subst (λ (l : List Insn). IsFirstItem Fact l number) xs_are here in
       subst (λ (l : List ℕ). IsLeast (InsnAt Fact coded) (get_or l number 0)) (sym starts_are) (insn_least number there)
 
-  pub found_inside : (xs : List Insn) (starts : List ℕ) (found : Option ℕ) (number : ℕ) → xs ≡ coded.insns → starts ≡ coded.starts → found ≡ Some number → FirstItem Fact xs found → number < length starts
+  pub found_inside : (xs : List Insn) (starts : List ℕ) (found : Option ℕ) (number : ℕ) → xs ≡ coded.insns → starts ≡ coded.starts
+      → found ≡ Some number → FirstItem Fact xs found → number < length starts
   found_inside xs starts found number xs_are starts_are is first =
       let there = subst (λ (l : List Insn). IsFirstItem Fact l number) xs_are (subst (λ (o : Option ℕ). FirstItem Fact xs o) is first) in
       let inside = slice_get_within coded.insns number there.item there.stands in

@@ -17,7 +17,8 @@ use Rattle.jc_body.specs.Faults.{IsAstray}
 none_within : {X : Type 0} (Fact : X → Type 0) (xs : List X) (end : ℕ) → AllWithin (λ x. Fact x → ⊥) xs 0 end → NoneBefore (λ number x. Fact x) xs end
 none_within Fact xs end none = λ number x before at fact. none number x (omega arith) before (subst Fact (sym (get_or_from_slice_get xs number x x at)) fact)
 
-first_at : {X : Type 0} (Fact : X → Type 0) (xs : List X) (number : ℕ) (found : Option X) → slice_get xs number ≡ found → number < length xs → HoldsAt Fact xs number → AllWithin (λ x. Fact x → ⊥) xs 0 number
+first_at : {X : Type 0} (Fact : X → Type 0) (xs : List X) (number : ℕ) (found : Option X) → slice_get xs number ≡ found → number < length xs
+    → HoldsAt Fact xs number → AllWithin (λ x. Fact x → ⊥) xs 0 number
     → IsFirstItem (λ number x. Fact x) xs number
 first_at Fact xs number None at inside holds none = absurd (outside xs number at inside)
   where
@@ -41,7 +42,8 @@ first_found Fact xs (Some number) found = first_at Fact xs number (slice_get xs 
 -- What `position` finds is the first item of which the fact holds, if the closure's test says whether it
 -- does, and leaves the closure as it was where it doesn't.
 pub first_by_position : {S A X F : Type 0} {steps : S → Option A → S → Type 0} {v : A → X} {g : Mut F (A × Unit {0}) Bool} {s : S} {xs : List X} (Fact : X → Type 0) (u : S) (f : F) (result : Option ℕ)
-    → (ys : List A) × (o : Option A) × (j : F) × YieldsThen steps s ys o u × FoldsTo (λ p y q. Called g p (y, tt) false q) f ys j × MatchOption o (result ≡ None) (λ y. (result ≡ Some (length ys)) × ((h : F) × Called g j (y, tt) true h))
+    → (ys : List A) × (o : Option A) × (j : F) × YieldsThen steps s ys o u × FoldsTo (λ p y q. Called g p (y, tt) false q) f ys j
+        × MatchOption o (result ≡ None) (λ y. (result ≡ Some (length ys)) × ((h : F) × Called g j (y, tt) true h))
     → YieldsList steps v s xs → ((y : A) (q : F) → Called g f (y, tt) true q → Fact (v y)) → ((y : A) (q : F) → Called g f (y, tt) false q → (q ≡ f) × (Fact (v y) → ⊥))
     → FirstItem (λ number x. Fact x) xs result
 first_by_position {xs} Fact u f result ran yields holds fails = first_found Fact xs result (IsFirst-from_position u f result Fact (λ x. Fact x → ⊥) ran yields holds fails)

@@ -67,7 +67,8 @@ module _ {X : Type 0} (g : Grammar X) (read : List ℕ → Parsed X) (a : Agrees
       none = sym (good_is y x [] new.left (sym (a.again bytes [] y text) ∙ ap read (append-nil bytes ∙ sym begins.left) ∙ is)).1
 
   -- what is refused
-  pub read_refused : (bytes : List ℕ) (old new : Reading) (refusal : Refusal) → Begins bytes old → Parses (λ (x : X). x) (Err (fails.Said refusal)) old new (read old.left) → (y : X) → g.Text bytes y → ⊥
+  pub read_refused : (bytes : List ℕ) (old new : Reading) (refusal : Refusal) → Begins bytes old
+      → Parses (λ (x : X). x) (Err (fails.Said refusal)) old new (read old.left) → (y : X) → g.Text bytes y → ⊥
   read_refused bytes old new refusal begins is y text = never_both g read a bytes y is.0 text (inl (a.bad bytes is.0 (ap read (sym begins.left) ∙ is.1)))
 
 -- ---- the size of the code

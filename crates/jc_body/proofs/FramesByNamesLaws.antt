@@ -77,7 +77,8 @@ module _ (names : Names) (distinct : IsDistinct bytes_eq names) where
   frames_again (f ∷ frames) all = ap₂ (λ (x : FrameAt) (xs : List FrameAt). x ∷ xs) (frame_again f all.0) (frames_again frames all.1)
 
 -- where no two names are equal, frames that are the same by names are the same by numbers
-pub one_numbering : (names : Names) → IsDistinct bytes_eq names → (a b : List FrameAt) → AreNumberedFrames (length names) a → AreNumberedFrames (length names) b → map (type_state_at names) a ≡ map (type_state_at names) b → a ≡ b
+pub one_numbering : (names : Names) → IsDistinct bytes_eq names → (a b : List FrameAt) → AreNumberedFrames (length names) a
+    → AreNumberedFrames (length names) b → map (type_state_at names) a ≡ map (type_state_at names) b → a ≡ b
 one_numbering names distinct a b p q same = sym (frames_again names distinct a p) ∙ ap (map (frame_of names)) same ∙ frames_again names distinct b q
 
 -- ---- some numbering
@@ -233,7 +234,8 @@ module _ (names : Names) where
 
   each_again : (hs : List VerificationType) → HasNames (classes_of hs) → map (verification_type names) (map (kind_of names) hs) ≡ hs
   each_again [] all = refl
-  each_again (h ∷ hs) all = ap₂ (λ (x : VerificationType) (xs : List VerificationType). x ∷ xs) (held_again h (first_have (class_of h) (classes_of hs) all)) (each_again hs (last_have (class_of h) (classes_of hs) all))
+  each_again (h ∷ hs) all = ap₂ (λ (x : VerificationType) (xs : List VerificationType). x ∷ xs)
+      (held_again h (first_have (class_of h) (classes_of hs) all)) (each_again hs (last_have (class_of h) (classes_of hs) all))
 
   each_numbered : (hs : List VerificationType) → HasNames (classes_of hs) → AllByRecursion (IsNumbered (length names)) (map (kind_of names) hs)
   each_numbered [] all = tt

@@ -24,10 +24,13 @@ module _ (coded : Coded) (offsets : Offsets) (numbers : Numbers coded offsets) w
   pub handlers_by : (handlers : List Handler) (seen rows : List Row) → seen ≡ rows → handlers ≡ map (handler_of (numbering offsets)) seen → handlers ≡ map (handler_of (insn_number coded.starts)) rows
   handlers_by handlers seen rows is e = e ∙ (λ i. map (handler_of (same i)) (is i))
 
-  pub lines_by : (lines : List LineAt) (seen entries : List LineEntry) → seen ≡ entries → lines ≡ lines_of (numbering offsets) offsets.count seen → lines ≡ lines_of (insn_number coded.starts) (length coded.insns) entries
+  pub lines_by : (lines : List LineAt) (seen entries : List LineEntry) → seen ≡ entries → lines ≡ lines_of (numbering offsets) offsets.count seen
+      → lines ≡ lines_of (insn_number coded.starts) (length coded.insns) entries
   lines_by lines seen entries is e = e ∙ (λ i. lines_of (same i) (numbers.count i) (is i))
 
-  pub vars_by : (max_locals : ℕ) (vars : List VarAt) (seen entries : List VarEntry) → seen ≡ entries → vars ≡ vars_of (numbering offsets) offsets.count offsets.size max_locals seen → vars ≡ vars_of (insn_number coded.starts) (length coded.insns) (length coded.items.code) max_locals entries
+  pub vars_by : (max_locals : ℕ) (vars : List VarAt) (seen entries : List VarEntry) → seen ≡ entries
+      → vars ≡ vars_of (numbering offsets) offsets.count offsets.size max_locals seen
+      → vars ≡ vars_of (insn_number coded.starts) (length coded.insns) (length coded.items.code) max_locals entries
   vars_by max_locals vars seen entries is e = e ∙ (λ i. vars_of (same i) (numbers.count i) (numbers.size i) max_locals (is i))
 
 -- the frames in a body, by the name of the class that the body has

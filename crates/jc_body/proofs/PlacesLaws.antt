@@ -31,7 +31,8 @@ row_or_not pool number count size row = by
     (below_or_not (number row.target) count)
     (class_or_not pool row.class)
   where
-    by : Decided (row.start < row.end) → Decided (IsStart number count row.start) → Decided (IsStart number count row.end ⊎ (row.end ≡ size)) → Decided (IsStart number count row.target) → Decided (IsClassOrNone pool row.class) → Decided (IsRow pool number count size row)
+    by : Decided (row.start < row.end) → Decided (IsStart number count row.start) → Decided (IsStart number count row.end ⊎ (row.end ≡ size))
+        → Decided (IsStart number count row.target) → Decided (IsClassOrNone pool row.class) → Decided (IsRow pool number count size row)
     by (inl ordered) (inl start) (inl end) (inl target) (inl class) = inl (record { ordered = ordered; start = start; end = end; target = target; class = class })
     by (inr never) start end target class = inr (λ is. never is.ordered)
     by (inl ordered) (inr never) end target class = inr (λ is. never is.start)
@@ -39,7 +40,9 @@ row_or_not pool number count size row = by
     by (inl ordered) (inl start) (inl end) (inr never) class = inr (λ is. never is.target)
     by (inl ordered) (inl start) (inl end) (inl target) (inr never) = inr (λ is. never is.class)
 
-row_handled : (pool : PoolValue) (number : ℕ → ℕ) (count size : ℕ) (row : Row) → number size ≡ count → ((offset offset' : ℕ) → offset < offset' → number offset < count → number offset' < count → number offset < number offset') → IsRow pool number count size row → IsHandler count (handler_of number row)
+row_handled : (pool : PoolValue) (number : ℕ → ℕ) (count size : ℕ) (row : Row) → number size ≡ count
+    → ((offset offset' : ℕ) → offset < offset' → number offset < count → number offset' < count → number offset < number offset')
+    → IsRow pool number count size row → IsHandler count (handler_of number row)
 row_handled pool number count size row past rises is = by is.end
   where
     by : IsStart number count row.end ⊎ (row.end ≡ size) → IsHandler count (handler_of number row)
@@ -48,7 +51,9 @@ row_handled pool number count size row past rises is = by is.end
         let same : number row.end ≡ count = ap number last ∙ past in
         record { some = omega (arith, same, is.start); end = omega (arith, same); target = is.target }
 
-pub rows_handled : (pool : PoolValue) (number : ℕ → ℕ) (count size : ℕ) (rows : List Row) → number size ≡ count → ((offset offset' : ℕ) → offset < offset' → number offset < count → number offset' < count → number offset < number offset') → NoItem (λ place row. IsRow pool number count size row → ⊥) rows → All (IsHandler count) (map (handler_of number) rows)
+pub rows_handled : (pool : PoolValue) (number : ℕ → ℕ) (count size : ℕ) (rows : List Row) → number size ≡ count
+    → ((offset offset' : ℕ) → offset < offset' → number offset < count → number offset' < count → number offset < number offset')
+    → NoItem (λ place row. IsRow pool number count size row → ⊥) rows → All (IsHandler count) (map (handler_of number) rows)
 rows_handled pool number count size rows past rises none = All-map (IsHandler count) (handler_of number) rows each
   where
     is_row : (row : Row) → ((IsRow pool number count size row → ⊥) → ⊥) → Decided (IsRow pool number count size row) → IsRow pool number count size row
@@ -65,13 +70,17 @@ pub lines_kept : (number : ℕ → ℕ) (count : ℕ) (entries : List LineEntry)
 lines_kept number count entries = All-map (IsLine count) (line_of number) (filter (keeps_line number count) entries)
     (λ k d lt. ltb-true (number (get_or (filter (keeps_line number count) entries) k d).start) count (filter_passes (keeps_line number count) entries k d lt))
 
-var_kept : (number : ℕ → ℕ) (count size max_locals : ℕ) (entry : VarEntry) → number size ≡ count → ((offset offset' : ℕ) → offset ≤ offset' → number offset < count → number offset' < count → number offset ≤ number offset') → keeps_var number count size max_locals entry ≡ true → IsVar count max_locals (var_of number entry)
+var_kept : (number : ℕ → ℕ) (count size max_locals : ℕ) (entry : VarEntry) → number size ≡ count
+    → ((offset offset' : ℕ) → offset ≤ offset' → number offset < count → number offset' < count → number offset ≤ number offset')
+    → keeps_var number count size max_locals entry ≡ true → IsVar count max_locals (var_of number entry)
 var_kept number count size max_locals entry past rises kept =
     let outer = and_parts (nat_lt (number entry.start) count) ((nat_lt (number (entry.start + entry.length)) count || nat_eq (entry.start + entry.length) size) && nat_lt entry.slot max_locals) kept in
     let inner = and_parts (nat_lt (number (entry.start + entry.length)) count || nat_eq (entry.start + entry.length) size) (nat_lt entry.slot max_locals) outer.1 in
-    by (ltb-true (number entry.start) count outer.0) (ltb-true entry.slot max_locals inner.1) (or_cases (nat_lt (number (entry.start + entry.length)) count) (nat_eq (entry.start + entry.length) size) inner.0)
+    by (ltb-true (number entry.start) count outer.0) (ltb-true entry.slot max_locals inner.1)
+        (or_cases (nat_lt (number (entry.start + entry.length)) count) (nat_eq (entry.start + entry.length) size) inner.0)
   where
-    by : number entry.start < count → entry.slot < max_locals → (nat_lt (number (entry.start + entry.length)) count ≡ true) ⊎ (nat_eq (entry.start + entry.length) size ≡ true) → IsVar count max_locals (var_of number entry)
+    by : number entry.start < count → entry.slot < max_locals → (nat_lt (number (entry.start + entry.length)) count ≡ true)
+        ⊎ (nat_eq (entry.start + entry.length) size ≡ true) → IsVar count max_locals (var_of number entry)
     by start slot (inl inside) =
         let end = ltb-true (number (entry.start + entry.length)) count inside in
         record { start = start; ordered = rises entry.start (entry.start + entry.length) (omega arith) start end; end = omega (arith, end); slot = slot }
@@ -79,6 +88,9 @@ var_kept number count size max_locals entry past rises kept =
         let same : number (entry.start + entry.length) ≡ count = ap number (eqb-true (entry.start + entry.length) size last) ∙ past in
         record { start = start; ordered = omega (arith, same, start); end = omega (arith, same); slot = slot }
 
-pub vars_kept : (number : ℕ → ℕ) (count size max_locals : ℕ) (entries : List VarEntry) → number size ≡ count → ((offset offset' : ℕ) → offset ≤ offset' → number offset < count → number offset' < count → number offset ≤ number offset') → All (IsVar count max_locals) (vars_of number count size max_locals entries)
+pub vars_kept : (number : ℕ → ℕ) (count size max_locals : ℕ) (entries : List VarEntry) → number size ≡ count
+    → ((offset offset' : ℕ) → offset ≤ offset' → number offset < count → number offset' < count → number offset ≤ number offset')
+    → All (IsVar count max_locals) (vars_of number count size max_locals entries)
 vars_kept number count size max_locals entries past rises = All-map (IsVar count max_locals) (var_of number) (filter (keeps_var number count size max_locals) entries)
-    (λ k d lt. var_kept number count size max_locals (get_or (filter (keeps_var number count size max_locals) entries) k d) past rises (filter_passes (keeps_var number count size max_locals) entries k d lt))
+    (λ k d lt. var_kept number count size max_locals (get_or (filter (keeps_var number count size max_locals) entries) k d) past rises
+        (filter_passes (keeps_var number count size max_locals) entries k d lt))

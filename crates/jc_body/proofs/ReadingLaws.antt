@@ -59,9 +59,12 @@ module _ (major : ℕ) (pool : PoolValue) (owner : List ℕ) (method : Member) (
   read_well : (found : Option Tables) (tables : Tables) → found ≡ Some tables → Read found → AreTables pool coded.items.attributes tables
   read_well found tables there read = subst Read there read
 
-  pub frame_refusal : (r : Refusal) (found : Option Tables) (tables : Tables) → AreNowhere Front → found ≡ Some tables → Read found → IsFrameRefusal pool owner method coded number r → IsRefusal major pool owner method number r
+  pub frame_refusal : (r : Refusal) (found : Option Tables) (tables : Tables) → AreNowhere Front → found ≡ Some tables → Read found
+      → IsFrameRefusal pool owner method coded number r → IsRefusal major pool owner method number r
   frame_refusal r found tables before there read (inl faulty) =
-      refusal r faulty.0 faulty.1 (first_behind Front Back faulty.0 before (inr ((λ at o. o.fault tables (read_well found tables there read)), inl (least_map pool owner method coded faulty.0 faulty.2))))
+      refusal r faulty.0 faulty.1
+          (first_behind Front Back faulty.0 before
+            (inr ((λ at o. o.fault tables (read_well found tables there read)), inl (least_map pool owner method coded faulty.0 faulty.2))))
   frame_refusal r found tables before there read (inr wide) =
       refusal r 0 wide.0 (first_behind Front Back 0 before (inr ((λ at o. o.fault tables (read_well found tables there read)), inr (wide.1, inl (at_zero (TooWide coded) wide.2)))))
 
@@ -71,7 +74,8 @@ module _ (major : ℕ) (pool : PoolValue) (owner : List ℕ) (method : Member) (
   frame_refusals fails.Memory found tables before there read said = tt
   frame_refusals (fails.Said r) found tables before there read said = frame_refusal r found tables before there read said
 
-  pub nothing_wrong : (found : Option Tables) (tables : Tables) → AreNowhere Front → found ≡ Some tables → Read found → IsNowhere (BadStackMap pool owner method coded) → IsNowhere (TooWide coded) → IsNowhere (HasSubroutine pool method) × AreNowhere (faults major pool owner method)
+  pub nothing_wrong : (found : Option Tables) (tables : Tables) → AreNowhere Front → found ≡ Some tables → Read found
+      → IsNowhere (BadStackMap pool owner method coded) → IsNowhere (TooWide coded) → IsNowhere (HasSubroutine pool method) × AreNowhere (faults major pool owner method)
   nothing_wrong found tables before there read no_map narrow =
       coded_without major pool owner method coded is
       (nowhere_both Front Back before ((λ place o. o.fault tables (read_well found tables there read)), (no_map, (narrow, tt))))
@@ -80,7 +84,8 @@ module _ (major : ℕ) (pool : PoolValue) (owner : List ℕ) (method : Member) (
   tables_are = read_well
 
 -- a method whose code stops being instructions
-pub stopped_refusal : (major : ℕ) (pool : PoolValue) (owner : List ℕ) (method : Member) (number : ℕ) (items : CodeItems) (code : List ℕ) → HasItems pool method items → code ≡ items.code → (e : Fail Refusal)
+pub stopped_refusal : (major : ℕ) (pool : PoolValue) (owner : List ℕ) (method : Member) (number : ℕ) (items : CodeItems) (code : List ℕ)
+    → HasItems pool method items → code ≡ items.code → (e : Fail Refusal)
     → Said e (λ r. (r.method ≡ Some number) × IsRefused code (record { kind = r.kind; method = None; place = r.place })) → Said e (IsRefusal major pool owner method number)
 stopped_refusal major pool owner method number items code has code_is fails.Memory said = tt
 stopped_refusal major pool owner method number items code has code_is (fails.Said r) said =
@@ -89,7 +94,8 @@ stopped_refusal major pool owner method number items code has code_is (fails.Sai
 
 -- ---- the answer
 
-module _ (names : Names) (c : ClassFile) (number : ℕ) (method : Member) (at : slice_get c.methods number ≡ Some method) (owner : List ℕ) (owner_is : class_name_of c.pool c.this_class ≡ Some owner) where
+module _ (names : Names) (c : ClassFile) (number : ℕ) (method : Member) (at : slice_get c.methods number ≡ Some method) (owner : List ℕ)
+    (owner_is : class_name_of c.pool c.this_class ≡ Some owner) where
   abbrev Found : Option Body → Type 0
   Found found = MatchOption found (HasNoCode c.pool method) (IsBody names c number method)
 
@@ -142,7 +148,9 @@ module _ (names : Names) (distinct : IsDistinct bytes_eq names) (c : ClassFile) 
 pub found_at : (methods seen : List Member) (number : ℕ) (method : Member) → seen ≡ methods → number < length methods → method ≡ get_or seen number method → slice_get methods number ≡ Some method
 found_at methods seen number method are less is = slice_get-get_or methods number method less ∙ ap Some (sym (is ∙ ap (λ (l : List Member). get_or l number method) are))
 
-pub answered : (names : Names) (distinct : IsDistinct bytes_eq names) (c : ClassFile) (number : ℕ) (method : Member) → slice_get c.methods number ≡ Some method → (owner : List ℕ) → class_name_of c.pool c.this_class ≡ Some owner → (r : Result (Option Body) (Fail Refusal))
-    → IfOk r (λ found. MatchOption found (HasNoCode c.pool method) (IsBody names c number method)) → IfErr r (λ e. Said e (IsRefusal c.major c.pool owner method number)) → IsAnswer names distinct c number r
+pub answered : (names : Names) (distinct : IsDistinct bytes_eq names) (c : ClassFile) (number : ℕ) (method : Member)
+    → slice_get c.methods number ≡ Some method → (owner : List ℕ) → class_name_of c.pool c.this_class ≡ Some owner → (r : Result (Option Body) (Fail Refusal))
+    → IfOk r (λ found. MatchOption found (HasNoCode c.pool method) (IsBody names c number method))
+        → IfErr r (λ e. Said e (IsRefusal c.major c.pool owner method number)) → IsAnswer names distinct c number r
 answered names distinct c number method at owner owner_is (Ok found) ok err = found_is names c number method at owner owner_is found ok
 answered names distinct c number method at owner owner_is (Err e) ok err = refused_is names c number method at owner owner_is e err

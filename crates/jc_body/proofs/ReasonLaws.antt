@@ -40,12 +40,16 @@ use Rattle.jc_body.proofs.StackMapLaws.{each_map, apart, least_map}
 
 -- ---- the faults of code that was read
 
-module _ (major : ℕ) (pool : PoolValue) (owner : List ℕ) (method : Member) (coded : Coded) (are : AreStarts (length coded.insns) (length coded.items.code) coded.starts) (name desc : List ℕ) (name_is : utf8_of pool method.name ≡ Some name) (desc_is : utf8_of pool method.desc ≡ Some desc) (is : IsMethodDescriptor desc) where
+module _ (major : ℕ) (pool : PoolValue) (owner : List ℕ) (method : Member) (coded : Coded)
+    (are : AreStarts (length coded.insns) (length coded.items.code) coded.starts) (name desc : List ℕ)
+    (name_is : utf8_of pool method.name ≡ Some name) (desc_is : utf8_of pool method.desc ≡ Some desc) (is : IsMethodDescriptor desc) where
   by_insn : (Fact : ℕ → Insn → Type 0) → ((number : ℕ) (insn : Insn) → Fact number insn ⊎ (Fact number insn → ⊥)) → IsDecided (InsnAt Fact coded)
   by_insn Fact decide = let f = first_or_none Fact decide coded.insns in insn_decided coded are Fact f.0 f.1
 
   by_row : IsDecided (Rattle.jc_body.specs.Faults.BadRow pool coded)
-  by_row = let f = first_or_none (IsBad pool coded) (λ number row. not_or_not _ (row_or_not pool (insn_number coded.starts) (length coded.insns) (length coded.items.code) row)) coded.items.rows in row_decided pool coded f.0 f.1
+  by_row = let f = first_or_none (IsBad pool coded)
+                   (λ number row. not_or_not _ (row_or_not pool (insn_number coded.starts) (length coded.insns) (length coded.items.code) row))
+                   coded.items.rows in row_decided pool coded f.0 f.1
 
   by_arguments : IsDecided (Rattle.jc_body.specs.Faults.ArgumentsOutside pool method coded)
   by_arguments = let takes = each_take method.flags desc is in outside_decided pool method coded desc desc_is takes.0 takes.1
@@ -55,13 +59,15 @@ module _ (major : ℕ) (pool : PoolValue) (owner : List ℕ) (method : Member) (
   by_tables (inr none) = inl (0, at_zero (MalformedTable pool coded) (record { at = refl; fault = none }))
 
   by_stack_map : IsDecided (BadStackMap pool owner method coded)
-  by_stack_map = by (each_map pool owner method coded (entry_seen owner name desc method.flags coded.items.max_locals) (record { name = name; desc = desc; name_is = name_is; desc_is = desc_is; entry_is = refl }))
+  by_stack_map = by (each_map pool owner method coded (entry_seen owner name desc method.flags coded.items.max_locals)
+      (record { name = name; desc = desc; name_is = name_is; desc_is = desc_is; entry_is = refl }))
     where
       by : ((frames : List TypeStateAt) × HasFrames pool owner method coded frames) ⊎ ((place : ℕ) × BadStackMap pool owner method coded place) → IsDecided (BadStackMap pool owner method coded)
       by (inl has) = inr (λ place bad. apart pool owner method coded has.0 place has.1 bad)
       by (inr bad) = inl (bad.0, least_map pool owner method coded bad.0 bad.1)
 
-  by_size : (most_slots < length coded.insns * (coded.items.max_locals + coded.items.max_stack)) ⊎ (length coded.insns * (coded.items.max_locals + coded.items.max_stack) ≤ most_slots) → IsDecided (TooWide coded)
+  by_size : (most_slots < length coded.insns * (coded.items.max_locals + coded.items.max_stack))
+      ⊎ (length coded.insns * (coded.items.max_locals + coded.items.max_stack) ≤ most_slots) → IsDecided (TooWide coded)
   by_size (inl more) = inl (0, at_zero (TooWide coded) (record { at = refl; fault = more }))
   by_size (inr few) = inr (λ place o. omega (arith, few, o.fault))
 
@@ -140,7 +146,9 @@ module _ (major : ℕ) (pool : PoolValue) (owner : List ℕ) (method : Member) w
   malformed_reason bytes code fault =
       ((λ place s. is_of_form pool method s.items s.has 0 fault), inr (is_single pool method bytes code, inl (at_zero (MalformedCode pool method) fault)))
 
-  pub coded_reason : (coded : Coded) → IsCoded pool method coded → (place : ℕ) → IsFirstFault (map (λ F. F coded) (insn_faults major pool ++ (row_faults pool method ++ table_faults pool owner method))) place → IsReason major pool owner method kinds.BadCode place
+  pub coded_reason : (coded : Coded) → IsCoded pool method coded → (place : ℕ)
+      → IsFirstFault (map (λ F. F coded) (insn_faults major pool ++ (row_faults pool method ++ table_faults pool owner method))) place
+      → IsReason major pool owner method kinds.BadCode place
   coded_reason coded is place first = (
     goes_on pool method coded is kinds.Subroutine,
     inr (
@@ -155,7 +163,9 @@ module _ (major : ℕ) (pool : PoolValue) (owner : List ℕ) (method : Member) w
     ),
   )
 
-  pub coded_without : (coded : Coded) → IsCoded pool method coded → AreNowhere (map (λ F. F coded) (insn_faults major pool ++ (row_faults pool method ++ table_faults pool owner method))) → IsNowhere (HasSubroutine pool method) × AreNowhere (faults major pool owner method)
+  pub coded_without : (coded : Coded) → IsCoded pool method coded
+      → AreNowhere (map (λ F. F coded) (insn_faults major pool ++ (row_faults pool method ++ table_faults pool owner method)))
+      → IsNowhere (HasSubroutine pool method) × AreNowhere (faults major pool owner method)
   coded_without coded is none = (
     goes_on pool method coded is kinds.Subroutine,
     (

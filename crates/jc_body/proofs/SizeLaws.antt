@@ -55,7 +55,8 @@ module _ (pool : PoolValue) where
       let is : length a.body ≡ length body.1 = ap (λ (b : Attribute). length b.body) body.5.1 ∙ ap (λ (l : List ℕ). length l) (sym body.4.1) in
       omega (arith, one.1, two.1, three.0, is)
 
-  attributes_short : (most n : ℕ) (text : List ℕ) (attributes : List Attribute) → length text ≤ most → (times n (attribute (HasText pool))).Text text attributes → All (λ a. length a.body ≤ most) attributes
+  attributes_short : (most n : ℕ) (text : List ℕ) (attributes : List Attribute) → length text ≤ most
+      → (times n (attribute (HasText pool))).Text text attributes → All (λ a. length a.body ≤ most) attributes
   attributes_short most zero text attributes few t = subst (All (λ a. length a.body ≤ most)) (sym t.1) (All-nil (λ (a : Attribute). length a.body ≤ most))
   attributes_short most (suc n) text attributes few t =
       let more = t.5 in
@@ -65,7 +66,8 @@ module _ (pool : PoolValue) where
       let behind = attributes_short most n more.1 more.0 (omega (arith, rest.0, parts.1, few)) more.4 in
       subst (All (λ a. length a.body ≤ most)) (sym more.5.1) (All-cons (λ (a : Attribute). length a.body ≤ most) t.0 more.0 (omega (arith, first, parts.0, few)) behind)
 
-  counted_attributes : (most : ℕ) (text : List ℕ) (attributes : List Attribute) → length text ≤ most → (counted (attribute (HasText pool))).Text text attributes → All (λ a. length a.body ≤ most) attributes
+  counted_attributes : (most : ℕ) (text : List ℕ) (attributes : List Attribute) → length text ≤ most
+      → (counted (attribute (HasText pool))).Text text attributes → All (λ a. length a.body ≤ most) attributes
   counted_attributes most text attributes few t = let short = in_two text t.1 t.2 t.3 in attributes_short most t.0 t.2 attributes (omega (arith, short.1, few)) t.5
 
   -- ---- the whole
@@ -125,7 +127,8 @@ module _ (pool : PoolValue) (method : Member) (coded : Coded) (is : IsCoded pool
       omega (arith, is, most)
     where
       at_most : (k : ℕ) → (k < length coded.insns) ⊎ (length coded.insns ≤ k) → k < length coded.starts → get_or coded.starts k 0 ≤ length coded.items.code
-      at_most k (inl before) inside = let up = rising (length coded.insns) (length coded.items.code) coded.starts starts_of k (length coded.insns) before (omega arith) in omega (arith, up, starts_of.end)
+      at_most k (inl before) inside = let up = rising (length coded.insns) (length coded.items.code) coded.starts starts_of k (length coded.insns)
+                                              before (omega arith) in omega (arith, up, starts_of.end)
       at_most k (inr last) inside =
           let same : k ≡ length coded.insns = omega (arith, last, inside, starts_of.one_more) in
           let end = subst (λ (n : ℕ). get_or coded.starts n 0 ≡ length coded.items.code) (sym same) starts_of.end in

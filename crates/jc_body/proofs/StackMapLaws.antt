@@ -130,7 +130,9 @@ module _ (pool : PoolValue) (owner : List ℕ) (method : Member) (coded : Coded)
 
 -- what judging and reading the one table tell, over the code as it was lent and the local variables that the state at
 -- the beginning has
-module _ (names : Names) (pool : PoolValue) (owner : List ℕ) (method : Member) (coded : Coded) (entry : State) (table : List ℕ) (begins : IsEntry names pool owner method coded entry) (is : stack_maps pool coded ≡ table ∷ []) (code : List Insn) (starts : List ℕ) (code_is : code ≡ coded.insns) (starts_is : starts ≡ coded.starts) where
+module _ (names : Names) (pool : PoolValue) (owner : List ℕ) (method : Member) (coded : Coded) (entry : State) (table : List ℕ)
+    (begins : IsEntry names pool owner method coded entry) (is : stack_maps pool coded ≡ table ∷ []) (code : List Insn) (starts : List ℕ)
+    (code_is : code ≡ coded.insns) (starts_is : starts ≡ coded.starts) where
   abbrev Here : Ground
   Here = ground pool code starts (length entry.locals) coded.items.max_stack
 

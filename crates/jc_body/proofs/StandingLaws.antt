@@ -151,7 +151,8 @@ what_found : (major : ℕ) (insn : Insn) (found : Option Found) → EntrySuits m
 what_found major insn None suits = absurd suits
 what_found major insn (Some found) suits = what_met (Suits insn) (what_of found) suits.kind
 
-pub suits_what : (major : ℕ) (pool : PoolValue) (insn : Insn) (place : ℕ) → pool_place insn ≡ Some place → HasRightEntry major pool insn → (what : What) × (what_at pool place ≡ Some what) × Suits insn what
+pub suits_what : (major : ℕ) (pool : PoolValue) (insn : Insn) (place : ℕ) → pool_place insn ≡ Some place → HasRightEntry major pool insn
+    → (what : What) × (what_at pool place ≡ Some what) × Suits insn what
 suits_what major pool insn place is right = what_found major insn (found_at pool place) (subst (PlaceSuits major pool insn) is right)
 
 -- ---- where an instruction leads, and local variables

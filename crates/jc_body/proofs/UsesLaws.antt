@@ -87,7 +87,8 @@ AreRisingPlaces first (p ∷ ps) = (first ≤ p) × AreRisingPlaces (p + 1) ps
 from_pairs : (first : ℕ) (ps : List ℕ) → ((j : ℕ) (d : ℕ) → j < length ps → first ≤ get_or ps j d) → AllPairs (λ x y. x < y) ps → AreRisingPlaces first ps
 from_pairs first [] all pairs = tt
 from_pairs first (p ∷ ps) all pairs =
-    (all 0 p (omega arith), from_pairs (p + 1) ps (λ j d inside. let less = pairs 0 (suc j) d (omega arith) (omega (arith, inside)) in omega (arith, less)) (λ i j d order inside. pairs (suc i) (suc j) d (omega (arith, order)) (omega (arith, inside))))
+    (all 0 p (omega arith), from_pairs (p + 1) ps (λ j d inside. let less = pairs 0 (suc j) d (omega arith) (omega (arith, inside)) in
+        omega (arith, less)) (λ i j d order inside. pairs (suc i) (suc j) d (omega (arith, order)) (omega (arith, inside))))
 
 rising_places : (places : List ℕ) → IsSorted nat_cmp places → AreRisingPlaces 0 (dedup eqb places)
 rising_places places sorted = from_pairs 0 (dedup eqb places) (λ j d inside. omega arith) (AllPairs-from_increasing (dedup eqb places) (IsStrictlyIncreasing-dedup places sorted))
@@ -142,22 +143,28 @@ lists_more pool places i uses new o lt stands before put =
     ∙ sym (flat_map-append (λ p. use_of p (what_at pool p)) (take i places) (get_or places i 0 ∷ []))
     ∙ ap (uses_of pool) (sym (take_more places i 0 lt))
 
-pub short_more : (place : ℕ) (uses new : List Use) (o : Option What) → All (λ u. HasShortTexts u.what) uses → IfSome o HasShortTexts → new ≡ uses ++ use_of place o → All (λ u. HasShortTexts u.what) new
+pub short_more : (place : ℕ) (uses new : List Use) (o : Option What) → All (λ u. HasShortTexts u.what) uses → IfSome o HasShortTexts → new ≡ uses
+    ++ use_of place o → All (λ u. HasShortTexts u.what) new
 short_more place uses new None short is put = subst (All (λ (u : Use). HasShortTexts u.what)) (sym (put ∙ append-nil uses)) short
-short_more place uses new (Some what) short is put = subst (All (λ (u : Use). HasShortTexts u.what)) (sym put) (All-push (λ (u : Use). HasShortTexts u.what) uses (record { place = place; what = what }) short is)
+short_more place uses new (Some what) short is put = subst (All (λ (u : Use). HasShortTexts u.what)) (sym put)
+    (All-push (λ (u : Use). HasShortTexts u.what) uses (record { place = place; what = what }) short is)
 
 -- places in order, each once, are used as they were before
-pub listed : (pool : PoolValue) (places sorted single : List ℕ) (uses : List Use) → IsPermutation places sorted → IsSorted nat_cmp sorted → single ≡ dedup eqb sorted → uses ≡ uses_of pool single → AreUsesOf pool places uses
+pub listed : (pool : PoolValue) (places sorted single : List ℕ) (uses : List Use) → IsPermutation places sorted → IsSorted nat_cmp sorted
+    → single ≡ dedup eqb sorted → uses ≡ uses_of pool single → AreUsesOf pool places uses
 listed pool places sorted single uses permuted in_order is list = record {
   rising = subst (AreRisingFrom 0) (sym (list ∙ ap (uses_of pool) is)) (rising_uses pool 0 (dedup eqb sorted) (rising_places sorted in_order));
   each = λ place.
       ap (λ (us : List Use). what_used us place) (list ∙ ap (uses_of pool) is)
       ∙ used_of pool (dedup eqb sorted) place
-      ∙ ap (λ (b : Bool). cond b (what_at pool place) None) (same_any place (dedup eqb sorted) sorted (Contains-from_dedup eqb sorted place) (Contains-dedup_nat sorted place) ∙ sym (list_any-IsPermutation (nat_eq place) places sorted permuted));
+      ∙ ap (λ (b : Bool). cond b (what_at pool place) None)
+          (same_any place (dedup eqb sorted) sorted (Contains-from_dedup eqb sorted place) (Contains-dedup_nat sorted place)
+            ∙ sym (list_any-IsPermutation (nat_eq place) places sorted permuted));
 }
 
 -- what is listed of the places of instructions and rows, in order and each once
-pub listed_ok : (pool : PoolValue) (insns : List Insn) (rows : List Row) (none by_insns by_rows sorted single : List ℕ) (r : Result (List Use) Memory) → none ≡ [] → by_insns ≡ none ++ insn_places insns → by_rows ≡ by_insns ++ row_places rows
+pub listed_ok : (pool : PoolValue) (insns : List Insn) (rows : List Row) (none by_insns by_rows sorted single : List ℕ)
+    (r : Result (List Use) Memory) → none ≡ [] → by_insns ≡ none ++ insn_places insns → by_rows ≡ by_insns ++ row_places rows
     → IsPermutation by_rows sorted → IsSorted nat_cmp sorted → single ≡ dedup eqb sorted → IfOk r (λ uses. uses ≡ uses_of pool single) → IfOk r (AreUsesOf pool (places_used insns rows))
 listed_ok pool insns rows none by_insns by_rows sorted single (Err e) empty first then permuted in_order is list = tt
 listed_ok pool insns rows none by_insns by_rows sorted single (Ok uses) empty first then permuted in_order is list =
@@ -166,7 +173,8 @@ listed_ok pool insns rows none by_insns by_rows sorted single (Ok uses) empty fi
 
 -- ---- there is one such list
 
-heads : (first : ℕ) (u v : Use) (us vs : List Use) → AreRisingFrom first (u ∷ us) → AreRisingFrom first (v ∷ vs) → ((place : ℕ) → what_used (u ∷ us) place ≡ what_used (v ∷ vs) place) → u.place < v.place → ⊥
+heads : (first : ℕ) (u v : Use) (us vs : List Use) → AreRisingFrom first (u ∷ us) → AreRisingFrom first (v ∷ vs)
+    → ((place : ℕ) → what_used (u ∷ us) place ≡ what_used (v ∷ vs) place) → u.place < v.place → ⊥
 heads first u v us vs p q same less = none-some u.what (sym (none_below v.place (v ∷ vs) (omega arith, q.1) u.place less) ∙ sym (same u.place) ∙ (rw (eq-eqb u.place u.place refl) refl))
 
 pub same_uses : (first : ℕ) (us vs : List Use) → AreRisingFrom first us → AreRisingFrom first vs → ((place : ℕ) → what_used us place ≡ what_used vs place) → us ≡ vs
@@ -217,7 +225,8 @@ put_rising first u (v ∷ vs) rising least none = by (put_rising (v.place + 1) u
         let other : what_used vs u.place ≡ None = sym (ap (λ (b : Bool). cond b (Some v.what) (what_used vs u.place)) (ne_eqb v.place u.place (λ same. omega (arith, more, same)))) ∙ none in
         (rising.0, again (omega (arith, more)) other)
 
-    by : (v.place + 1 ≤ u.place → what_used vs u.place ≡ None → AreRisingFrom (v.place + 1) (put u vs)) → (u.place ≡ v.place) ⊎ ((u.place < v.place) ⊎ (v.place < u.place)) → AreRisingFrom first (put u (v ∷ vs))
+    by : (v.place + 1 ≤ u.place → what_used vs u.place ≡ None → AreRisingFrom (v.place + 1) (put u vs)) → (u.place ≡ v.place)
+        ⊎ ((u.place < v.place) ⊎ (v.place < u.place)) → AreRisingFrom first (put u (v ∷ vs))
     by again (inl same) = absurd (none-some v.what (sym none ∙ ap (λ (b : Bool). cond b (Some v.what) (what_used vs u.place)) (eq-eqb v.place u.place (sym same))))
     by again (inr (inl less)) = rw (lt-ltb u.place v.place less) (least, (omega (arith, less), rising.1))
     by again (inr (inr more)) = rw (le-ltb u.place v.place (omega (arith, more))) (behind again more)
@@ -236,7 +245,8 @@ put_used u (v ∷ vs) place none = by (put_used u vs place) (nat_lt u.place v.pl
     other : what_used vs u.place ≡ None
     other = sym (ap (λ (b : Bool). cond b (Some v.what) (what_used vs u.place)) apart) ∙ none
 
-    swapped : (a b : Bool) → nat_eq v.place place ≡ a → nat_eq u.place place ≡ b → cond a (Some v.what) (cond b (Some u.what) (what_used vs place)) ≡ cond b (Some u.what) (cond a (Some v.what) (what_used vs place))
+    swapped : (a b : Bool) → nat_eq v.place place ≡ a → nat_eq u.place place ≡ b → cond a (Some v.what) (cond b (Some u.what) (what_used vs place))
+        ≡ cond b (Some u.what) (cond a (Some v.what) (what_used vs place))
     swapped true false p q = refl
     swapped false b p q = refl
     swapped true true p q = absurd (true≢false (sym (eq-eqb v.place u.place (eqb-true v.place place p ∙ sym (eqb-true u.place place q))) ∙ apart))
@@ -310,7 +320,8 @@ contains_filter p xs x pass c = at xs c.0 c.1 c.2
         by true c = (suc c.0, omega (arith, c.1), c.2)
         by false c = c
 
-pub has_use : (pool : PoolValue) (places : List ℕ) (uses : List Use) (place : ℕ) (what : What) (Fact : What → Type 0) → AreUsesOf pool places uses → Contains places place → what_at pool place ≡ Some what → Fact what → HasUse uses place Fact
+pub has_use : (pool : PoolValue) (places : List ℕ) (uses : List Use) (place : ℕ) (what : What) (Fact : What → Type 0) → AreUsesOf pool places uses
+    → Contains places place → what_at pool place ≡ Some what → Fact what → HasUse uses place Fact
 has_use pool places uses place what Fact are c is fact = record {
   what = what;
   used = used;

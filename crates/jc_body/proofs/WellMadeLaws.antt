@@ -58,7 +58,8 @@ record IsFree (c : ClassFile) (method : Member) (coded : Coded) : Type 0 where
   rows : NoItem (λ place row. IsRow c.pool (insn_number coded.starts) (length coded.insns) (length coded.items.code) row → ⊥) coded.items.rows
 
 -- where an instruction's fault is nowhere, no instruction has it
-no_insn : (pool : PoolValue) (method : Member) (coded : Coded) (Fact : Coded → ℕ → Insn → Type 0) → IsCoded pool method coded → AreStarts (length coded.insns) (length coded.items.code) coded.starts → IsNowhere (OfCode pool method (λ d. InsnAt (Fact d) d)) → NoItem (Fact coded) coded.insns
+no_insn : (pool : PoolValue) (method : Member) (coded : Coded) (Fact : Coded → ℕ → Insn → Type 0) → IsCoded pool method coded
+    → AreStarts (length coded.insns) (length coded.items.code) coded.starts → IsNowhere (OfCode pool method (λ d. InsnAt (Fact d) d)) → NoItem (Fact coded) coded.insns
 no_insn pool method coded Fact is starts none number insn stands fault =
     let inside = slice_get_within coded.insns number insn stands in
     none (get_or coded.starts number 0) (record {
@@ -67,7 +68,9 @@ no_insn pool method coded Fact is starts none number insn stands fault =
       fault = record { number = number; insn = insn; stands = stands; start = slice_get-get_or coded.starts number 0 (omega (arith, inside, starts.one_more)); fault = fault };
     })
 
-free_of_faults : (c : ClassFile) (method : Member) (coded : Coded) → IsCoded c.pool method coded → AreStarts (length coded.insns) (length coded.items.code) coded.starts → (owner : List ℕ) → AreNowhere (faults_of_any_size c.major c.pool owner method) → IsFree c method coded
+free_of_faults : (c : ClassFile) (method : Member) (coded : Coded) → IsCoded c.pool method coded
+    → AreStarts (length coded.insns) (length coded.items.code) coded.starts → (owner : List ℕ)
+    → AreNowhere (faults_of_any_size c.major c.pool owner method) → IsFree c method coded
 free_of_faults c method coded is starts owner (single, (form, (stop, (entry, (jump, (local, (arguments, (row, (table, (map, end)))))))))) = record {
   entries = no_insn c.pool method coded (λ d number insn. HasRightEntry c.major c.pool insn → ⊥) is starts entry;
   jumps = no_insn c.pool method coded (λ d. IsAstray (length d.insns)) is starts jump;
@@ -86,7 +89,8 @@ all_of {X} P xs decide none k d lt = by (decide (get_or xs k d))
 
 -- ---- the code
 
-is_code : (c : ClassFile) (method : Member) (coded : Coded) → IsCoded c.pool method coded → AreStarts (length coded.insns) (length coded.items.code) coded.starts → IsFree c method coded → IsCode coded.insns
+is_code : (c : ClassFile) (method : Member) (coded : Coded) → IsCoded c.pool method coded
+    → AreStarts (length coded.insns) (length coded.items.code) coded.starts → IsFree c method coded → IsCode coded.insns
 is_code c method coded is starts free =
     let few = is.items.text.few in
     let size = code_size coded.items.code coded.insns coded.starts is.spelled in
@@ -127,7 +131,8 @@ module _ (c : ClassFile) (coded : Coded) (uses : List Use) (are : AreUsesOf c.po
   row_use : (row : Row) → Contains coded.items.rows row → IsClassOrNone c.pool row.class → row.class ≢ 0 → HasUse uses row.class IsClass
   row_use row listed (inl none) some = absurd (some none)
   row_use row listed (inr (name, is)) some =
-      has_use c.pool (places_used coded.insns coded.items.rows) uses row.class (whats.Class name) IsClass are (row_place_used coded.insns coded.items.rows row listed some) (class_stands c.pool row.class name is) tt
+      has_use c.pool (places_used coded.insns coded.items.rows) uses row.class (whats.Class name) IsClass are
+          (row_place_used coded.insns coded.items.rows row listed some) (class_stands c.pool row.class name is) tt
 
   insn_use : (insn : Insn) → Contains coded.insns insn → HasRightEntry c.major c.pool insn → (place : ℕ) → pool_place insn ≡ Some place → HasUse uses place (Suits insn)
   insn_use insn listed right place names =
@@ -146,14 +151,17 @@ module _ (c : ClassFile) (coded : Coded) (uses : List Use) (are : AreUsesOf c.po
       right = all_of (HasRightEntry c.major c.pool) coded.insns (right_entry_or_not c.major c.pool) free.entries
 
       rows : All (IsRow c.pool (insn_number coded.starts) (length coded.insns) (length coded.items.code)) coded.items.rows
-      rows = all_of (IsRow c.pool (insn_number coded.starts) (length coded.insns) (length coded.items.code)) coded.items.rows (row_or_not c.pool (insn_number coded.starts) (length coded.insns) (length coded.items.code)) free.rows
+      rows = all_of (IsRow c.pool (insn_number coded.starts) (length coded.insns) (length coded.items.code)) coded.items.rows
+          (row_or_not c.pool (insn_number coded.starts) (length coded.insns) (length coded.items.code)) free.rows
 
 -- ---- the size
 
 bound : (coded : Coded) → IsNowhere (TooWide coded) → length coded.insns * (coded.items.max_locals + coded.items.max_stack) ≤ most_slots
 bound coded none = by (cases_lt most_slots (length coded.insns * (coded.items.max_locals + coded.items.max_stack)))
   where
-    by : (most_slots < length coded.insns * (coded.items.max_locals + coded.items.max_stack)) ⊎ (length coded.insns * (coded.items.max_locals + coded.items.max_stack) ≤ most_slots) → length coded.insns * (coded.items.max_locals + coded.items.max_stack) ≤ most_slots
+    by : (most_slots < length coded.insns * (coded.items.max_locals + coded.items.max_stack))
+        ⊎ (length coded.insns * (coded.items.max_locals + coded.items.max_stack) ≤ most_slots)
+        → length coded.insns * (coded.items.max_locals + coded.items.max_stack) ≤ most_slots
     by (inl wide) = absurd (none 0 (record { at = refl; fault = wide }))
     by (inr fits) = fits
 
@@ -163,7 +171,8 @@ frames_well : (names : Names) (c : ClassFile) (method : Member) (coded : Coded) 
     → HasFrames c.pool owner method coded (map (type_state_at names) frames) → AreFramesFrom 0 coded.insns coded.items.max_locals coded.items.max_stack frames
 frames_well names c method coded owner frames starts has = by frames has.frames_are
   where
-    by : (list : List FrameAt) → ((stack_maps c.pool coded ≡ []) × (map (type_state_at names) list ≡ [])) ⊎ ((table : List ℕ) × (stack_maps c.pool coded ≡ table ∷ []) × StandsFor (ground_of c.pool coded) has.entry table (map (type_state_at names) list))
+    by : (list : List FrameAt) → ((stack_maps c.pool coded ≡ []) × (map (type_state_at names) list ≡ []))
+        ⊎ ((table : List ℕ) × (stack_maps c.pool coded ≡ table ∷ []) × StandsFor (ground_of c.pool coded) has.entry table (map (type_state_at names) list))
         → AreFramesFrom 0 coded.insns coded.items.max_locals coded.items.max_stack list
     by [] none = tt
     by (f ∷ list) (inl none) = absurd (some_none none.1)
@@ -171,7 +180,8 @@ frames_well names c method coded owner frames starts has = by frames has.frames_
         some_none : {x : TypeStateAt} {xs : List TypeStateAt} → x ∷ xs ≡ [] → ⊥
         some_none e = cc
     by (f ∷ list) (inr table) = frames_well_made (ground_of c.pool coded) names has.entry table.0 (f ∷ list) (record { count = starts.one_more; rising = starts.rising })
-        (subst (λ (s : TypeState). AllByRecursion (HasNew (ground_of c.pool coded)) s.locals) (sym has.begins.entry_is) (no_new (ground_of c.pool coded) owner has.begins.name has.begins.desc method.flags coded.items.max_locals))
+        (subst (λ (s : TypeState). AllByRecursion (HasNew (ground_of c.pool coded)) s.locals) (sym has.begins.entry_is)
+            (no_new (ground_of c.pool coded) owner has.begins.name has.begins.desc method.flags coded.items.max_locals))
         table.2
 
 -- ---- the whole
@@ -215,7 +225,8 @@ is_made names c number method coded tables b p = λ i. record {
   uses = b.uses;
 }
 
-made_well : (names : Names) (c : ClassFile) (number : ℕ) (method : Member) (coded : Coded) (tables : Tables) (b : Body) → IsCoded c.pool method coded → AreStarts (length coded.insns) (length coded.items.code) coded.starts → IsFree c method coded
+made_well : (names : Names) (c : ClassFile) (number : ℕ) (method : Member) (coded : Coded) (tables : Tables) (b : Body) → IsCoded c.pool method coded
+    → AreStarts (length coded.insns) (length coded.items.code) coded.starts → IsFree c method coded
     → HasParts names c number method coded tables b → HasSizes b → All (λ u. HasShortTexts u.what) b.uses → IsWellMadeOfAnySize (made method coded tables b)
 made_well names c number method coded tables b is starts free p sizes short =
     let count = length coded.insns in
@@ -237,7 +248,8 @@ made_well names c number method coded tables b is starts free p sizes short =
       sizes = subst HasSizes (is_made names c number method coded tables b p) sizes;
     }
 
-pub well_made_of_any_size : (names : Names) (c : ClassFile) (number : ℕ) (method : Member) (b : Body) → IsBodyOfAnySize names c number method b → HasSizes b → All (λ u. HasShortTexts u.what) b.uses → IsWellMadeOfAnySize b
+pub well_made_of_any_size : (names : Names) (c : ClassFile) (number : ℕ) (method : Member) (b : Body) → IsBodyOfAnySize names c number method b
+    → HasSizes b → All (λ u. HasShortTexts u.what) b.uses → IsWellMadeOfAnySize b
 well_made_of_any_size names c number method b is sizes short =
     let starts = are_starts is.coded.items.code is.coded.insns is.coded.starts is.is.spelled in
     let free = free_of_faults c method is.coded is.is starts b.owner is.no_fault in
@@ -256,7 +268,8 @@ any_size names c number method b is = record {
 }
   where
     all_but_last : AreNowhere (faults c.major c.pool b.owner method) → AreNowhere (faults_of_any_size c.major c.pool b.owner method)
-    all_but_last (single, (form, (stop, (entry, (jump, (local, (arguments, (row, (table, (map, (wide, end))))))))))) = (single, (form, (stop, (entry, (jump, (local, (arguments, (row, (table, (map, end))))))))))
+    all_but_last (single, (form, (stop, (entry, (jump, (local, (arguments, (row, (table, (map, (wide, end))))))))))) =
+        (single, (form, (stop, (entry, (jump, (local, (arguments, (row, (table, (map, end))))))))))
 
 is_bounded : (names : Names) (c : ClassFile) (number : ℕ) (method : Member) (b : Body) → IsBody names c number method b → IsBounded b
 is_bounded names c number method b is = subst IsBounded (sym (is_made names c number method is.coded is.tables b is.parts)) (of_code is.no_fault)

@@ -51,7 +51,8 @@ class_agrees =
     agrees_followed _ _ _ _ (agrees_counted _ _ (agrees_member pool named.FieldDescriptor)) (λ fields.
     agrees_followed _ _ _ _ (agrees_counted _ _ (agrees_member pool named.MethodDescriptor)) (λ methods.
     agrees_followed _ _ _ _ (agrees_attributes pool) (λ attributes.
-    agrees_nothing (record { minor = minor; major = major; pool = pool; flags = flags; this_class = this_class; super_class = super_class; interfaces = interfaces; fields = fields; methods = methods; attributes = attributes }))))))))))))
+    agrees_nothing (record { minor = minor; major = major; pool = pool; flags = flags; this_class = this_class; super_class = super_class;
+        interfaces = interfaces; fields = fields; methods = methods; attributes = attributes }))))))))))))
 
 -- ---- whole files
 
@@ -91,7 +92,8 @@ takes (Err (fails.Said refusal)) bytes gives c text = absurd (good_stops c (clas
 one_stop : (bytes left more : List ℕ) → Stops (class_at bytes) left → WholeFails class_file bytes more → left ≡ more
 one_stop bytes left more stops fails = one_failure class_file class_at class_agrees bytes left more (whole_fails bytes left stops) fails
 
-pub fails_there : (r : Result ClassFile (Fail Refusal)) (bytes : List ℕ) → GivesWhole r bytes (class_at bytes) → (offset : ℕ) → FirstBad bytes offset → MatchResult r (λ _. ⊥) (λ e. RefusedAs e (λ found. found ≡ offset))
+pub fails_there : (r : Result ClassFile (Fail Refusal)) (bytes : List ℕ) → GivesWhole r bytes (class_at bytes) → (offset : ℕ) → FirstBad bytes offset
+    → MatchResult r (λ _. ⊥) (λ e. RefusedAs e (λ found. found ≡ offset))
 fails_there (Ok c) bytes gives offset bad = never_both class_file class_at class_agrees bytes c bad.0 (whole_text bytes c gives) bad.1
 fails_there (Err fails.Memory) bytes gives offset bad = tt
 fails_there (Err (fails.Said refusal)) bytes gives offset bad =

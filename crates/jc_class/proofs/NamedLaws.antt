@@ -26,7 +26,8 @@ pub any_attributes : (HasName : ℕ → Type 0) (xs : List Attribute) → AreCou
 any_attributes HasName = counted_weaker (IsAttribute HasName) (IsAttribute Anything) (λ a is. record { name = tt; size = is.size })
 
 pub any_members : (HasName HasDescriptor : ℕ → Type 0) (xs : List Member) → AreCounted (IsMember HasName HasDescriptor) xs → AreCounted (IsMember Anything Anything) xs
-any_members HasName HasDescriptor = counted_weaker (IsMember HasName HasDescriptor) (IsMember Anything Anything) (λ m is. record { name = tt; desc = tt; attributes = any_attributes HasName m.attributes is.attributes })
+any_members HasName HasDescriptor = counted_weaker (IsMember HasName HasDescriptor) (IsMember Anything Anything)
+    (λ m is. record { name = tt; desc = tt; attributes = any_attributes HasName m.attributes is.attributes })
 
 -- ---- and its text names what the part names
 
@@ -47,7 +48,8 @@ interface_named Fact text n fact t = (t.0, fact)
 attribute_named : (HasName : ℕ → Type 0) (text : List ℕ) (a : Attribute) → IsAttribute HasName a → (attribute Anything).Text text a → (attribute HasName).Text text a
 attribute_named HasName text a is t = (t.0, t.1, t.2, t.3, (t.4.0, subst HasName (ap (λ (b : Attribute). b.name) t.5.5.5.1) is.name), t.5)
 
-member_named : (HasName HasDescriptor : ℕ → Type 0) (text : List ℕ) (m : Member) → IsMember HasName HasDescriptor m → (member Anything Anything).Text text m → (member HasName HasDescriptor).Text text m
+member_named : (HasName HasDescriptor : ℕ → Type 0) (text : List ℕ) (m : Member) → IsMember HasName HasDescriptor m
+    → (member Anything Anything).Text text m → (member HasName HasDescriptor).Text text m
 member_named HasName HasDescriptor text m is t =
     let name = t.5 in
     let desc = name.5 in
@@ -86,10 +88,12 @@ member_named HasName HasDescriptor text m is t =
 pub interfaces_named : (Fact : ℕ → Type 0) (text : List ℕ) (xs : List ℕ) → AreCounted Fact xs → (counted (number_where Anything)).Text text xs → (counted (number_where Fact)).Text text xs
 interfaces_named Fact text xs is t = counted_named (number_where Anything) (number_where Fact) Fact (interface_named Fact) text xs is.each t
 
-pub attributes_named : (HasName : ℕ → Type 0) (text : List ℕ) (xs : List Attribute) → AreCounted (IsAttribute HasName) xs → (counted (attribute Anything)).Text text xs → (counted (attribute HasName)).Text text xs
+pub attributes_named : (HasName : ℕ → Type 0) (text : List ℕ) (xs : List Attribute) → AreCounted (IsAttribute HasName) xs
+    → (counted (attribute Anything)).Text text xs → (counted (attribute HasName)).Text text xs
 attributes_named HasName text xs is t = counted_named (attribute Anything) (attribute HasName) (IsAttribute HasName) (attribute_named HasName) text xs is.each t
 
-pub members_named : (HasName HasDescriptor : ℕ → Type 0) (text : List ℕ) (xs : List Member) → AreCounted (IsMember HasName HasDescriptor) xs → (counted (member Anything Anything)).Text text xs → (counted (member HasName HasDescriptor)).Text text xs
+pub members_named : (HasName HasDescriptor : ℕ → Type 0) (text : List ℕ) (xs : List Member) → AreCounted (IsMember HasName HasDescriptor) xs
+    → (counted (member Anything Anything)).Text text xs → (counted (member HasName HasDescriptor)).Text text xs
 members_named HasName HasDescriptor text xs is t =
     counted_named (member Anything Anything) (member HasName HasDescriptor) (IsMember HasName HasDescriptor) (member_named HasName HasDescriptor) text xs is.each t
 

@@ -21,7 +21,8 @@ one_attribute HasName =
     (λ x z a b y t u. size_is x a y t ∙ sym (size_is z b y u)))
     (λ x z a b y t u. sym (ap (λ (k : Attribute). k.name) t.5.5.1) ∙ ap (λ (k : Attribute). k.name) u.5.5.1)
   where
-    size_is : {name : ℕ} (size : ℕ) (text : List ℕ) (y : Attribute) → (followed_by {Y = Attribute} (piece size) (λ body. nothing (record { name = name; body = body }))).Text text y → size ≡ length y.body
+    size_is : {name : ℕ} (size : ℕ) (text : List ℕ) (y : Attribute)
+        → (followed_by {Y = Attribute} (piece size) (λ body. nothing (record { name = name; body = body }))).Text text y → size ≡ length y.body
     size_is size text y t = sym t.4.0 ∙ ap length (t.4.1 ∙ sym (ap (λ (k : Attribute). k.body) t.5.1))
 
 one_member : (HasName HasDescriptor : ℕ → Type 0) → OneText (member HasName HasDescriptor)
@@ -50,7 +51,8 @@ one_class =
     (one_followed _ _ (one_counted (member (HasText pool) (HasFieldDescriptor pool)) (one_member (HasText pool) (HasFieldDescriptor pool))) (λ fields.
     (one_followed _ _ (one_counted (member (HasText pool) (HasMethodDescriptor pool)) (one_member (HasText pool) (HasMethodDescriptor pool))) (λ methods.
     (one_followed _ _ (one_counted (attribute (HasText pool)) (one_attribute (HasText pool))) (λ attributes.
-    one_nothing (record { minor = minor; major = major; pool = pool; flags = flags; this_class = this_class; super_class = super_class; interfaces = interfaces; fields = fields; methods = methods; attributes = attributes }))
+    one_nothing (record { minor = minor; major = major; pool = pool; flags = flags; this_class = this_class; super_class = super_class; interfaces =
+        interfaces; fields = fields; methods = methods; attributes = attributes }))
     (λ x z a b y t u. sym (ap (λ (k : ClassFile). k.attributes) t.1) ∙ ap (λ (k : ClassFile). k.attributes) u.1)))
     (λ x z a b y t u. sym (ap (λ (k : ClassFile). k.methods) t.5.1) ∙ ap (λ (k : ClassFile). k.methods) u.5.1)))
     (λ x z a b y t u. sym (ap (λ (k : ClassFile). k.fields) t.5.5.1) ∙ ap (λ (k : ClassFile). k.fields) u.5.5.1)))

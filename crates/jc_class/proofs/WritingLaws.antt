@@ -16,14 +16,16 @@ pub interface_put : (n : ℕ) (old new : List ℕ) → Appends (λ text. IsBig 2
 interface_put n old new a = record { text = a.text; parts = a.parts; spells = (a.spells, tt) }
 
 -- a count, and so many parts
-pub counted_put : {X : Type 0} (g : Grammar X) (n : ℕ) (xs : List X) (old mid new : List ℕ) → n ≡ length xs → Appends (λ text. IsBig 2 text n) old mid → Appended (times (length xs) g) xs mid new → Appended (counted g) xs old new
+pub counted_put : {X : Type 0} (g : Grammar X) (n : ℕ) (xs : List X) (old mid new : List ℕ) → n ≡ length xs
+    → Appends (λ text. IsBig 2 text n) old mid → Appended (times (length xs) g) xs mid new → Appended (counted g) xs old new
 counted_put g n xs old mid new is a b = record {
   text = a.text ++ b.text;
   parts = joined old mid new a.text b.text a.parts b.parts;
   spells = (length xs, a.text, b.text, refl, subst (IsBig 2 a.text) is a.spells, b.spells);
 }
 
-pub attribute_put : (a : Attribute) (size : ℕ) (old mid last new : List ℕ) → size ≡ length a.body → Appends (λ text. IsBig 2 text a.name) old mid → Appends (λ text. IsBig 4 text size) mid last → new ≡ last ++ a.body → Appended (attribute Anything) a old new
+pub attribute_put : (a : Attribute) (size : ℕ) (old mid last new : List ℕ) → size ≡ length a.body → Appends (λ text. IsBig 2 text a.name) old mid
+    → Appends (λ text. IsBig 4 text size) mid last → new ≡ last ++ a.body → Appended (attribute Anything) a old new
 attribute_put a size old mid last new is name count body = record {
   text = name.text ++ (count.text ++ (a.body ++ []));
   parts = joined old mid new name.text (count.text ++ (a.body ++ [])) name.parts (joined mid last new count.text (a.body ++ []) count.parts (ended last new a.body body));
@@ -44,7 +46,8 @@ attribute_put a size old mid last new is name count body = record {
   );
 }
 
-pub member_put : (m : Member) (old a b c new : List ℕ) → Appends (λ text. IsBig 2 text m.flags) old a → Appends (λ text. IsBig 2 text m.name) a b → Appends (λ text. IsBig 2 text m.desc) b c → Appended (counted (attribute Anything)) m.attributes c new → Appended (member Anything Anything) m old new
+pub member_put : (m : Member) (old a b c new : List ℕ) → Appends (λ text. IsBig 2 text m.flags) old a → Appends (λ text. IsBig 2 text m.name) a b
+    → Appends (λ text. IsBig 2 text m.desc) b c → Appended (counted (attribute Anything)) m.attributes c new → Appended (member Anything Anything) m old new
 member_put m old a b c new flags name desc attributes = record {
   text = flags.text ++ (name.text ++ (desc.text ++ (attributes.text ++ [])));
   parts = joined old a new flags.text _ flags.parts (joined a b new name.text _ name.parts (joined b c new desc.text _ desc.parts (ended c new attributes.text attributes.parts)));
@@ -85,7 +88,8 @@ puts_begun Fact g all old fit = record { writes = writing_begun g all old; fit =
 pub next_fits : {X : Type 0} (Fact : X → Type 0) (g : Grammar X) (all : List X) (i : ℕ) (old now : List ℕ) (x : X) → i < length all → x ≡ get_or all i x → Puts Fact g all i old now → Fact x
 next_fits Fact g all i old now x room is p = (subst (AllByRecursion Fact) (drop_is all i x room is) p.fit).0
 
-pub puts_more : {X : Type 0} (Fact : X → Type 0) (g : Grammar X) (all : List X) (i : ℕ) (old now next : List ℕ) (x : X) → i < length all → x ≡ get_or all i x → Appended g x now next → Puts Fact g all i old now → Puts Fact g all (i + 1) old next
+pub puts_more : {X : Type 0} (Fact : X → Type 0) (g : Grammar X) (all : List X) (i : ℕ) (old now next : List ℕ) (x : X) → i < length all
+    → x ≡ get_or all i x → Appended g x now next → Puts Fact g all i old now → Puts Fact g all (i + 1) old next
 puts_more Fact g all i old now next x room is a p = record {
   writes = writes_next g all old i x now next (drop_is all i x room is) a p.writes;
   fit = (subst (AllByRecursion Fact) (drop_is all i x room is) p.fit).1;

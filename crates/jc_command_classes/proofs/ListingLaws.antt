@@ -100,7 +100,8 @@ pub record SameRefusal (index : ℕ) (path : Word) (why : Refusal) (index' : ℕ
   pub path_is : path ≡ path'
   pub why_is : why ≡ why'
 
-pub one_refusal : (k : ℕ) (ps : List Word) (ts : List (List ℕ)) (index index' : ℕ) (path path' : Word) (why why' : Refusal) → RefusedAt k ps ts index path why → RefusedAt k ps ts index' path' why' → SameRefusal index path why index' path' why'
+pub one_refusal : (k : ℕ) (ps : List Word) (ts : List (List ℕ)) (index index' : ℕ) (path path' : Word) (why why' : Refusal)
+    → RefusedAt k ps ts index path why → RefusedAt k ps ts index' path' why' → SameRefusal index path why index' path' why'
 one_refusal k [] ts index index' path path' why why' p q = absurd p
 one_refusal k (x ∷ ps) [] index index' path path' why why' p q = absurd p
 one_refusal k (x ∷ ps) (t ∷ ts) index index' path path' why why' (inl p) (inl q) =
@@ -138,7 +139,8 @@ listed_more [] ls t own none is = (own, [], is, ap (λ (l : List (List ℕ)). l 
 listed_more (u ∷ ts) ls t own (front, rest, is', parts, later) is =
     (front, rest ++ own ∷ [], is', ap (λ (l : List (List ℕ)). l ++ own ∷ []) parts, listed_more ts rest t own later is)
 
-pub refused_here : (k : ℕ) (ps : List Word) (ts ls : List (List ℕ)) (i : ℕ) (p : Word) (t : List ℕ) (why : Refusal) → length ps ≡ length ts → i < length ts → AreListed (take i ts) ls → t ≡ get_or ts i t → p ≡ get_or ps i p → Lists t (refuses why) → RefusedAt k ps ts (k + i) p why
+pub refused_here : (k : ℕ) (ps : List Word) (ts ls : List (List ℕ)) (i : ℕ) (p : Word) (t : List ℕ) (why : Refusal) → length ps ≡ length ts
+    → i < length ts → AreListed (take i ts) ls → t ≡ get_or ts i t → p ≡ get_or ps i p → Lists t (refuses why) → RefusedAt k ps ts (k + i) p why
 refused_here k [] [] ls i p t why same within are text path is = absurd (omega (arith, within))
 refused_here k [] (u ∷ ts) ls i p t why same within are text path is = absurd (omega (arith, same))
 refused_here k (x ∷ ps) [] ls i p t why same within are text path is = absurd (omega (arith, same))
@@ -209,7 +211,8 @@ module _ (texts : List (List ℕ)) (answers : List (Result (Vec ℕ Global) (Fai
       subst (λ (k : ℕ). AnswersWith (ListAnswers (words_of words) texts) (Err (class_stop fail k file))) (sym place.index_is)
       (listing_stops words texts writes n w own.0 fail file same so_far within own.1 at path (subst (IsListing own.0) is own.2))
 
-pub listing_done : (words : List Word) (texts : List (List ℕ)) (writes : Vec Written Global) (i : ℕ) → LinesOf (take i texts) writes.items → length texts ≤ i → AnswersWith (ListAnswers words texts) (Ok writes)
+pub listing_done : (words : List Word) (texts : List (List ℕ)) (writes : Vec Written Global) (i : ℕ) → LinesOf (take i texts) writes.items
+    → length texts ≤ i → AnswersWith (ListAnswers words texts) (Ok writes)
 listing_done words texts writes i so_far all =
     subst (λ (ws : List Write). ListAnswers words texts (gives ws)) (sym so_far.writes_are)
     (listed so_far.lines (subst (λ (ts : List (List ℕ)). AreListed ts so_far.lines) (take_all i texts all) so_far.listed))

@@ -181,7 +181,8 @@ module _ (landed : Landed) (dest : Word) (looked : List LookedFile) where
       }
 
 -- one turn of the loop more
-pub turn_written : (landed : Landed) (dest : Word) (looked : List LookedFile) (i index : ℕ) (old now mid : Outside) (f g h : Counts) (places new : List ℕ) (target path : Word) (t : List ℕ) (d : Decision)
+pub turn_written : (landed : Landed) (dest : Word) (looked : List LookedFile) (i index : ℕ) (old now mid : Outside) (f g h : Counts)
+    (places new : List ℕ) (target path : Word) (t : List ℕ) (d : Decision)
     → IsNext dest looked i target path t d → index ≡ i → WroteFirst landed dest looked i old now f g places
     → (h ≡ g) × CameTo landed (writing_all (file_writes target path t d)) now mid (gives tt) → new ≡ places ++ place_if d index []
     → WroteFirst landed dest looked (i + 1) old mid f h new

@@ -47,10 +47,12 @@ module _ (landed : Landed) (c : Cover) (plan : RunPlan) (looked : List LookedFil
       written = subst (λ (b : List ℕ). (g ≡ f) × CameTo landed (writing (to_file c.exec b)) old mid (gives tt)) is wrote
 
       -- the execution data stands, and the rest goes on
-      rest : (new : Outside) (f' : Counts) (r : Result (Unit {0}) Stop) → Ran landed deciding_report stop_seen mid new g f' r → Ran landed (writing_results c plan looked program) stop_seen old new f f' r
+      rest : (new : Outside) (f' : Counts) (r : Result (Unit {0}) Stop) → Ran landed deciding_report stop_seen mid new g f' r
+          → Ran landed (writing_results c plan looked program) stop_seen old new f f' r
       rest new f' r ran = ran_then landed part (λ _. deciding_report) old f stop_seen tt mid new g f' r written ran
 
-      pub no_report : (store : Store) (texts : List (List ℕ)) → store ≡ run_store program plan → texts ≡ accepted_texts looked → (stop : Stop) → StopsBy (IsClashEnd c.exec store texts) (stop_seen stop)
+      pub no_report : (store : Store) (texts : List (List ℕ)) → store ≡ run_store program plan → texts ≡ accepted_texts looked → (stop : Stop)
+          → StopsBy (IsClashEnd c.exec store texts) (stop_seen stop)
           → Stops landed (writing_results c plan looked program) old mid f g (stop_seen stop)
       no_report store texts same same' stop found =
           let so = subst (λ (ts : List (List ℕ)). StopsBy (IsClashEnd c.exec (run_store program plan) ts) (stop_seen stop)) same'
@@ -59,7 +61,8 @@ module _ (landed : Landed) (c : Cover) (plan : RunPlan) (looked : List LookedFil
           (came_decided {A = List ℕ} landed Reports Clashes mid g (λ csv. csv) stop_seen (Err stop) so))
 
       module _ (csv : List ℕ) (reports : Reports csv) where
-        behind : (new : Outside) (f' : Counts) (r : Result (Unit {0}) Stop) → Ran landed (reporting csv) stop_seen mid new g f' r → Ran landed (writing_results c plan looked program) stop_seen old new f f' r
+        behind : (new : Outside) (f' : Counts) (r : Result (Unit {0}) Stop) → Ran landed (reporting csv) stop_seen mid new g f' r
+            → Ran landed (writing_results c plan looked program) stop_seen old new f f' r
         behind new f' r ran =
             rest new f' r (ran_then landed (deciding Reports Clashes) reporting mid g stop_seen csv mid new g f' r
             (came_decided {E = Stop} landed Reports Clashes mid g (λ x. x) stop_seen (Ok csv) reports) ran)

@@ -36,7 +36,8 @@ module _ (landed : Landed) (c : Cover) (plan : RunPlan) (looked : List LookedFil
   none_read_back words are new f' o stopped =
       ran_stopped landed (reading_all (targets c.dest looked)) linking old f new f' o (subst (λ (ws : List Word). Stops landed (reading_all ws) old new f f' o) are stopped)
 
-  module _ (words : List Word) (are : words ≡ targets c.dest looked) (written : List (List ℕ)) (mid : Outside) (g : Counts) (read : (g ≡ f) × CameTo landed (reading_all words) old mid (gives written)) where
+  module _ (words : List Word) (are : words ≡ targets c.dest looked) (written : List (List ℕ)) (mid : Outside) (g : Counts)
+      (read : (g ≡ f) × CameTo landed (reading_all words) old mid (gives written)) where
     rest : (new : Outside) (f' : Counts) (r : Result (Unit {0}) Stop) → Ran landed (linking written) stop_seen mid new g f' r → Ran landed (running c plan looked) stop_seen old new f f' r
     rest new f' r ran =
         ran_then landed (reading_all (targets c.dest looked)) linking old f stop_seen written mid new g f' r
@@ -108,7 +109,8 @@ module _ (landed : Landed) (c : Cover) (plan_text : List ℕ) (paths : List Word
         (came_decided {A = RunPlan} landed (IsPlanText plan_text) (IsPlanEnd c.plan plan_text) mid g (λ p. p) stop_seen (Err stop) so))
 
     module _ (plan : RunPlan) (is_plan : IsPlanText plan_text plan) where
-      next : (new : Outside) (f' : Counts) (r : Result (Unit {0}) Stop) → Ran landed (instrumented read plan) stop_seen mid new g f' r → Ran landed (covering c plan_text paths) stop_seen old new f f' r
+      next : (new : Outside) (f' : Counts) (r : Result (Unit {0}) Stop) → Ran landed (instrumented read plan) stop_seen mid new g f' r
+          → Ran landed (covering c plan_text paths) stop_seen old new f f' r
       next new f' r ran =
           then new f' r (ran_then landed (deciding (IsPlanText plan_text) (IsPlanEnd c.plan plan_text)) (instrumented read) mid g stop_seen plan mid new g f' r
           (came_decided {E = Stop} landed (IsPlanText plan_text) (IsPlanEnd c.plan plan_text) mid g (λ p. p) stop_seen (Ok plan) is_plan) ran)

@@ -97,7 +97,8 @@ module _ (program : Program) where
       nothing : Some x ≡ None → ⊥
       nothing e = cc
 
-      by : (o : Option Entry) → entry_of program x ≡ o → cond (not (is_some o)) (Some x) (first_without program xs) ≡ None → (e : Entry) × (entry_of program x ≡ Some e) × (first_without program xs ≡ None)
+      by : (o : Option Entry) → entry_of program x ≡ o → cond (not (is_some o)) (Some x) (first_without program xs) ≡ None → (e : Entry)
+          × (entry_of program x ≡ Some e) × (first_without program xs ≡ None)
       by None same e = absurd (nothing e)
       by (Some entry) same e = (entry, same, e)
 

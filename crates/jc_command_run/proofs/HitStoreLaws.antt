@@ -17,10 +17,12 @@ use Rattle.jc_command_run.specs.HitStore.{set_record, with_set, set_records, cou
 -- ---- one record
 
 -- what a store that has no record of the id becomes
-pub added : (old new : Store) (c : ClassHits) → OneOfEachId old.classes → IsNew c.id old.classes → ((blocks : List Block) → IsUnion blocks old → IsUnion (blocks ++ class c ∷ []) new) → AddsLast c old new
+pub added : (old new : Store) (c : ClassHits) → OneOfEachId old.classes → IsNew c.id old.classes
+    → ((blocks : List Block) → IsUnion blocks old → IsUnion (blocks ++ class c ∷ []) new) → AddsLast c old new
 added old new c one fresh adds =
     let own = own_union old one in
-    let same = one_union (blocks_of old ++ class c ∷ []) new (record { sessions = old.sessions; classes = old.classes ++ c ∷ [] }) (adds (blocks_of old) own) (union_class (blocks_of old) old c own fresh) in
+    let same = one_union (blocks_of old ++ class c ∷ []) new (record { sessions = old.sessions; classes = old.classes ++ c ∷ [] })
+            (adds (blocks_of old) own) (union_class (blocks_of old) old c own fresh) in
     record { sessions = ap (λ (s : Store). s.sessions) same; classes = ap (λ (s : Store). s.classes) same }
 
 -- ---- the records of the first classes
@@ -29,7 +31,9 @@ module _ (hits : List (List Bool)) where
   records_more : (k : ℕ) (cs : List Linked) (c : Linked) → set_records hits k (cs ++ c ∷ []) ≡ set_records hits k cs ++ with_set hits (k + length cs) c c.probes []
   records_more k [] c = ap (λ (n : ℕ). with_set hits n c c.probes []) (let n : k ≡ k + length {A = Linked} [] = omega arith in n)
   records_more k (d ∷ cs) c =
-      ap (with_set hits k d d.probes) (records_more (k + 1) cs c ∙ ap (λ (n : ℕ). set_records hits (k + 1) cs ++ with_set hits n c c.probes []) (let n : k + 1 + length cs ≡ k + length (d ∷ cs) = omega arith in n))
+      ap (with_set hits k d d.probes)
+          (records_more (k + 1) cs c ∙ ap (λ (n : ℕ). set_records hits (k + 1) cs ++ with_set hits n c c.probes [])
+            (let n : k + 1 + length cs ≡ k + length (d ∷ cs) = omega arith in n))
       ∙ by d.probes
     where
       by : (o : Option ProbeInit) → with_set hits k d o (set_records hits (k + 1) cs ++ with_set hits (k + length (d ∷ cs)) c c.probes [])
@@ -94,7 +98,8 @@ module _ (hits : List (List Bool)) (cs : List Linked) (i : ℕ) (c : Linked) (wi
   pub none_put : (store : List ClassHits) → c.probes ≡ None → store ≡ set_records hits 0 (take i cs) → store ≡ set_records hits 0 (take (i + 1) cs)
   none_put store none so_far = so_far ∙ sym (more ∙ ap (λ (o : Option ProbeInit). set_records hits 0 (take i cs) ++ with_set hits i c o []) none ∙ append-nil (set_records hits 0 (take i cs)))
 
-  pub record_put : (old new : List ClassHits) (init : ProbeInit) → c.probes ≡ Some init → old ≡ set_records hits 0 (take i cs) → new ≡ old ++ set_record hits i c init ∷ [] → new ≡ set_records hits 0 (take (i + 1) cs)
+  pub record_put : (old new : List ClassHits) (init : ProbeInit) → c.probes ≡ Some init → old ≡ set_records hits 0 (take i cs) → new ≡ old
+      ++ set_record hits i c init ∷ [] → new ≡ set_records hits 0 (take (i + 1) cs)
   record_put old new init has so_far grows =
       grows ∙ ap (λ (l : List ClassHits). l ++ set_record hits i c init ∷ []) so_far
       ∙ sym (more ∙ ap (λ (o : Option ProbeInit). set_records hits 0 (take i cs) ++ with_set hits i c o []) has)

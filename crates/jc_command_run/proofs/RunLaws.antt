@@ -69,7 +69,8 @@ one_link_choice paths files = record {
 
 -- ---- the whole
 
-pub one_run : OnePlan → (plan exec : Word) (paths : List Word) (text : List ℕ) (files : List (List ℕ)) (a b : Answer) → RunsFiles plan exec paths text files a → RunsFiles plan exec paths text files b → a ≡ b
+pub one_run : OnePlan → (plan exec : Word) (paths : List Word) (text : List ℕ) (files : List (List ℕ)) (a b : Answer)
+    → RunsFiles plan exec paths text files a → RunsFiles plan exec paths text files b → a ≡ b
 one_run laws plan exec paths text files =
     one_choice (IsPlanText text) (IsPlanEnd plan text) _ (one_plan_choice laws plan text)
     (λ p. one_choice (IsRunProgram files) (IsLinkEnd paths files) _ (one_link_choice paths files) (λ program a b is is'. is ∙ sym is'))

@@ -56,7 +56,8 @@ pub same_records : (hits : List Hit) (k : ℕ) (classes : List Linked) → hit_r
 same_records hits k [] = refl
 same_records hits k (c ∷ classes) = by c.probes ∙ ap (with_record hits k c c.probes) (same_records hits (k + 1) classes)
   where
-    by : (o : Option ProbeInit) → with_record hits k (frameless_class c) o (hit_records hits (k + 1) (map frameless_class classes)) ≡ with_record hits k c o (hit_records hits (k + 1) (map frameless_class classes))
+    by : (o : Option ProbeInit) → with_record hits k (frameless_class c) o (hit_records hits (k + 1) (map frameless_class classes))
+        ≡ with_record hits k c o (hit_records hits (k + 1) (map frameless_class classes))
     by None = refl
     by (Some init) = refl
 

@@ -113,7 +113,8 @@ module _ (c : Call) where
   call_of ExecInfo command n e = subst (IsCallOf c) (some_is (exec_info c.files) command e) (n, refl)
   call_of ClassInfo command n e = subst (IsCallOf c) (some_is (class_info (map file_text c.files)) command e) (n, refl)
   call_of Cover command n e =
-      by_cover (value_of c.uses (codes "dest")) (value_of c.uses (codes "plan")) (value_of c.uses (codes "destfile")) (value_of c.uses (codes "csv")) (workers_in (value_of c.uses (codes "workers"))) command refl refl refl refl refl n e
+      by_cover (value_of c.uses (codes "dest")) (value_of c.uses (codes "plan")) (value_of c.uses (codes "destfile")) (value_of c.uses (codes "csv"))
+          (workers_in (value_of c.uses (codes "workers"))) command refl refl refl refl refl n e
 
   command_made : (command : Called) → IsCallOf c command → command_with c.name (values_of c.uses c.files) ≡ Some command
   command_made (instrument dest files) h = rw (h.0, h.1, h.2) refl
@@ -129,14 +130,17 @@ module _ (c : Call) where
 -- ---- names
 
 pub name_is : (word : Word) (name : CommandName) → named word ≡ Some name → word ≡ text_of name
-name_is word name e = first (bytes_eq word (codes "instrument")) (bytes_eq word (codes "run")) (bytes_eq word (codes "merge")) (bytes_eq word (codes "report")) (bytes_eq word (codes "execinfo")) (bytes_eq word (codes "classinfo")) (bytes_eq word (codes "cover")) refl refl refl refl refl refl refl e
+name_is word name e = first (bytes_eq word (codes "instrument")) (bytes_eq word (codes "run")) (bytes_eq word (codes "merge"))
+    (bytes_eq word (codes "report")) (bytes_eq word (codes "execinfo")) (bytes_eq word (codes "classinfo")) (bytes_eq word (codes "cover")) refl refl
+    refl refl refl refl refl e
   where
     is : (text : Word) (this : CommandName) → bytes_eq word text ≡ true → text_of this ≡ text → Some this ≡ Some name → word ≡ text_of name
     is text this h t e = (bytes_eq-Decides word text).0 h ∙ sym t ∙ ap text_of (some_is this name e)
 
     first : (a b d f g h i : Bool) → bytes_eq word (codes "instrument") ≡ a → bytes_eq word (codes "run") ≡ b → bytes_eq word (codes "merge") ≡ d → bytes_eq word (codes "report") ≡ f
         → bytes_eq word (codes "execinfo") ≡ g → bytes_eq word (codes "classinfo") ≡ h → bytes_eq word (codes "cover") ≡ i
-        → (if a then Some Instrument else if b then Some Run else if d then Some Merge else if f then Some Report else if g then Some ExecInfo else if h then Some ClassInfo else if i then Some Cover else None) ≡ Some name
+        → (if a then Some Instrument else if b then Some Run else if d then Some Merge else if f then Some Report else if g then Some ExecInfo
+            else if h then Some ClassInfo else if i then Some Cover else None) ≡ Some name
         → word ≡ text_of name
     first true b d f g h i p q r s t u v e = is (codes "instrument") Instrument p refl e
     first false true d f g h i p q r s t u v e = is (codes "run") Run q refl e
@@ -270,7 +274,8 @@ decided (first ∷ rest) command e = by (named first) (scan None rest) refl refl
     decide name s p q (Some n) h e =
         let t = sample_is name s n h in
         by_sample t.0 t.1 n
-        (ap₂ (λ (x : Word) (l : List Word). x ∷ l) (p ∙ ap text_of t.2) (q ∙ ap (λ z. rest_words z.uses z.dash z.files) t.3 ∙ append-nil (use_words (sample_use t.0 t.1) ++ []) ∙ append-nil (use_words (sample_use t.0 t.1))))
+        (ap₂ (λ (x : Word) (l : List Word). x ∷ l) (p ∙ ap text_of t.2)
+            (q ∙ ap (λ z. rest_words z.uses z.dash z.files) t.3 ∙ append-nil (use_words (sample_use t.0 t.1) ++ []) ∙ append-nil (use_words (sample_use t.0 t.1))))
         t.4 (sym (some_is (cover_sample n) command e))
 
     by : (name : Option CommandName) (s : Option Scan) → named first ≡ name → scan None rest ≡ s → decide_named name s ≡ Some command → Means (first ∷ rest) command

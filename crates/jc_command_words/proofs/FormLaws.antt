@@ -43,7 +43,8 @@ module _ {U O F : Type 0} (uv : U → Use) (ov : O → Word) (fv : F → Word) w
   pub known_seen : (us : List U) (os : List O) (options : List Word) → map ov os ≡ options
       → list_all (λ u. list_any (λ o. bytes_eq (uv u).name (ov o)) os) us ≡ list_all (λ u. list_any (bytes_eq u.name) options) (map uv us)
   known_seen us os options e =
-      list_all-same (λ u. list_any (λ o. bytes_eq (uv u).name (ov o)) os) (λ u. list_any (bytes_eq (uv u).name) options) (λ u. list_any-map (bytes_eq (uv u).name) ov os ∙ ap (list_any (bytes_eq (uv u).name)) e) us
+      list_all-same (λ u. list_any (λ o. bytes_eq (uv u).name (ov o)) os) (λ u. list_any (bytes_eq (uv u).name) options)
+          (λ u. list_any-map (bytes_eq (uv u).name) ov os ∙ ap (list_any (bytes_eq (uv u).name)) e) us
       ∙ list_all-map (λ u. list_any (bytes_eq u.name) options) uv us
 
   pub unknown : (us : List U) (os : List O) (options : List Word) (dash : Bool) (files : List Word) → map ov os ≡ options
@@ -60,7 +61,8 @@ module _ {U O F : Type 0} (uv : U → Use) (ov : O → Word) (fv : F → Word) w
 
 -- ---- what an option is given
 
-pub value_on : {U : Type 0} (uv : U → Use) (us : List U) (i : ℕ) (u : U) (name : Word) (whole : Option Word) → i < length us → u ≡ get_or us i u → whole ≡ value_of (map uv (drop i us)) name → bytes_eq (uv u).name name ≡ false
+pub value_on : {U : Type 0} (uv : U → Use) (us : List U) (i : ℕ) (u : U) (name : Word) (whole : Option Word) → i < length us → u ≡ get_or us i u
+    → whole ≡ value_of (map uv (drop i us)) name → bytes_eq (uv u).name name ≡ false
     → whole ≡ value_of (map uv (drop (i + 1) us)) name
 value_on uv us i u name whole within is so_far other = so_far ∙ ap (λ l. value_of l name) (uses_from uv us i u within is) ∙ rw other refl
   where
@@ -69,7 +71,8 @@ value_on uv us i u name whole within is so_far other = so_far ∙ ap (λ l. valu
         let next : suc i ≡ i + 1 = omega arith in
         ap (map uv) (drop-cons us i u within) ∙ ap₂ (λ y k. uv y ∷ map uv (drop k us)) (sym is) next
 
-pub value_stop : {U : Type 0} (uv : U → Use) (us : List U) (i : ℕ) (u : U) (name : Word) (whole : Option Word) → i < length us → u ≡ get_or us i u → whole ≡ value_of (map uv (drop i us)) name → bytes_eq (uv u).name name ≡ true
+pub value_stop : {U : Type 0} (uv : U → Use) (us : List U) (i : ℕ) (u : U) (name : Word) (whole : Option Word) → i < length us → u ≡ get_or us i u
+    → whole ≡ value_of (map uv (drop i us)) name → bytes_eq (uv u).name name ≡ true
     → Some (uv u).value ≡ whole
 value_stop uv us i u name whole within is so_far same =
     let next : suc i ≡ i + 1 = omega arith in

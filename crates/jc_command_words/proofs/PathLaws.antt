@@ -17,7 +17,8 @@ no_slash : (b : ℕ) (bytes : Word) → nat_eq b 47 ≡ false → components (b 
 no_slash b bytes other = rw other refl
 
 -- a part in front of a slash
-part_in_front : (bytes : Word) (i : ℕ) → i < length bytes → nat_eq (get_or bytes i 0) 47 ≡ true → ((k : ℕ) → k < i → nat_eq (get_or bytes k 0) 47 ≡ false) → components bytes ≡ take i bytes ∷ components (drop (i + 1) bytes)
+part_in_front : (bytes : Word) (i : ℕ) → i < length bytes → nat_eq (get_or bytes i 0) 47 ≡ true
+    → ((k : ℕ) → k < i → nat_eq (get_or bytes k 0) 47 ≡ false) → components bytes ≡ take i bytes ∷ components (drop (i + 1) bytes)
 part_in_front [] i within slash before = absurd (omega (arith, within))
 part_in_front (b ∷ bytes) zero within slash before = rw slash refl
 part_in_front (b ∷ bytes) (suc i) within slash before =
@@ -29,14 +30,17 @@ one_part : (bytes : Word) → ((k : ℕ) → k < length bytes → nat_eq (get_or
 one_part [] never = refl
 one_part (b ∷ bytes) never = no_slash b bytes (never 0 (omega arith)) ∙ ap (with_first b) (one_part bytes (λ k below. never (suc k) (omega (arith, below))))
 
-pub parts_on : (whole : Bool) (bytes front rest : Word) (i : ℕ) → whole ≡ list_all is_component (components bytes) → Some i ≡ position (λ b. nat_eq b 47) bytes → front ≡ take i bytes → rest ≡ drop (i + 1) bytes → is_component front ≡ true → whole ≡ list_all is_component (components rest)
+pub parts_on : (whole : Bool) (bytes front rest : Word) (i : ℕ) → whole ≡ list_all is_component (components bytes)
+    → Some i ≡ position (λ b. nat_eq b 47) bytes → front ≡ take i bytes → rest ≡ drop (i + 1) bytes → is_component front ≡ true
+    → whole ≡ list_all is_component (components rest)
 parts_on whole bytes front rest i so_far found front_is rest_is named =
     let first = position-Some (λ b. nat_eq b 47) bytes i 0 (sym found) in
     so_far ∙ ap (list_all is_component) (part_in_front bytes i first.0 first.1 first.2)
     ∙ ap (λ (t : Bool). t && list_all is_component (components (drop (i + 1) bytes))) (ap is_component (sym front_is) ∙ named)
     ∙ ap (λ (l : Word). list_all is_component (components l)) (sym rest_is)
 
-pub parts_stop : (whole : Bool) (bytes front : Word) (i : ℕ) → whole ≡ list_all is_component (components bytes) → Some i ≡ position (λ b. nat_eq b 47) bytes → front ≡ take i bytes → is_component front ≡ false → false ≡ whole
+pub parts_stop : (whole : Bool) (bytes front : Word) (i : ℕ) → whole ≡ list_all is_component (components bytes)
+    → Some i ≡ position (λ b. nat_eq b 47) bytes → front ≡ take i bytes → is_component front ≡ false → false ≡ whole
 parts_stop whole bytes front i so_far found front_is unnamed =
     let first = position-Some (λ b. nat_eq b 47) bytes i 0 (sym found) in
     sym (so_far ∙ ap (list_all is_component) (part_in_front bytes i first.0 first.1 first.2)
@@ -90,7 +94,8 @@ distinct_more (y ∷ xs) x =
     ap₂ (λ (s t : Bool). not s && t) (any_more (bytes_eq y) xs x) (distinct_more xs x)
     ∙ ap (λ (s : Bool). s && (are_distinct xs && not (list_any (bytes_eq x) xs))) (not_or (list_any (bytes_eq y) xs) (bytes_eq y x))
     ∙ shuffled (not (list_any (bytes_eq y) xs)) (not (bytes_eq y x)) (are_distinct xs) (not (list_any (bytes_eq x) xs))
-    ∙ ap (λ (s : Bool). (not (list_any (bytes_eq y) xs) && are_distinct xs) && s) (ap (λ (s : Bool). not s && not (list_any (bytes_eq x) xs)) (turned y x) ∙ sym (not_or (bytes_eq x y) (list_any (bytes_eq x) xs)))
+    ∙ ap (λ (s : Bool). (not (list_any (bytes_eq y) xs) && are_distinct xs) && s)
+        (ap (λ (s : Bool). not s && not (list_any (bytes_eq x) xs)) (turned y x) ∙ sym (not_or (bytes_eq x y) (list_any (bytes_eq x) xs)))
 
 -- the words so far differ, and one more is none of them
 pub distinct_on : (xs : List Word) (x : Word) → are_distinct xs ≡ true → list_any (bytes_eq x) xs ≡ false → are_distinct (xs ++ x ∷ []) ≡ true
@@ -105,7 +110,8 @@ not_distinct (y ∷ xs) behind x found = by (bytes_eq x y) refl found (not_disti
     any_found [] same = rw (turned y x, same) refl
     any_found (z ∷ zs) same = rw (any_found zs same) (or_right (bytes_eq y z) true refl)
 
-    by : (b : Bool) → bytes_eq x y ≡ b → (b || list_any (bytes_eq x) xs) ≡ true → (list_any (bytes_eq x) xs ≡ true → are_distinct (xs ++ x ∷ behind) ≡ false) → are_distinct (y ∷ (xs ++ x ∷ behind)) ≡ false
+    by : (b : Bool) → bytes_eq x y ≡ b → (b || list_any (bytes_eq x) xs) ≡ true
+        → (list_any (bytes_eq x) xs ≡ true → are_distinct (xs ++ x ∷ behind) ≡ false) → are_distinct (y ∷ (xs ++ x ∷ behind)) ≡ false
     by true same h rest = rw (any_found xs same) refl
     by false other h rest = rw (rest h) (and_right (not (list_any (bytes_eq y) (xs ++ x ∷ behind))) false refl)
 
@@ -123,7 +129,8 @@ filter_more : {X : Type 0} (p : X → Bool) (xs : List X) (x : X) → filter p (
 filter_more p [] x = refl
 filter_more {X} p (y ∷ xs) x = by (p y) (filter_more p xs x)
   where
-    by : (b : Bool) → filter p (xs ++ x ∷ []) ≡ filter p xs ++ filter p (x ∷ []) → cond b (y ∷ filter p (xs ++ x ∷ [])) (filter p (xs ++ x ∷ [])) ≡ cond b (y ∷ filter p xs) (filter p xs) ++ filter p (x ∷ [])
+    by : (b : Bool) → filter p (xs ++ x ∷ []) ≡ filter p xs ++ filter p (x ∷ []) → cond b (y ∷ filter p (xs ++ x ∷ [])) (filter p (xs ++ x ∷ []))
+        ≡ cond b (y ∷ filter p xs) (filter p xs) ++ filter p (x ∷ [])
     by true rest = ap (λ (l : List X). y ∷ l) rest
     by false rest = rest
 

@@ -35,7 +35,8 @@ use Rattle.jc_command_words.proofs.ReaderLaws.{Read, files_if_any, inner_rows, i
 
 -- ---- what was found
 
-same_values : (v w : Values) → v.dest ≡ w.dest → v.plan ≡ w.plan → v.destfile ≡ w.destfile → v.csv ≡ w.csv → v.workers ≡ w.workers → v.name ≡ w.name → v.exec ≡ w.exec → v.sample ≡ w.sample → v.files ≡ w.files → v ≡ w
+same_values : (v w : Values) → v.dest ≡ w.dest → v.plan ≡ w.plan → v.destfile ≡ w.destfile → v.csv ≡ w.csv → v.workers ≡ w.workers → v.name ≡ w.name
+    → v.exec ≡ w.exec → v.sample ≡ w.sample → v.files ≡ w.files → v ≡ w
 same_values v w a b c d e f g h i =
     ap (λ (x : Option Word). record v { dest = x }) a
     ∙ ap (λ (x : Option Word). record v { dest = w.dest; plan = x }) b
@@ -56,7 +57,8 @@ pub found_values : (f : Found) (words : List Word) (name : CommandName) (uses : 
 found_values f words name uses files r rows =
     let at : (id : Word) → bytes_eq (codes "FILE") id ≡ false → first_value f id ≡ value_of uses id = λ id other. first_value-rows f id ∙ ap (first_of id) rows ∙ r.values id other in
     same_values (values_found f) (values_of uses files)
-    (at (codes "dest") refl) (at (codes "plan") refl) (at (codes "destfile") refl) (at (codes "csv") refl) (at (codes "workers") refl) (at (codes "name") refl) (at (codes "exec") refl) (at (codes "sample") refl)
+    (at (codes "dest") refl) (at (codes "plan") refl) (at (codes "destfile") refl) (at (codes "csv") refl) (at (codes "workers") refl)
+        (at (codes "name") refl) (at (codes "exec") refl) (at (codes "sample") refl)
     (ap (λ (o : Option (List Word)). unwrap_or o []) (raw_values-rows f (codes "FILE") ∙ ap (all_of (codes "FILE")) rows ∙ r.given) ∙ files_or_none files)
 
 pub read_of : (words : List Word) (c : Call) → length words < 2 ^ 32 → TakenCall words c → Read words c.name c.uses c.files
@@ -81,7 +83,8 @@ known_more ExecInfo option h = h
 known_more ClassInfo option h = h
 known_more Cover option h = any_more (bytes_eq option) (options_of Cover) (codes "sample" ∷ []) h
 
-all_known_more : (name : CommandName) (uses : List Use) → list_all (λ u. list_any (bytes_eq u.name) (options_of name)) uses ≡ true → list_all (λ u. list_any (bytes_eq u.name) (taken_options name)) uses ≡ true
+all_known_more : (name : CommandName) (uses : List Use) → list_all (λ u. list_any (bytes_eq u.name) (options_of name)) uses ≡ true
+    → list_all (λ u. list_any (bytes_eq u.name) (taken_options name)) uses ≡ true
 all_known_more name [] h = refl
 all_known_more name (u ∷ us) h =
     let p = and-parts (list_any (bytes_eq u.name) (options_of name)) _ h in
@@ -218,7 +221,8 @@ module _ (words : List Word) (c : Call) (short : length words < 2 ^ 32) (taken :
   unfolding AreAccepted
   are_accepted = (read_of words c short taken).takes_all
 
-  module _ (m : ArgMatches) (o : Option (Bor Word × Bor ArgMatches)) (has : HasFound words m) (lends : option_map (λ p. rows_of (found_of p.1.now)) o ≡ option_map (λ p. p.1) (subcommand_rows_of m)) where
+  module _ (m : ArgMatches) (o : Option (Bor Word × Bor ArgMatches)) (has : HasFound words m)
+      (lends : option_map (λ p. rows_of (found_of p.1.now)) o ≡ option_map (λ p. p.1) (subcommand_rows_of m)) where
     pub is_found : IsSome o
     unfolding HasFound
     is_found = inner_some m words (text_of c.name) (call_rows c.uses c.files) o has (read_of words c short taken).subcommand lends

@@ -303,9 +303,13 @@ module _ (name : CommandName)
       ∙ level_takes (shape_of name) the_reader uses dash good files plain many in
       let walks = passes-append_at B.top (names_of B) (at [] None) (text_of name ∷ []) rest
       ∙ both_true _ _ first_passes (ap (λ w. walk_passes B.top (names_of B) w rest) first ∙ stop_passes B.top (names_of B) (text_of name) [] rest) in
-      let ends : (settle_passes B.top.rules B.top.args_override_self (stopped_at (text_of name) rest).held && (list_all default_passes B.top.rules && is_valid B.top (finished B.top.rules (stopped_at (text_of name) rest).held) true)) ≡ true = refl in
+      let ends : (settle_passes B.top.rules B.top.args_override_self
+              (stopped_at (text_of name) rest).held && (list_all default_passes B.top.rules && is_valid B.top
+                (finished B.top.rules (stopped_at (text_of name) rest).held) true)) ≡ true = refl in
       let above : level_passes B.top (names_of B) nothing_held (text_of name ∷ rest) true ≡ true
-      = both_true _ _ walks (ap (λ w. settle_passes B.top.rules B.top.args_override_self w.held && (list_all default_passes B.top.rules && is_valid B.top (finished B.top.rules w.held) true)) top_walk ∙ ends) in
+      = both_true _ _ walks
+          (ap (λ w. settle_passes B.top.rules B.top.args_override_self
+              w.held && (list_all default_passes B.top.rules && is_valid B.top (finished B.top.rules w.held) true)) top_walk ∙ ends) in
       both_true _ _ below (ap (λ o. level_passes B.top (names_of B) nothing_held (text_of name ∷ rest) (is_some o)) entered_subcommand ∙ above)
 
   file_is_fresh : has_row (codes "FILE") (map row_of_use uses) ≡ false

@@ -90,7 +90,8 @@ rises_more a b c rises (inl same) = subst (λ (n : ℕ). Rises a n) (sym same) r
 rises_more a b c (le, rose) (inr (le', inr last)) = (omega (arith, le, le'), inr last)
 rises_more a b c (le, rose) (inr (le', inl more)) = (omega (arith, le, le'), inl (omega (arith, le, more)))
 
-pub rose_for : (call : Call) (f g f' : Counts) → CountRose call f g → (f'.reads ≡ g.reads) × (f'.writes ≡ g.writes) × (f'.outs ≡ g.outs) × ((f'.errs ≡ g.errs) ⊎ Rises g.errs f'.errs) → RoseFor call f f'
+pub rose_for : (call : Call) (f g f' : Counts) → CountRose call f g → (f'.reads ≡ g.reads) × (f'.writes ≡ g.writes) × (f'.outs ≡ g.outs)
+    × ((f'.errs ≡ g.errs) ⊎ Rises g.errs f'.errs) → RoseFor call f f'
 rose_for (to_read path) f g f' rose kept = rises_more f.reads g.reads f'.reads rose.0 (inl kept.0)
 rose_for (to_list folder) f g f' rose kept = rises_more f.reads g.reads f'.reads rose.0 (inl kept.0)
 rose_for (to_write (to_file path bytes)) f g f' rose kept = rises_more f.writes g.writes f'.writes rose.0 (inl kept.1)
@@ -100,7 +101,8 @@ rose_for (to_write (to_err text)) f g f' rose kept = rises_more f.errs g.errs f'
 -- ---- the cause
 
 module _ (landed : Landed) (command : Command) (old new : Outside) (f f' : Counts) where
-  ended_so : (end : End) (stands : Outside) → CameTo landed command old stands (stops end) → SaysLast (message_of end) stands new f f' → IsOwnEnd end → Cause landed command old new f f' (status_of end)
+  ended_so : (end : End) (stands : Outside) → CameTo landed command old stands (stops end) → SaysLast (message_of end) stands new f f' → IsOwnEnd end
+      → Cause landed command old new f f' (status_of end)
   ended_so done stands came says own = (says.0, subst (λ (w : Outside). CameTo landed command old w (stops done)) (sym says.1) came)
   ended_so (refused fault line) stands came says own = (line, record { stands = stands; came = came; says = says })
   ended_so misused stands came says own = record { stands = stands; came = came; says = says }
@@ -108,12 +110,14 @@ module _ (landed : Landed) (command : Command) (old new : Outside) (f f' : Count
   ended_so (unwritten path) stands came says own = absurd own
   ended_so unprinted stands came says own = absurd own
 
-  cut_so : (end : End) (stands : Outside) (at : Counts) (b : BrokeOff landed command old stands f at end) → SaysLast (message_of end) stands new at f' → Cause landed command old new f f' (status_of end)
+  cut_so : (end : End) (stands : Outside) (at : Counts) (b : BrokeOff landed command old stands f at end)
+      → SaysLast (message_of end) stands new at f' → Cause landed command old new f f' (status_of end)
   cut_so end stands at b says =
       subst (λ (e : End). Cause landed command old new f f' (status_of e)) (sym b.is)
       (by b.call b.came b.rose b.broken (subst (λ (e : End). SaysLast (message_of e) stands new at f') b.is says))
     where
-      failed : (call : Call) (Is : Call → Type 0) → Is call → CameTo landed command old b.stands (wants call) → CountRose call f at → Broken landed b.stands call stands → SaysLast (message_of (failure call)) stands new at f'
+      failed : (call : Call) (Is : Call → Type 0) → Is call → CameTo landed command old b.stands (wants call) → CountRose call f at
+          → Broken landed b.stands call stands → SaysLast (message_of (failure call)) stands new at f'
           → CallFailed landed command old new f f' Is
       failed call Is is came rose broken says = record {
         call = call;

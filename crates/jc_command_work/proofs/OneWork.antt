@@ -175,7 +175,8 @@ module _ {X Y : Type 0} (landed : Landed) (p : Part X) (q : X → Part Y) (w : O
       on_way front call (inr h) fits =
           let g = goes_on front (wants call) h fits in
           let (step, rest, whole, called) = next.on_way h.behind call g.1 g.2 in
-          (step, rest, ap (λ (s : List Step). way.steps ++ s) whole ∙ sym (append_assoc way.steps h.behind (step ∷ rest)) ∙ ap (λ (s : List Step). (s ++ h.behind) ++ step ∷ rest) (sym g.0) ∙ ap (λ (s : List Step). s ++ step ∷ rest) (sym h.parts), called)
+          (step, rest, ap (λ (s : List Step). way.steps ++ s) whole ∙ sym (append_assoc way.steps h.behind (step ∷ rest))
+              ∙ ap (λ (s : List Step). (s ++ h.behind) ++ step ∷ rest) (sym g.0) ∙ ap (λ (s : List Step). s ++ step ∷ rest) (sym h.parts), called)
 
   -- where the first part hands on a value, the second has one way from there
   pub one_then : ((x : X) → p way.steps (gives x) → OneWay landed (q x) (after landed w way.steps)) → OneWay landed (p >>= q) w
@@ -392,7 +393,8 @@ one_listing landed w folder (m, told) = record {
   on_way = on_way;
 }
   where
-    only : (others : List Step) (o : Outcome (List Word)) → IsOver o → listing folder others o → Fit landed w others → (others ≡ has_listed folder (listed m folder) ∷ []) × (o ≡ gives (listed m folder))
+    only : (others : List Step) (o : Outcome (List Word)) → IsOver o → listing folder others o → Fit landed w others
+        → (others ≡ has_listed folder (listed m folder) ∷ []) × (o ≡ gives (listed m folder))
     only [] o over comes fits = absurd (not_over o (to_list folder) over comes)
     only (has_listed f ps ∷ []) o over comes fits =
         let is : ps ≡ listed m f = (subst (λ (c : Option FileMap). IsListing c f ps) told fits.0).told in

@@ -185,7 +185,8 @@ kept_reads : (old new : Outside) (f f' : Counts) (message : Option (List ℕ)) �
 kept_reads old new f f' None (same, is) = ap (λ (c : Counts). c.reads) same
 kept_reads old new f f' (Some text) says = by says.said
   where
-    by : ((f' ≡ f) × (new ≡ outside old.contents old.out (grown old.err text))) ⊎ (CountRose (to_write (to_err text)) f f' × Broken (λ _ bytes. bytes) old (to_write (to_err text)) new) → f'.reads ≡ f.reads
+    by : ((f' ≡ f) × (new ≡ outside old.contents old.out (grown old.err text)))
+        ⊎ (CountRose (to_write (to_err text)) f f' × Broken (λ _ bytes. bytes) old (to_write (to_err text)) new) → f'.reads ≡ f.reads
     by (inl (same, is)) = ap (λ (c : Counts). c.reads) same
     by (inr (rose, broken)) = ap (λ (c : Counts). c.reads) rose.1
 
@@ -195,7 +196,8 @@ module _ (landed : Landed) (command : Command) (old new : Outside) (f f' : Count
   unfolding is_done
   done_means (inl e) = by e.end e.came e.is e.says
     where
-      by : (end : End) → CameTo landed command old e.stands (stops end) → status.Done ≡ status_of end → SaysLast (message_of end) e.stands new f f' → (f' ≡ f) × CameTo landed command old new (stops done)
+      by : (end : End) → CameTo landed command old e.stands (stops end) → status.Done ≡ status_of end → SaysLast (message_of end) e.stands new f f'
+          → (f' ≡ f) × CameTo landed command old new (stops done)
       by done came is says = (says.0, subst (λ (s : Outside). CameTo landed command old s (stops done)) (sym says.1) came)
       by (refused fault line) came is says = absurd (subst is_done is tt)
       by misused came is says = absurd (subst is_done is tt)
@@ -257,7 +259,8 @@ kept_outside : (old new : Outside) (f f' : Counts) (message : Option (List ℕ))
 kept_outside old new f f' None (same, is) = (ap (λ (w : Outside). w.contents) is, ap (λ (w : Outside). w.out) is)
 kept_outside old new f f' (Some text) says = by says.said
   where
-    by : ((f' ≡ f) × (new ≡ outside old.contents old.out (grown old.err text))) ⊎ (CountRose (to_write (to_err text)) f f' × Broken (λ _ bytes. bytes) old (to_write (to_err text)) new) → (new.contents ≡ old.contents) × (new.out ≡ old.out)
+    by : ((f' ≡ f) × (new ≡ outside old.contents old.out (grown old.err text)))
+        ⊎ (CountRose (to_write (to_err text)) f f' × Broken (λ _ bytes. bytes) old (to_write (to_err text)) new) → (new.contents ≡ old.contents) × (new.out ≡ old.out)
     by (inl (same, is)) = (ap (λ (w : Outside). w.contents) is, ap (λ (w : Outside). w.out) is)
     by (inr (rose, (part, contents, out))) = (contents, out)
 

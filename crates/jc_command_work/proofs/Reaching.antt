@@ -32,7 +32,8 @@ module _ {Y : Type 0} (landed : Landed) (part : Part Y) (old : Outside) (f : Cou
   pub reached_last : {X Z : Type 0} (p : Part X) (make : X → Z) (glue : Z → Y) (glue' : X → Y) → ((x : X) → glue (make x) ≡ glue' x) → (now : Outside) (g : Counts)
       → Reached landed part (p >>= λ x. giving (make x)) glue old now f g → Reached landed part p glue' old now f g
   reached_last p make glue glue' is now g so = record {
-    came = λ new x came. subst (λ (y : Y). CameTo landed part old new (gives y)) (is x) (so.came new (make x) (came_then landed p (λ x. giving (make x)) now x new new (gives (make x)) came (nothing new (make x))));
+    came = λ new x came. subst (λ (y : Y). CameTo landed part old new (gives y)) (is x)
+        (so.came new (make x) (came_then landed p (λ x. giving (make x)) now x new new (gives (make x)) came (nothing new (make x))));
     ended = λ new f' stop next. so.ended new f' stop (stops_first landed p (λ x. giving (make x)) now new g f' stop next);
     same = so.same;
   }
@@ -46,7 +47,8 @@ module _ (landed : Landed) (all : List (List ℕ)) (old now mid : Outside) (f g 
   pub reached_text : Reached landed (reading_all all) (reading_all (path ∷ rest)) (λ more. texts ++ more) old now f g → h ≡ g → CameTo landed (reading path) now mid (gives text)
       → Reached landed (reading_all all) (reading_all rest) (λ more. (texts ++ text ∷ []) ++ more) old mid f h
   reached_text so same came =
-      reached_last landed (reading_all all) old f (reading_all rest) (λ more. text ∷ more) (λ more. texts ++ more) (λ more. (texts ++ text ∷ []) ++ more) (λ more. sym (append_assoc texts (text ∷ []) more)) mid h
+      reached_last landed (reading_all all) old f (reading_all rest) (λ more. text ∷ more) (λ more. texts ++ more)
+          (λ more. (texts ++ text ∷ []) ++ more) (λ more. sym (append_assoc texts (text ∷ []) more)) mid h
       (reached_next landed (reading_all all) old f (reading path) (λ t. reading_all rest >>= λ more. giving (t ∷ more)) (λ more. texts ++ more) now g so text mid h same came)
 
   pub reached_no_text : Reached landed (reading_all all) (reading_all (path ∷ rest)) (λ more. texts ++ more) old now f g → (stop : Option End) → Stops landed (reading path) now mid g h stop
@@ -54,7 +56,8 @@ module _ (landed : Landed) (all : List (List ℕ)) (old now mid : Outside) (f g 
   reached_no_text so stop stopped =
       reached_stop landed (reading_all all) old f (reading path) (λ t. reading_all rest >>= λ more. giving (t ∷ more)) (λ more. texts ++ more) now g so mid h stop stopped
 
-pub reached_all_texts : (landed : Landed) (all : List (List ℕ)) (old now : Outside) (f g : Counts) (texts : List (List ℕ)) → Reached landed (reading_all all) (reading_all []) (λ more. texts ++ more) old now f g
+pub reached_all_texts : (landed : Landed) (all : List (List ℕ)) (old now : Outside) (f g : Counts) (texts : List (List ℕ))
+    → Reached landed (reading_all all) (reading_all []) (λ more. texts ++ more) old now f g
     → (g ≡ f) × CameTo landed (reading_all all) old now (gives texts)
 reached_all_texts landed all old now f g texts so = (
   so.same,
@@ -119,7 +122,8 @@ module _ {A : Type 0} (landed : Landed) (named : A → Word) (xs : List A) where
   pub paths_start : (old : Outside) (f : Counts) → Reads 0 old old f f []
   paths_start old f = record { came = λ new x came. came; ended = λ new f' stop ended. ended; same = refl }
 
-  module _ (i : ℕ) (d : A) (within : i < length xs) (path : Word) (is : path ≡ named (get_or xs i d)) (old now mid : Outside) (f g h : Counts) (texts : List (List ℕ)) (so : Reads i old now f g texts) where
+  module _ (i : ℕ) (d : A) (within : i < length xs) (path : Word) (is : path ≡ named (get_or xs i d)) (old now mid : Outside) (f g h : Counts)
+      (texts : List (List ℕ)) (so : Reads i old now f g texts) where
     at_path : Reached landed (reading_all (map named xs)) (reading_all (path ∷ map named (drop (i + 1) xs))) (λ more. texts ++ more) old now f g
     at_path = subst (λ (l : List (List ℕ)). Reached landed (reading_all (map named xs)) (reading_all l) (λ more. texts ++ more) old now f g)
         (next_item named xs i d within ∙ ap (λ (w : Word). w ∷ map named (drop (i + 1) xs)) (sym is)) so

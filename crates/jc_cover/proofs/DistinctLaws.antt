@@ -67,7 +67,8 @@ covered_told [] n = refl
 covered_told (l ∷ insns) n = by l.covered (covered_told insns n)
   where
     by : (t : Bool) → is_covered_line insns n ≡ list_any (nat_eq n) (covered_numbers insns)
-        → ((nat_eq l.number n && t) || is_covered_line insns n) ≡ list_any (nat_eq n) (map (λ (k : Lined). k.number) (cond t (l ∷ filter (λ (k : Lined). k.covered) insns) (filter (λ (k : Lined). k.covered) insns)))
+        → ((nat_eq l.number n && t) || is_covered_line insns n) ≡ list_any (nat_eq n)
+            (map (λ (k : Lined). k.number) (cond t (l ∷ filter (λ (k : Lined). k.covered) insns) (filter (λ (k : Lined). k.covered) insns)))
     by true h = ap₂ (λ (s t : Bool). s || t) (and_true (nat_eq l.number n) ∙ nat_eq_equiv.symm l.number n) h
       where
         and_true : (s : Bool) → (s && true) ≡ s
@@ -83,7 +84,9 @@ covered_listed : (insns : List Lined) (n : ℕ) → Contains (covered_numbers in
 covered_listed [] n c = c
 covered_listed (l ∷ insns) n c = by (covered_listed insns n) l.covered c
   where
-    by : (Contains (covered_numbers insns) n → Contains (numbers insns) n) → (t : Bool) → Contains (map (λ (k : Lined). k.number) (cond t (l ∷ filter (λ (k : Lined). k.covered) insns) (filter (λ (k : Lined). k.covered) insns))) n → Contains (numbers (l ∷ insns)) n
+    by : (Contains (covered_numbers insns) n → Contains (numbers insns) n) → (t : Bool)
+        → Contains (map (λ (k : Lined). k.number) (cond t (l ∷ filter (λ (k : Lined). k.covered) insns) (filter (λ (k : Lined). k.covered) insns))) n
+        → Contains (numbers (l ∷ insns)) n
     by again true d =
         ⊎_elim
         (λ same. subst (λ k. Contains (k ∷ numbers insns) n) (sym same) (first_in n (numbers insns)))

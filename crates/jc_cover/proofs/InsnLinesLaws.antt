@@ -23,7 +23,8 @@ covered_join (l ∷ a) b = by l.covered (covered_join a b)
     kept : List Lined → List Lined
     kept xs = filter (λ k. k.covered) xs
 
-    by : (t : Bool) → covered_numbers (a ++ b) ≡ covered_numbers a ++ covered_numbers b → numbers (cond t (l ∷ kept (a ++ b)) (kept (a ++ b))) ≡ numbers (cond t (l ∷ kept a) (kept a)) ++ covered_numbers b
+    by : (t : Bool) → covered_numbers (a ++ b) ≡ covered_numbers a ++ covered_numbers b → numbers (cond t (l ∷ kept (a ++ b)) (kept (a ++ b)))
+        ≡ numbers (cond t (l ∷ kept a) (kept a)) ++ covered_numbers b
     by true h = ap (λ (ns : List ℕ). l.number ∷ ns) h
     by false h = h
 

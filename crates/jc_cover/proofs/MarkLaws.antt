@@ -223,7 +223,8 @@ module _ (b : Body) (first : ℕ) (hits : List Bool) where
       rest_suffix : (k : ℕ) (other : Insn) → slice_get code k ≡ Some other → slice_get b.code (i + 1 + k) ≡ Some other
       rest_suffix k other h = let z : i + suc k ≡ i + 1 + k = omega arith in subst (λ j. slice_get b.code j ≡ Some other) z (suffix (suc k) other h)
 
-      ahead : Each code → (t : Bool) (now : List Bool) → is_hit_at b first hits i insn ≡ t → After marks now → (t ≡ true → Marked now i) → AfterEach marks (mark_each b first hits from (i + 1) code now) i (insn ∷ code)
+      ahead : Each code → (t : Bool) (now : List Bool) → is_hit_at b first hits i insn ≡ t → After marks now → (t ≡ true → Marked now i)
+          → AfterEach marks (mark_each b first hits from (i + 1) code now) i (insn ∷ code)
       ahead again t now is a here =
           let more = again (i + 1) now rest_suffix a.good in
           record { after = record { good = more.after.good; kept = λ j m. more.after.kept j (a.kept j m) }; hit = hit more }
@@ -242,7 +243,8 @@ module _ (b : Body) (first : ℕ) (hits : List Bool) where
       by again true e =
           let lt = slice_get_within b.code i insn stands in
           let few : unmarked marks ≤ count = subst (λ n. unmarked marks ≤ n) good.size (unmarked_within marks) in
-          let m = marks_back count i marks lt good.size good.sound (λ j at k h. ⊎_elim (λ old. inl old) (λ none. absurd (none-some at none)) (good.closed j at k h)) (hit_is_covered i insn stands e) few in
+          let m = marks_back count i marks lt good.size good.sound
+                  (λ j at k h. ⊎_elim (λ old. inl old) (λ none. absurd (none-some at none)) (good.closed j at k h)) (hit_is_covered i insn stands e) few in
           ahead again true (mark_back from count i marks) e m.after (λ t. m.here)
       by again false e = ahead again false marks e (record { good = good; kept = λ j m. m }) (λ t. absurd (both_ways false refl t))
 
@@ -273,7 +275,8 @@ module _ (b : Body) (first : ℕ) (hits : List Bool) where
   all_marked x [] c =
       let s = standing b.code x c.0 in
       let z : 0 + x.at ≡ x.at = zero-add x.at in
-      let hit : is_hit_at b first hits x.at s.insn ≡ true = (one_passes (has_hit b first hits) (branches_of x.at s.insn)).back (x, s.listed, and_from (is_probed b x) (is_hit hits (id_of b first x)) c.1.0 c.1.1) in
+      let hit : is_hit_at b first hits x.at s.insn ≡ true = (one_passes (has_hit b first hits) (branches_of x.at s.insn)).back
+              (x, s.listed, and_from (is_probed b x) (is_hit hits (id_of b first x)) c.1.0 c.1.1) in
       subst (Marked marks) z (done.hit x.at s.insn s.stands (subst (λ j. is_hit_at b first hits j s.insn ≡ true) (sym z) hit))
   all_marked x (y ∷ rest) c =
       let next = all_marked y rest c.2 in

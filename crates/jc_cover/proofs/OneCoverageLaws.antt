@@ -43,7 +43,8 @@ module _ (bodies : List Body) (hits : List Bool) where
     insn_stands : slice_get body.code i ≡ Some insn
     size : length values ≡ length (branches_of i insn)
 
-  pub body_at : (c : Coverage) → HasShape bodies c → (n : ℕ) (insns : List (List Bool)) → slice_get c.edges n ≡ Some insns → (b : Body) × (slice_get bodies n ≡ Some b) × (map length insns ≡ body_shape b)
+  pub body_at : (c : Coverage) → HasShape bodies c → (n : ℕ) (insns : List (List Bool)) → slice_get c.edges n ≡ Some insns → (b : Body)
+      × (slice_get bodies n ≡ Some b) × (map length insns ≡ body_shape b)
   body_at c shape n insns h =
       let here : slice_get (map (map length) c.edges) n ≡ Some (map length insns) = slice_get-map (map length) c.edges n ∙ ap (option_map (map length)) h in
       let sized : length (map (map length) c.edges) ≡ length (map body_shape bodies) = ap length shape in
@@ -52,7 +53,8 @@ module _ (bodies : List Body) (hits : List Bool) where
       let there : slice_get (map body_shape bodies) n ≡ Some (body_shape s.0) = slice_get-map body_shape bodies n ∙ ap (option_map body_shape) s.1 in
       (s.0, s.1, same_Some (map length insns) (body_shape s.0) (sym here ∙ ap (λ l. slice_get l n) shape ∙ there))
 
-  shaped_at : (c : Coverage) → HasShape bodies c → (n i : ℕ) (insns : List (List Bool)) (values : List Bool) → slice_get c.edges n ≡ Some insns → slice_get insns i ≡ Some values → Shaped c n i insns values
+  shaped_at : (c : Coverage) → HasShape bodies c → (n i : ℕ) (insns : List (List Bool)) (values : List Bool) → slice_get c.edges n ≡ Some insns
+      → slice_get insns i ≡ Some values → Shaped c n i insns values
   shaped_at c shape n i insns values h g =
       let b = body_at c shape n insns h in
       let here : slice_get (map length insns) i ≡ Some (length values) = slice_get-map length insns i ∙ ap (option_map length) g in
@@ -69,7 +71,8 @@ module _ (bodies : List Body) (hits : List Bool) where
       }
 
   module _ (c d : Coverage) (tc : TellsCovered bodies hits c) (td : TellsCovered bodies hits d) where
-    values_same : (n i : ℕ) (insns others : List (List Bool)) (values more : List Bool) → slice_get c.edges n ≡ Some insns → slice_get d.edges n ≡ Some others → slice_get insns i ≡ Some values → slice_get others i ≡ Some more → values ≡ more
+    values_same : (n i : ℕ) (insns others : List (List Bool)) (values more : List Bool) → slice_get c.edges n ≡ Some insns
+        → slice_get d.edges n ≡ Some others → slice_get insns i ≡ Some values → slice_get others i ≡ Some more → values ≡ more
     values_same n i insns others values more h g k l =
         let s = shaped_at c tc.shape n i insns values h k in
         let r = shaped_at d td.shape n i others more g l in

@@ -23,7 +23,8 @@ use Rattle.jc_cover.specs.Counters.{AreAtMost, counters_of, counted_methods, is_
 abbrev size : Insn → ℕ
 size insn = 1 + arm_count insn
 
-pub sized : (i : ℕ) (code : List Insn) (values : List (List Bool)) → map length values ≡ map_from branch_count i code → (length values ≡ length code) × (sum_by length values ≤ length code + insns_and_arms code)
+pub sized : (i : ℕ) (code : List Insn) (values : List (List Bool)) → map length values ≡ map_from branch_count i code → (length values ≡ length code)
+    × (sum_by length values ≤ length code + insns_and_arms code)
 sized i [] [] e = (refl, omega arith)
 sized i [] (v ∷ values) e = absurd (omega (arith, ap length e))
 sized i (insn ∷ code) [] e = absurd (omega (arith, ap length e))
@@ -111,7 +112,8 @@ lined_few lines i [] = omega arith
 lined_few lines i (v ∷ insns) =
     omega (
       arith,
-      length-append (option_to_list (option_map (lined (is_covered v)) (line_of lines i))) (join_from (λ i values. option_to_list (option_map (lined (is_covered values)) (line_of lines i))) (i + 1) insns),
+      length-append (option_to_list (option_map (lined (is_covered v)) (line_of lines i)))
+          (join_from (λ i values. option_to_list (option_map (lined (is_covered values)) (line_of lines i))) (i + 1) insns),
       length_option (option_map (lined (is_covered v)) (line_of lines i)),
       lined_few lines (i + 1) insns,
     )
@@ -142,7 +144,8 @@ some_insns : (bodies : List Body) → All IsWellMade bodies → HaveInsns bodies
 some_insns [] all = tt
 some_insns (b ∷ bodies) all = ((all 0 b (omega arith)).of_any_size.code.some, some_insns bodies (λ k d lt. all (suc k) d (omega arith)))
 
-pub counters_small : (bodies : List Body) (coverage : Coverage) (most : ℕ) → All IsWellMade bodies → HasShape bodies coverage → sum_by (λ b. insns_and_arms b.code) bodies ≤ most → AreAtMost (4 * most) (counters_of bodies coverage)
+pub counters_small : (bodies : List Body) (coverage : Coverage) (most : ℕ) → All IsWellMade bodies → HasShape bodies coverage
+    → sum_by (λ b. insns_and_arms b.code) bodies ≤ most → AreAtMost (4 * most) (counters_of bodies coverage)
 counters_small bodies coverage most all shape few =
     let ms = counted_methods bodies coverage in
     let weight_few = all_weighed (λ m. is_counted m.body) bodies coverage.edges (some_insns bodies all) shape in

@@ -43,10 +43,12 @@ started [] table i lt = inr ((λ other entry h e. none-some entry h), refl)
 started (l ∷ lines) table i lt = by (started lines (set table l.at (Some l.line)) i (subst (λ n. i < n) (sym (length-set table l.at (Some l.line))) lt))
   where
     here : NoneAt lines i → get_or (with_lines lines (set table l.at (Some l.line))) i None ≡ get_or (set table l.at (Some l.line)) i None
-        → ((number : ℕ) × StartsAt (l ∷ lines) i number × (get_or (with_lines (l ∷ lines) table) i None ≡ Some number)) ⊎ (NoneAt (l ∷ lines) i × (get_or (with_lines (l ∷ lines) table) i None ≡ get_or table i None))
+        → ((number : ℕ) × StartsAt (l ∷ lines) i number × (get_or (with_lines (l ∷ lines) table) i None ≡ Some number))
+            ⊎ (NoneAt (l ∷ lines) i × (get_or (with_lines (l ∷ lines) table) i None ≡ get_or table i None))
     here none e =
         ⊎_elim
-        (λ same. inl (l.line, record { place = 0; line = l; listed = refl; here = same; is = refl; last = only }, e ∙ ap (λ k. get_or (set table k (Some l.line)) i None) same ∙ get_or-set_same table i (Some l.line) None lt))
+        (λ same. inl (l.line, record { place = 0; line = l; listed = refl; here = same; is = refl; last = only }, e
+            ∙ ap (λ k. get_or (set table k (Some l.line)) i None) same ∙ get_or-set_same table i (Some l.line) None lt))
         (λ apart. inr (nowhere (λ f. differ apart f), e ∙ get_or-set_other table l.at i (Some l.line) None (λ f. differ apart (sym f))))
         (cases_order l.at i)
       where
@@ -64,7 +66,8 @@ started (l ∷ lines) table i lt = by (started lines (set table l.at (Some l.lin
 
     by : ((number : ℕ) × StartsAt lines i number × (get_or (with_lines lines (set table l.at (Some l.line))) i None ≡ Some number))
         ⊎ (NoneAt lines i × (get_or (with_lines lines (set table l.at (Some l.line))) i None ≡ get_or (set table l.at (Some l.line)) i None))
-        → ((number : ℕ) × StartsAt (l ∷ lines) i number × (get_or (with_lines (l ∷ lines) table) i None ≡ Some number)) ⊎ (NoneAt (l ∷ lines) i × (get_or (with_lines (l ∷ lines) table) i None ≡ get_or table i None))
+        → ((number : ℕ) × StartsAt (l ∷ lines) i number × (get_or (with_lines (l ∷ lines) table) i None ≡ Some number))
+            ⊎ (NoneAt (l ∷ lines) i × (get_or (with_lines (l ∷ lines) table) i None ≡ get_or table i None))
     by (inl found) = inl (found.0, later l lines i found.0 found.1, found.2)
     by (inr none) = here none.0 none.1
 
@@ -128,7 +131,8 @@ starts_size lines count = lines_size lines (replicate count None) ∙ length-rep
 pub line_carried : (lines : List LineAt) (count n : ℕ) (start line : Option ℕ) → n < count → start ≡ get_or (with_lines lines (replicate count None)) n start → Carried lines n line
     → first_of start line ≡ line_of lines n
 line_carried lines count n start line lt read carried =
-    one_line lines n (first_of start line) (line_of lines n) (by (started lines (replicate count None) n (subst (λ k. n < k) (sym (length-replicate {A = Option ℕ} count None)) lt))) (line_found lines n)
+    one_line lines n (first_of start line) (line_of lines n)
+        (by (started lines (replicate count None) n (subst (λ k. n < k) (sym (length-replicate {A = Option ℕ} count None)) lt))) (line_found lines n)
   where
     is : start ≡ get_or (with_lines lines (replicate count None)) n None
     is = read ∙ get_or_default (with_lines lines (replicate count None)) n start None (subst (λ k. n < k) (sym (starts_size lines count)) lt)
@@ -139,7 +143,8 @@ line_carried lines count n start line lt read carried =
         let e : i + 1 ≡ n = omega (arith, z) in
         subst (IsLineOf lines n) (sym (carried.goes_on i e)) (by_before lines n i (line_of lines i) e none (line_found lines i))
 
-    by : ((number : ℕ) × StartsAt lines n number × (get_or (with_lines lines (replicate count None)) n None ≡ Some number)) ⊎ (NoneAt lines n × (get_or (with_lines lines (replicate count None)) n None ≡ get_or (replicate {A = Option ℕ} count None) n None))
+    by : ((number : ℕ) × StartsAt lines n number × (get_or (with_lines lines (replicate count None)) n None ≡ Some number))
+        ⊎ (NoneAt lines n × (get_or (with_lines lines (replicate count None)) n None ≡ get_or (replicate {A = Option ℕ} count None) n None))
         → IsLineOf lines n (first_of start line)
     by (inl found) = subst (λ s. IsLineOf lines n (first_of s line)) (sym (is ∙ found.2)) (by_start lines n found.0 found.1)
     by (inr none) = subst (λ s. IsLineOf lines n (first_of s line)) (sym (is ∙ none.1 ∙ get_or-replicate {A = Option ℕ} count n None None lt)) (before n refl none.0)
@@ -158,7 +163,8 @@ lining_begun table insns all covered = record { lined = sym (append-nil all); kn
 
 pub lining_more : (table : List LineAt) (insns : List (List Bool)) (at : ℕ) (values : List Bool) (all covered now told next known : List ℕ) (start line line' : Option ℕ) (t : Bool)
     → at < length insns → values ≡ get_or insns at values → start ≡ get_or (with_lines table (replicate (length insns) None)) at start → line' ≡ first_of start line → t ≡ is_covered values
-    → next ≡ now ++ option_to_list line' → known ≡ told ++ option_to_list (cond t line' None) → Lining table insns at all covered now told line → Lining table insns (at + 1) all covered next known line'
+    → next ≡ now ++ option_to_list line' → known ≡ told ++ option_to_list (cond t line' None) → Lining table insns at all covered now told line
+        → Lining table insns (at + 1) all covered next known line'
 lining_more table insns at values all covered now told next known start line line' t lt is read first test put put' l =
     let e : line' ≡ line_of table at = first ∙ line_carried table (length insns) at start line lt read l.carried in
     record {

@@ -75,13 +75,15 @@ any_counted p (x ∷ xs) = ap (nat_lt 0) (count_cons p x xs) ∙ by (p x) (any_c
 
 module _ where
   branch_cons : (v : List Bool) (insns : List (List Bool))
-      → count_of (λ (value : Bool). value) (flat_map (λ values. values) (branching (v ∷ insns))) ≡ plus_count (branch_values v) (count_of (λ (value : Bool). value) (flat_map (λ values. values) (branching insns)))
+      → count_of (λ (value : Bool). value) (flat_map (λ values. values) (branching (v ∷ insns))) ≡ plus_count (branch_values v)
+          (count_of (λ (value : Bool). value) (flat_map (λ values. values) (branching insns)))
   branch_cons v insns = by (nat_le 2 (length v))
     where
       rest : List Bool
       rest = flat_map (λ values. values) (branching insns)
 
-      by : (t : Bool) → count_of (λ (value : Bool). value) (flat_map (λ values. values) (cond t (v ∷ branching insns) (branching insns))) ≡ plus_count (cond t (count_of (λ (value : Bool). value) v) no_items) (count_of (λ (value : Bool). value) rest)
+      by : (t : Bool) → count_of (λ (value : Bool). value) (flat_map (λ values. values) (cond t (v ∷ branching insns) (branching insns)))
+          ≡ plus_count (cond t (count_of (λ (value : Bool). value) v) no_items) (count_of (λ (value : Bool). value) rest)
       by true =
           same_count (count_of (λ (value : Bool). value) (v ++ rest)) (plus_count (count_of (λ (value : Bool). value) v) (count_of (λ (value : Bool). value) rest))
           (count_join (λ (value : Bool). not value) v rest) (count_join (λ (value : Bool). value) v rest)
@@ -245,7 +247,8 @@ small_insns insns lt =
 
 -- an instruction has fewer branches than the method has instructions and branches
 pub few_values : (insns : List (List Bool)) (k : ℕ) (values : List Bool) → k < length insns → values ≡ get_or insns k values → length values < insns_weight insns
-few_values insns k values lt is = let le : length values ≤ sum_by length insns = subst (λ (v : List Bool). length v ≤ sum_by length insns) (sym is) (get_or-le-sum_by length insns k values lt) in omega (arith, le)
+few_values insns k values lt is = let le : length values ≤ sum_by length insns = subst (λ (v : List Bool). length v ≤ sum_by length insns) (sym is)
+                                          (get_or-le-sum_by length insns k values lt) in omega (arith, le)
 
 -- ---- on the way
 
@@ -261,7 +264,8 @@ insn_more insns k values sums next lt is put before =
 pub insn_small : (insns : List (List Bool)) (k : ℕ) (values : List Bool) (sums : Sums) → insns_weight insns < 4294967296 → k < length insns → values ≡ get_or insns k values
     → plus sums (insns_sums (drop k insns)) ≡ insns_sums insns → AreSmall (plus sums (insn_sums values))
 insn_small insns k values sums few lt is before =
-    part_small (plus sums (insn_sums values)) (insns_sums (drop (k + 1) insns)) (insns_sums insns) (insn_more insns k values sums (plus sums (insn_sums values)) lt is refl before) (small_insns insns few)
+    part_small (plus sums (insn_sums values)) (insns_sums (drop (k + 1) insns)) (insns_sums insns)
+        (insn_more insns k values sums (plus sums (insn_sums values)) lt is refl before) (small_insns insns few)
 
 pub all_insns_put : (insns : List (List Bool)) (k : ℕ) (sums : Sums) → length insns ≤ k → plus sums (insns_sums (drop k insns)) ≡ insns_sums insns → sums ≡ insns_sums insns
 all_insns_put insns k sums le before = sym (ap (λ (l : List (List Bool)). plus sums (insns_sums l)) (drop_all k insns le) ∙ plus_end sums) ∙ before

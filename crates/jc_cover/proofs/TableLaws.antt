@@ -40,7 +40,8 @@ back_size from (suc n) i marks = by (λ k m. back_size from n k m) (get_or marks
     by_source again None = length-set marks i true
     by_source again (Some k) = again k (set marks i true) ∙ length-set marks i true
 
-    by : ((k : ℕ) (m : List Bool) → length (mark_back from n k m) ≡ length m) → (m : Bool) → length (unless_marked m (λ old. at_source (get_or from i None) (mark_back from n) (set old i true)) marks) ≡ length marks
+    by : ((k : ℕ) (m : List Bool) → length (mark_back from n k m) ≡ length m) → (m : Bool)
+        → length (unless_marked m (λ old. at_source (get_or from i None) (mark_back from n) (set old i true)) marks) ≡ length marks
     by again true = refl
     by again false = by_source again (get_or from i None)
 

@@ -19,7 +19,8 @@ length_flat : {X : Type 0} (xs : List (List X)) → length (flat_map (λ values.
 length_flat [] = refl
 length_flat (x ∷ xs) = omega (arith, length-append x (flat_map (λ values. values) xs), sum_by-cons length x xs, length_flat xs)
 
-pub branch_whole : (insns : List (List Bool)) → count_by (λ value. not value) (flat_map (λ values. values) (branching insns)) + count_by (λ value. value) (flat_map (λ values. values) (branching insns)) ≡ sum_by length (branching insns)
+pub branch_whole : (insns : List (List Bool)) → count_by (λ value. not value) (flat_map (λ values. values) (branching insns)) + count_by
+    (λ value. value) (flat_map (λ values. values) (branching insns)) ≡ sum_by length (branching insns)
 branch_whole insns = count_whole (λ (value : Bool). value) (flat_map (λ values. values) (branching insns)) ∙ length_flat (branching insns)
 
 covered_within : (values : List Bool) → covered_branches values ≤ length values

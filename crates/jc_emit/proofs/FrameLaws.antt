@@ -129,7 +129,8 @@ module _ (b : Body) (first : ℕ) (states : List State) (array : ℕ) (names : L
   arms_rise here s (x ∷ xs) =
       rises_both here (here + hop_size (probe_of b first x)) (here + (hop_size (probe_of b first x) + arm_sizes (probe_of b first) xs)) (arm_frame b first states array here s (probe_of b first x)) _
       (single (probe_of b first x))
-      (rises_to (here + hop_size (probe_of b first x)) (here + hop_size (probe_of b first x) + arm_sizes (probe_of b first) xs) _ _ (omega arith) (arms_rise (here + hop_size (probe_of b first x)) s xs))
+      (rises_to (here + hop_size (probe_of b first x)) (here + hop_size (probe_of b first x) + arm_sizes (probe_of b first) xs) _ _ (omega arith)
+          (arms_rise (here + hop_size (probe_of b first x)) s xs))
     where
       single : (o : Option ℕ) → Rises here (here + hop_size o) (arm_frame b first states array here s o)
       single None = omega arith
@@ -203,7 +204,8 @@ module _ (b : Body) (first : ℕ) (states : List State) (array : ℕ) (names : L
   arms_good i lt here [] arms a listed f c = absurd (none_in f c)
   arms_good i lt here (x ∷ xs) arms a listed f c =
       ⊎_elim (λ front. single (probe_of b first x) refl front)
-      (λ rest. arms_good i lt (here + hop_size (probe_of b first x)) xs arms.3 (agrees_rest (probe_of b first) (land_of b first false) (whole i) here x xs arms.0 a) (λ y d. listed y (later_in x xs y d)) f rest)
+      (λ rest. arms_good i lt (here + hop_size (probe_of b first x)) xs arms.3
+          (agrees_rest (probe_of b first) (land_of b first false) (whole i) here x xs arms.0 a) (λ y d. listed y (later_in x xs y d)) f rest)
       (Contains-append_cases (arm_frame b first states array here (moved (left i)) (probe_of b first x)) _ f c)
     where
       single : (o : Option ℕ) → probe_of b first x ≡ o → Contains (arm_frame b first states array here (moved (left i)) o) f → IsGood f
@@ -245,10 +247,13 @@ module _ (b : Body) (first : ℕ) (states : List State) (array : ℕ) (names : L
       by None none =
           let place : land i ≡ lead i = let z = ap probe_size none in omega (arith, z) in
           subst (λ q. IsThere q (state_at states i)) place
-          (landing i lt (or_right (has_frame b first states array i) (has_inverse b first states array i && is_none (lead_probe b first i)) (and_from (has_inverse b first states array i) (is_none (lead_probe b first i)) inverse (ap is_none none))))
+          (landing i lt (or_right (has_frame b first states array i) (has_inverse b first states array i && is_none (lead_probe b first i))
+              (and_from (has_inverse b first states array i) (is_none (lead_probe b first i)) inverse (ap is_none none))))
       by (Some id) some =
           there i (frame (lead i) (moved (state_at states i))) (state_at states i) lt
-          (Contains-append_left (lead_frames i) _ _ (listed_if (leads_there i) (frame (lead i) (moved (state_at states i))) (and_from (has_inverse b first states array i) (is_some (lead_probe b first i)) inverse (ap is_some some)))) refl
+          (Contains-append_left
+              (lead_frames i) _ _ (listed_if (leads_there i) (frame (lead i) (moved (state_at states i)))
+                (and_from (has_inverse b first states array i) (is_some (lead_probe b first i)) inverse (ap is_some some)))) refl
 
   late_tests : (i id : ℕ) → late_probe b first i ≡ Some id → flow_of (insn_at b.code i) ≡ flows.Branches
   late_tests i id e = by (flow_of (insn_at b.code i)) e
@@ -282,7 +287,8 @@ module _ (b : Body) (first : ℕ) (states : List State) (array : ℕ) (names : L
   every_there : (q : ℕ) (s : State) → Asked q s → IsThere q s
   every_there q s (inl o) =
       let lt = frame_within 0 b.code b.max_locals b.max_stack b.frames are_frames o.frame o.listed in
-      let t = or_left (has_frame b first states array o.frame.at) (has_inverse b first states array o.frame.at && is_none (lead_probe b first o.frame.at)) (frame_tested b.frames o.frame.at o.frame o.listed refl) in
+      let t = or_left (has_frame b first states array o.frame.at)
+              (has_inverse b first states array o.frame.at && is_none (lead_probe b first o.frame.at)) (frame_tested b.frames o.frame.at o.frame o.listed refl) in
       let here = landing o.frame.at lt t in
       let state : state_at states o.frame.at ≡ s = fit o.frame o.listed ∙ sym o.state_is in
       subst (λ z. IsThere q z) state (subst (λ k. IsThere k (state_at states o.frame.at)) (sym o.place) here)
@@ -303,7 +309,8 @@ module _ (b : Body) (first : ℕ) (states : List State) (array : ℕ) (names : L
   frames_told = record { rising = all_rise; each = each_good; every = every_there }
 
   -- so they are the frames of the narrow layout
-  pub layout_told : AreTwinFrames names names b.arg_slots (image_of b first false) (IsFrame b first states (image_of b first false) (land_of b first false) (lead_of b first false) false) (pieces part (length b.code))
+  pub layout_told : AreTwinFrames names names b.arg_slots (image_of b first false)
+      (IsFrame b first states (image_of b first false) (land_of b first false) (lead_of b first false) false) (pieces part (length b.code))
   layout_told = record {
     rising = all_rise;
     each = λ f c. let good = each_good f c in (good.0, inl good.1, good.2);

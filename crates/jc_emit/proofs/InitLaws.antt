@@ -239,7 +239,9 @@ module _ (names : Names) (class : List ℕ) (id : ℤ) (count : ℕ) (b : Body) 
     after_is = a2;
     next = λ falls. fit_there (N 3) (on A) (on A) s3 (state_fits_same (on A));
     stops = λ halts. absurd (halts (inr refl));
-    jumps = λ r c. ⊎_elim (λ same. subst (λ k. HasFrame b k × FitsThere (Some (on A)) (N k)) same (has_end, fit_there (N 10) (on A) (on A) s10 (state_fits_same (on A)))) (λ more. absurd (none_in r more)) (which_in 10 ([]) r c);
+    jumps = λ r c. ⊎_elim
+        (λ same. subst (λ k. HasFrame b k × FitsThere (Some (on A)) (N k)) same
+          (has_end, fit_there (N 10) (on A) (on A) s10 (state_fits_same (on A)))) (λ more. absurd (none_in r more)) (which_in 10 ([]) r c);
   }
 
   code_long : length b.code ≡ 11

@@ -309,7 +309,8 @@ module _ (b : Body) (first : ℕ) (wide : Bool) (is_code : IsCode b.code) where
   pub listed_within : (i : ℕ) → i < length b.code → (x : Branch) → Contains (branches_by flows.Switches i (targets_of (old i))) x
       → to_of x < length b.code
   listed_within i lt x c =
-      all_listed (λ to. to < length b.code) (targets_of (old i)) (to_of x) (is_code.places i (insns.Simple 0) lt) (first_seen_listed (targets_of (old i)) (to_of x) (arm_listed i 0 (first_seen (targets_of (old i))) x c))
+      all_listed (λ to. to < length b.code) (targets_of (old i)) (to_of x) (is_code.places i (insns.Simple 0) lt)
+          (first_seen_listed (targets_of (old i)) (to_of x) (arm_listed i 0 (first_seen (targets_of (old i))) x c))
 
   arm_lands : (here : ℕ) (x : Branch) (o : Option ℕ) → HasAt items here (hop_part land o (to_of x)) → to_of x < length b.code
       → In (here_or o here (land (to_of x))) (to_of x) o
@@ -383,7 +384,9 @@ module _ (b : Body) (first : ℕ) (wide : Bool) (is_code : IsCode b.code) where
       let to = jump_target (old i) in
       let within = target_within i lt (tests_target (old i) e) in
       let next = next_lands i (q_of i + 1) lt (inr e) (omega (arith, size)) in
-      let alike : Alike i (with_places land (old i)) = record { target = land to; same = one_place (old i) land (tests_target (old i) e) (inr e); jumped = subst (In (land to) to) (sym (late_is i None e none)) (land_lands to within); fell = next.stands } in
+      let alike : Alike i (with_places land (old i)) =
+              record { target = land to; same = one_place (old i) land (tests_target (old i) e) (inr e);
+                jumped = subst (In (land to) to) (sym (late_is i None e none)) (land_lands to within); fell = next.stands } in
       (image_fine (q_of i) i _ None flows.Branches lt e refl (inl alike), tt)
   plain_fine true i lt e none size h =
       let to = jump_target (old i) in
@@ -440,7 +443,9 @@ module _ (b : Body) (first : ℕ) (wide : Bool) (is_code : IsCode b.code) where
   main_fine i flows.Branches lt e h = tests_fine i lt e (late_probe b first i) refl h
   main_fine i flows.Jumps lt e h =
       let to = jump_target (old i) in
-      let alike : Jumps i (with_places land (old i)) = record { target = land to; same = one_place (old i) land (jumps_target (old i) e) (inl e); jumped = land_lands to (target_within i lt (jumps_target (old i) e)) } in
+      let alike : Jumps i (with_places land (old i)) =
+              record { target = land to; same = one_place (old i) land (jumps_target (old i) e) (inl e);
+                jumped = land_lands to (target_within i lt (jumps_target (old i) e)) } in
       (image_fine (q_of i) i _ (early_probe b first i) flows.Jumps lt e (ap (early_by (probe_of b first) i (old i)) e) alike, tt)
   main_fine i flows.Switches lt e h =
       let list = arms_is b first wide 0 is_code i e in

@@ -53,7 +53,8 @@ probed_is b first id x e = by (is_probed b x) refl e
 
 -- ---- what stands at a place that isn't own
 
-module _ (b : Body) (first : ℕ) (wide : Bool) (code : List Insn) (m : Marks) (image land lead : ℕ → ℕ) (call : ℕ) (is_code : IsCode b.code) (s : Sentences b first wide code m image land lead call) where
+module _ (b : Body) (first : ℕ) (wide : Bool) (code : List Insn) (m : Marks) (image land lead : ℕ → ℕ) (call : ℕ) (is_code : IsCode b.code)
+    (s : Sentences b first wide code m image land lead call) where
   abbrev old : ℕ → Insn
   old i = insn_at b.code i
 

@@ -68,7 +68,8 @@ module _ (names new_names : Names) (b : Body) (frames : List FrameAt) (same : ma
     none_missing = λ i m. c.none_missing i (record { within = m.within; needs = needs_back i m.needs; none = λ h. m.none (moved_frame names new_names b.frames frames same i h) });
     entry = subst (FitsThere (Some (entry_of b))) (sym (state_same 0)) c.entry;
     after = λ i lt. ap is_some (after_same i) ∙ c.after i lt;
-    branches = λ i j leads. subst (λ o. FitsThere o (state_of new_names new j)) (sym (after_same i)) (subst (FitsThere (after_at names b i)) (sym (state_same j)) (c.branches i j (leads_back i j leads)));
+    branches = λ i j leads. subst (λ o. FitsThere o (state_of new_names new j)) (sym (after_same i))
+        (subst (FitsThere (after_at names b i)) (sym (state_same j)) (c.branches i j (leads_back i j leads)));
     handlers = λ h i guards lt.
         subst (λ o. FitsThere (at_handler b h o) (state_of new_names new h.target)) (sym (state_same i))
         (subst (FitsThere (at_handler b h (state_of names b i))) (sym (state_same h.target)) (c.handlers h i (record { row = guards.row; start = guards.start; end = guards.end }) lt));

@@ -58,7 +58,8 @@ seen names new_names states first b b' well t =
     let marks = marks_known b first t.wide t.call b'.code t.marks well.code t.code in
     let rows : b'.handlers ≡ map (moved_row (lead_of b first t.wide) (land_of b first t.wide)) b.handlers =
     t.tables.handlers_are
-    ∙ ap₂ (λ lead land. map (moved_row lead land) b.handlers) (leads_known b first t.wide t.call b'.code t.marks well.code t.code) (lands_known b first t.wide t.call b'.code t.marks well.code t.code) in
+    ∙ ap₂ (λ lead land. map (moved_row lead land) b.handlers) (leads_known b first t.wide t.call b'.code t.marks well.code t.code)
+        (lands_known b first t.wide t.call b'.code t.marks well.code t.code) in
     record {
       items = twin_items b first t.wide;
       call = t.call;

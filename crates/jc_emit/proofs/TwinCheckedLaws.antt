@@ -146,7 +146,8 @@ module _ (names new_names : Names) (states : List State) (first : ℕ) (wide : B
   same_caught g c = by (nat_eq g.class 0) refl
     where
       by : (t : Bool) → nat_eq g.class 0 ≡ t
-          → (if t then object (codes "java/lang/Throwable") else object (class_in (what_used b'.uses g.class))) ≡ (if t then object (codes "java/lang/Throwable") else object (class_in (what_used b.uses g.class)))
+          → (if t then object (codes "java/lang/Throwable") else object (class_in (what_used b'.uses g.class)))
+              ≡ (if t then object (codes "java/lang/Throwable") else object (class_in (what_used b.uses g.class)))
       by true e = refl
       by false e =
           let used = All-contains (λ h. h.class ≢ 0 → HasUse b.uses h.class IsClass) b.handlers g p.well.uses.by_handlers c (eqb-false g.class 0 e) in
@@ -173,7 +174,8 @@ module _ (names new_names : Names) (states : List State) (first : ℕ) (wide : B
       let piece = piece_of (length b.code) q (omega arith) (omega (arith, start)) (omega (arith, lt, l)) in
       let i = piece.owner in
       let low = piece.low in let high = piece.high in
-      let above : g.start ≤ i = ⊎_elim (λ below. let m = leads_grow names new_names states first wide call b b' p (suc i) g.start below in absurd (omega (arith, m, high, start))) (λ le. le) (cases_lt i g.start) in
+      let above : g.start ≤ i = ⊎_elim (λ below. let m = leads_grow names new_names states first wide call b b' p (suc i) g.start below in
+              absurd (omega (arith, m, high, start))) (λ le. le) (cases_lt i g.start) in
       let below : i < g.end = ⊎_elim (λ lt. lt) (λ le. let m = leads_grow names new_names states first wide call b b' p g.end i le in absurd (omega (arith, m, low, end))) (cases_lt i g.end) in
       let w = near_piece q i piece.within low high in
       let target = row.target in

@@ -194,7 +194,8 @@ module _ (names new_names : Names) (states : List State) (first : ℕ) (wide : B
       next : frame_at (frames_of names b) (suc i) ≡ None → After i lt ≡ S (suc i)
       next none =
           same_Some (After i lt) (S (suc i))
-          (sym (next_state names b i (old i) (S i) (After i lt) none (old_at names new_names states first wide call b b' p i lt) falls (state_of_b i lt) (after_b names new_names states first wide call b b' p i lt).1)
+          (sym (next_state names b i (old i) (S i) (After i lt) none (old_at names new_names states first wide call b b' p i lt) falls
+              (state_of_b i lt) (after_b names new_names states first wide call b b' p i lt).1)
           ∙ state_of_b (suc i) within)
 
       by : (o : Option TypeState) → F (lead (suc i)) ≡ o → Led (suc i)
@@ -244,7 +245,8 @@ module _ (names new_names : Names) (states : List State) (first : ℕ) (wide : B
           let r = probe_runs names new_names states first wide call b b' p (lead i) id i true l.before h l.state_is l.low (led_long i lt l) in
           landed_by i lt l
           (λ e. ap N (sym place)
-          ∙ next_is names new_names states first wide call b b' p (lead i + 1 + 1 + 1) (probe_store id i true) (with_one names new_names states first wide call b b' p l.before) (moved l.before) h.1.1.1.0 refl (ap F place ∙ e) r.state3 r.after3)
+          ∙ next_is names new_names states first wide call b b' p (lead i + 1 + 1 + 1) (probe_store id i true)
+              (with_one names new_names states first wide call b b' p l.before) (moved l.before) h.1.1.1.0 refl (ap F place ∙ e) r.state3 r.after3)
 
   -- ---- images
 
@@ -259,11 +261,13 @@ module _ (names new_names : Names) (states : List State) (first : ℕ) (wide : B
       by (Some id) some h =
           let size = ap probe_size some in
           let place : land i + 1 + 1 + 1 + 1 ≡ q_of i = omega (arith, size) in
-          let r = probe_runs names new_names states first wide call b b' p (land i) id i false (S i) h there (S_low names new_names states first wide call b b' p i lt) (S_long names new_names states first wide call b b' p i lt) in
+          let r = probe_runs names new_names states first wide call b b' p (land i) id i false (S i) h there
+                  (S_low names new_names states first wide call b b' p i lt) (S_long names new_names states first wide call b b' p i lt) in
           let found = early_image b first wide p.well.code i id (flow_of (old i)) some some (main_at b first wide call i lt) in
           let none = no_frame names new_names states first wide call b b' p (q_of i) (image found.0 i (Some id)) found.1 (λ l. some_none id l.2) in
           ap N (sym place)
-          ∙ next_is names new_names states first wide call b b' p (land i + 1 + 1 + 1) (probe_store id i false) (with_one names new_names states first wide call b b' p (S i)) (moved (S i)) h.1.1.1.0 refl (ap F place ∙ none) r.state3 r.after3
+          ∙ next_is names new_names states first wide call b b' p (land i + 1 + 1 + 1) (probe_store id i false)
+              (with_one names new_names states first wide call b b' p (S i)) (moved (S i)) h.1.1.1.0 refl (ap F place ∙ none) r.state3 r.after3
         where
           some_none : (id : ℕ) → Some id ≡ None → ⊥
           some_none id e = cc
@@ -305,7 +309,8 @@ module _ (names new_names : Names) (states : List State) (first : ℕ) (wide : B
   pub inverse_frame : (i id : ℕ) → i < length b.code → late_probe b first i ≡ Some id → Asked (lead (suc i)) (state_at states (suc i))
   inverse_frame i id lt some =
       subst (λ k. Asked (lead k) (state_at states k)) (add-one i)
-      (narrow names new_names states first wide call b b' p (lead (i + 1)) (state_at states (i + 1)) (inr (inl (record { test = i; id = id; within = lt; probed = some; place = refl; state_is = refl }))))
+      (narrow names new_names states first wide call b b' p (lead (i + 1)) (state_at states (i + 1))
+          (inr (inl (record { test = i; id = id; within = lt; probed = some; place = refl; state_is = refl }))))
 
   -- behind a conditional jump of the wide layout
   pub wide_frame : (i : ℕ) → i < length b.code → flow_of (old i) ≡ flows.Branches → wide ≡ true
@@ -373,7 +378,8 @@ module _ (names new_names : Names) (states : List State) (first : ℕ) (wide : B
         state_is =
             ap N two
             ∙ next_state new_names b' 1 (astore v) (E_array names new_names states first wide call b b' p) (moved (entry_of b)) (ap F (sym two) ∙ e)
-            (stands names new_names states first wide call b b' p 1 init_store (prelude_at b first wide).1.0) (inl refl) (state_1 names new_names states first wide call b b' p) (after_1 names new_names states first wide call b b' p);
+            (stands names new_names states first wide call b b' p 1 init_store (prelude_at b first wide).1.0) (inl refl)
+                (state_1 names new_names states first wide call b b' p) (after_1 names new_names states first wide call b b' p);
         fits = there_fit (Some (entry_of b)) (state_of names b 0) (entry_of b) (S 0) refl (state_of_b 0 some) p.checked.entry;
         low = omega arith;
         same = λ none. same_Some (entry_of b) (S 0) (sym (first_state names b none) ∙ state_of_b 0 some);

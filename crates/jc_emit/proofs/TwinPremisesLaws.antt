@@ -85,8 +85,10 @@ premises names new_names states first b b' well checked are free t =
           (subst (λ f. AreMovedTables b (marks.lead_place b first t.marks.own) f b'.handlers b'.lines b'.vars b'.kind_vars) lands t.tables);
       frames =
           subst (λ f. AreTwinFrames names new_names b.arg_slots (image_of b first t.wide) (IsFrame b first states (image_of b first t.wide) (land_of b first t.wide) f t.wide) b'.frames) leads
-          (subst (λ f. AreTwinFrames names new_names b.arg_slots (image_of b first t.wide) (IsFrame b first states (image_of b first t.wide) f (marks.lead_place b first t.marks.own) t.wide) b'.frames) lands
-          (subst (λ f. AreTwinFrames names new_names b.arg_slots f (IsFrame b first states f (marks.land_place b first t.marks.own) (marks.lead_place b first t.marks.own) t.wide) b'.frames) images t.frames));
+          (subst (λ f. AreTwinFrames names new_names b.arg_slots (image_of b first t.wide)
+              (IsFrame b first states (image_of b first t.wide) f (marks.lead_place b first t.marks.own) t.wide) b'.frames) lands
+          (subst (λ f. AreTwinFrames names new_names b.arg_slots f
+              (IsFrame b first states f (marks.land_place b first t.marks.own) (marks.lead_place b first t.marks.own) t.wide) b'.frames) images t.frames));
       max_stack = t.max_stack;
       max_locals = t.max_locals;
     }

@@ -178,12 +178,14 @@ module _ (names new_names : Names) (states : List State) (first : ℕ) (wide : B
       let r = probe_runs names new_names states first wide call b b' p q id to true X front before low long in
       let here = h.1.1.1.1.0 in
       let none = no_frame names new_names states first wide call b b' p (q + 1 + 1 + 1 + 1) (hop (land to) to None) here (λ l. l.3) in
-      let at_hop = next_is names new_names states first wide call b b' p (q + 1 + 1 + 1) (probe_store id to true) (with_one names new_names states first wide call b b' p X) (moved X) h.1.1.1.0 refl none r.state3 r.after3 in
+      let at_hop = next_is names new_names states first wide call b b' p (q + 1 + 1 + 1) (probe_store id to true)
+              (with_one names new_names states first wide call b b' p X) (moved X) h.1.1.1.0 refl none r.state3 r.after3 in
       let five : q + 5 ≡ q + 1 + 1 + 1 + 1 + 1 = omega arith in
       let four : q + 1 + 1 + 1 + 1 ≡ q + 4 = omega arith in
       each_append (Fine i) q (probe id to true) (hop (land to) to None ∷ [])
       (probe_fine i q id to true X front before low long near (same_fits (N (q + 1 + 1 + 1 + 1)) (moved X) at_hop))
-      (subst (λ k. Fine i k (hop (land to) to None)) four (hop_fine i (q + 1 + 1 + 1 + 1) (land to) to None X here at_hop low near there (subst (λ k. k < length b'.code → HasFrame b' k) five stop)), tt)
+      (subst (λ k. Fine i k (hop (land to) to None)) four
+          (hop_fine i (q + 1 + 1 + 1 + 1) (land to) to None X here at_hop low near there (subst (λ k. k < length b'.code → HasFrame b' k) five stop)), tt)
 
   -- ---- where the instruction goes on
 
@@ -279,7 +281,8 @@ module _ (names new_names : Names) (states : List State) (first : ℕ) (wide : B
   behind_image i lt new here flow none =
       let up = add-one (q_of i) in
       ap N up
-      ∙ next_state new_names b' (q_of i) new (moved (S i)) (moved (After i lt)) (ap F (sym up) ∙ none) (stands names new_names states first wide call b b' p (q_of i) (image new i None) here) (inr flow)
+      ∙ next_state new_names b' (q_of i) new (moved (S i)) (moved (After i lt)) (ap F (sym up) ∙ none)
+          (stands names new_names states first wide call b b' p (q_of i) (image new i None) here) (inr flow)
       (all_imaged names new_names states first wide call b b' p i lt) (image_after names new_names states first wide call b b' p i lt)
 
   -- no frame stands behind a conditional jump of the narrow layout
@@ -343,7 +346,9 @@ module _ (names new_names : Names) (states : List State) (first : ℕ) (wide : B
       let new = inverse_jump (q_of i + 2) (with_places (land_of b first wide) (old i)) in
       let placed = placed_flow (old i) (land_of b first wide) e in
       let j = test_is (old i) e in
-      let flow : flow_of new ≡ flows.Branches = subst (λ o. flow_of (inverse_jump (q_of i + 2) (with_places (land_of b first wide) o)) ≡ flows.Branches) (sym j.is) (subst (λ o. flow_of (inverse_jump (q_of i + 2) o) ≡ flows.Branches) j.is (inverse_flow i (q_of i + 2) lt e)) in
+      let flow : flow_of new ≡ flows.Branches =
+              subst (λ o. flow_of (inverse_jump (q_of i + 2) (with_places (land_of b first wide) o)) ≡ flows.Branches) (sym j.is)
+              (subst (λ o. flow_of (inverse_jump (q_of i + 2) o) ≡ flows.Branches) j.is (inverse_flow i (q_of i + 2) lt e)) in
       let to = jump_target (with_places (land_of b first wide) (old i)) in
       let to_is : to ≡ land (jump_target (old i)) = placed_target (old i) (land_of b first wide) e in
       let hop_here = h.1.0 in
@@ -374,7 +379,8 @@ module _ (names new_names : Names) (states : List State) (first : ℕ) (wide : B
       let next = to_next i id lt e some in (
         testing i lt new (lead (i + 1)) h.0 flow (inverse_targets (old i) (lead (i + 1)) e) (same_fits (N (q_of i + 1)) (moved (After i lt)) at_probe)
             (subst (λ k. HasFrame b' k × FitsThere (Some (moved (After i lt))) (N k)) up next),
-        hop_part_fine i (q_of i + 1) id (jump_target (old i)) (After i lt) h.1 at_probe (A_low names new_names states first wide call b b' p i lt) (left_long i lt (inl e)) (left_near i lt (inl e)) (to_target i lt e)
+        hop_part_fine i (q_of i + 1) id (jump_target (old i)) (After i lt) h.1 at_probe (A_low names new_names states first wide call b b' p i lt)
+            (left_long i lt (inl e)) (left_near i lt (inl e)) (to_target i lt e)
             (λ short. subst (HasFrame b') end next.0),
       )
   probed_fine true i id lt w e some h =
@@ -387,7 +393,8 @@ module _ (names new_names : Names) (states : List State) (first : ℕ) (wide : B
       let j = test_is (old i) e in
       let good = subst IsWellFormed j.is (p.well.code.well_formed i (insns.Simple 0) lt) in
       let old_flow : flow_of (insns.Jump j.op j.to) ≡ flows.Branches = subst (λ o. flow_of o ≡ flows.Branches) j.is e in
-      let back : new ≡ insns.Jump j.op (q_of i + 2) = ap (λ o. inverse_jump (q_of i + 2) (inverse_jump (lead (i + 1)) o)) j.is ∙ ap (λ op. insns.Jump op (q_of i + 2)) (twice_inverse j.op j.to good old_flow) in
+      let back : new ≡ insns.Jump j.op (q_of i + 2) = ap (λ o. inverse_jump (q_of i + 2) (inverse_jump (lead (i + 1)) o)) j.is
+              ∙ ap (λ op. insns.Jump op (q_of i + 2)) (twice_inverse j.op j.to good old_flow) in
       let flow : flow_of new ≡ flows.Branches = ap flow_of back ∙ old_flow in
       let to = jump_target inner in
       let to_is : to ≡ lead (i + 1) = inverted_target (old i) (lead (i + 1)) e in
@@ -403,7 +410,8 @@ module _ (names new_names : Names) (states : List State) (first : ℕ) (wide : B
         (
           hop_fine i (q_of i + 1) to (i + 1) (lead_probe b first (i + 1)) (After i lt) hop_here at_hop (A_low names new_names states first wide call b b' p i lt) (left_near i lt (inl e))
               (subst (λ k. HasFrame b' k × FitsThere (Some (moved (After i lt))) (N k)) (up ∙ sym to_is) next) (λ short. subst (HasFrame b') two (to_behind i lt e w)),
-          hop_part_fine i (q_of i + 1 + 1) id (jump_target (old i)) (After i lt) h.1.1 at_probe (A_low names new_names states first wide call b b' p i lt) (left_long i lt (inl e)) (left_near i lt (inl e)) (to_target i lt e)
+          hop_part_fine i (q_of i + 1 + 1) id (jump_target (old i)) (After i lt) h.1.1 at_probe
+              (A_low names new_names states first wide call b b' p i lt) (left_long i lt (inl e)) (left_near i lt (inl e)) (to_target i lt e)
               (λ short. subst (HasFrame b') end next.0),
         ),
       )
@@ -422,7 +430,8 @@ module _ (names new_names : Names) (states : List State) (first : ℕ) (wide : B
       → HasFrame b' (whole i (to_of x)) × (N (whole i (to_of x)) ≡ Some (moved (After i lt)))
   arm_asked i lt x id c some =
       let s = left_by (old i) (state_at states i) in
-      let a = narrow names new_names states first wide call b b' p (whole i (to_of x)) s (inr (inr (record { switch = i; branch = x; id = id; within = lt; listed = c; probed = some; place = refl; state_is = refl }))) in (
+      let a = narrow names new_names states first wide call b b' p (whole i (to_of x)) s
+              (inr (inr (record { switch = i; branch = x; id = id; within = lt; listed = c; probed = some; place = refl; state_is = refl }))) in (
         asked_has names new_names states first wide call b b' p (whole i (to_of x)) s a,
         frame_state_is new_names b' (whole i (to_of x)) (moved (type_state names s)) (asked_frame names new_names states first wide call b b' p (whole i (to_of x)) s a)
             ∙ ap (λ t. Some (moved t)) (sym (left i lt (inr (arms_switch names new_names states first wide call b b' p i x c)))),
@@ -434,7 +443,8 @@ module _ (names new_names : Names) (states : List State) (first : ℕ) (wide : B
   arm_case here t [] = inl refl
   arm_case here t (x ∷ xs) = by (arm_case (here + hop_size (probe_of b first x)) t xs) (nat_eq (to_of x) t) refl (probe_of b first x) refl
     where
-      by : (arm_place (probe_of b first) (land_of b first wide) (here + hop_size (probe_of b first x)) xs t ≡ land t) ⊎ ((y : Branch) × (id : ℕ) × Contains xs y × (probe_of b first y ≡ Some id) × (to_of y ≡ t))
+      by : (arm_place (probe_of b first) (land_of b first wide) (here + hop_size (probe_of b first x)) xs t ≡ land t)
+          ⊎ ((y : Branch) × (id : ℕ) × Contains xs y × (probe_of b first y ≡ Some id) × (to_of y ≡ t))
           → (c : Bool) → nat_eq (to_of x) t ≡ c → (o : Option ℕ) → probe_of b first x ≡ o
           → ((if c then here_or (probe_of b first x) here (land t) else arm_place (probe_of b first) (land_of b first wide) (here + hop_size (probe_of b first x)) xs t) ≡ land t)
           ⊎ ((y : Branch) × (id : ℕ) × Contains (x ∷ xs) y × (probe_of b first y ≡ Some id) × (to_of y ≡ t))
@@ -460,7 +470,8 @@ module _ (names new_names : Names) (states : List State) (first : ℕ) (wide : B
       let place : here ≡ lead (suc i) = omega (arith, end) in
       subst (HasFrame b') (sym place) (stopped i lt (never (old i) flows.Switches e (λ x. cc) (λ x. cc)) (subst (λ k. k < length b'.code) place short))
   arms_frame i lt e here (x ∷ xs) arms a listed end short =
-      by (λ at. arms_frame i lt e (here + hop_size (probe_of b first x)) xs arms.3 (agrees_rest (probe_of b first) (land_of b first wide) (whole i) here x xs arms.0 a) (λ y d. listed y (later_in x xs y d)) (omega (arith, end)) at)
+      by (λ at. arms_frame i lt e (here + hop_size (probe_of b first x)) xs arms.3
+          (agrees_rest (probe_of b first) (land_of b first wide) (whole i) here x xs arms.0 a) (λ y d. listed y (later_in x xs y d)) (omega (arith, end)) at)
       (probe_of b first x) refl
     where
       by : (here + hop_size (probe_of b first x) < length b'.code → HasFrame b' (here + hop_size (probe_of b first x))) → (o : Option ℕ)
@@ -477,7 +488,8 @@ module _ (names new_names : Names) (states : List State) (first : ℕ) (wide : B
       → Contains (targets_of (old i)) (to_of x)
   arm_target i x e c =
       first_seen_listed (targets_of (old i)) (to_of x)
-      (arm_listed i 0 (first_seen (targets_of (old i))) x (subst (λ f. Contains (branches_by f i (targets_of (old i))) x) e (subst (λ l. Contains l x) (arms_are names new_names states first wide call b b' p i e) c)))
+      (arm_listed i 0 (first_seen (targets_of (old i))) x
+          (subst (λ f. Contains (branches_by f i (targets_of (old i))) x) e (subst (λ l. Contains l x) (arms_are names new_names states first wide call b b' p i e) c)))
 
   arms_fine : (i : ℕ) (lt : i < length b.code) → flow_of (old i) ≡ flows.Switches → (here : ℕ) (xs : List Branch) → Arms i xs
       → Agrees (probe_of b first) (land_of b first wide) (whole i) here xs
@@ -507,7 +519,8 @@ module _ (names new_names : Names) (states : List State) (first : ℕ) (wide : B
           let at_arm = ap N (sym (agrees_first (probe_of b first) (land_of b first wide) (whole i) here id x xs a some)) ∙ asked.1 in
           let size = ap hop_size some in
           let five : here + hop_size (probe_of b first x) ≡ here + 5 = omega (arith, size) in
-          hop_part_fine i here id (to_of x) (After i lt) h at_arm (A_low names new_names states first wide call b b' p i lt) (left_long i lt (inr e)) (left_near i lt (inr e)) (target_jump i (to_of x) lt (arm_target i x e c))
+          hop_part_fine i here id (to_of x) (After i lt) h at_arm (A_low names new_names states first wide call b b' p i lt) (left_long i lt (inr e))
+              (left_near i lt (inr e)) (target_jump i (to_of x) lt (arm_target i x e c))
           (subst (λ k. k < length b'.code → HasFrame b' k) five stop)
 
   -- ---- all images
@@ -576,7 +589,8 @@ module _ (names new_names : Names) (states : List State) (first : ℕ) (wide : B
           let place : lead i + 1 + 1 + 1 + 1 ≡ land i = omega (arith, size) in
           let fits = fits_shift (image_of b first wide) v l.before (S i) l.fits in
           probe_fine i (lead i) id i true l.before h l.state_is l.low (led_long names new_names states first wide call b b' p i lt l) fits.locals
-          (subst (λ k. FitsThere (Some (moved l.before)) (N k)) (sym place) (fit_there (N (land i)) (moved l.before) (moved (S i)) (all_landed names new_names states first wide call b b' p i lt) fits))
+          (subst (λ k. FitsThere (Some (moved l.before)) (N k)) (sym place)
+              (fit_there (N (land i)) (moved l.before) (moved (S i)) (all_landed names new_names states first wide call b b' p i lt) fits))
 
   early_fine : (i : ℕ) (lt : i < length b.code) → Each (Fine i) (land i) (early_part (early_probe b first i) i)
   early_fine i lt = by (early_probe b first i) refl (early_at b first wide call i lt)
@@ -586,7 +600,8 @@ module _ (names new_names : Names) (states : List State) (first : ℕ) (wide : B
       by (Some id) some h =
           let size = ap probe_size some in
           let place : land i + 1 + 1 + 1 + 1 ≡ q_of i = omega (arith, size) in
-          probe_fine i (land i) id i false (S i) h (all_landed names new_names states first wide call b b' p i lt) (S_low names new_names states first wide call b b' p i lt) (S_long names new_names states first wide call b b' p i lt)
+          probe_fine i (land i) id i false (S i) h (all_landed names new_names states first wide call b b' p i lt)
+              (S_low names new_names states first wide call b b' p i lt) (S_long names new_names states first wide call b b' p i lt)
           (fits_same (moved (S i)).locals)
           (subst (λ k. FitsThere (Some (moved (S i))) (N k)) (sym place) (same_fits (N (q_of i)) (moved (S i)) (all_imaged names new_names states first wide call b b' p i lt)))
 

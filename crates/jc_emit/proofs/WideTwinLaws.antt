@@ -64,7 +64,8 @@ seen_widened names v place image wide state s e h =
           (all_moved names place state.locals
           ∙ ap (map (renamed place)) locals
           ∙ map-insert (renamed place) (map (renamed image) (map (verification_type names) s.locals)) v (object probe_array_class)
-          ∙ ap (λ l. insert l v (object probe_array_class)) (images_twice place image (map (verification_type names) s.locals) ∙ ap (λ f. map (renamed f) (map (verification_type names) s.locals)) e)) k;
+          ∙ ap (λ l. insert l v (object probe_array_class)) (images_twice place image (map (verification_type names) s.locals)
+              ∙ ap (λ f. map (renamed f) (map (verification_type names) s.locals)) e)) k;
       stack =
           (all_moved names place state.stack
           ∙ ap (map (renamed place)) stack
@@ -173,7 +174,8 @@ module _ (b : Body) (first : ℕ) (states : List State) (array : ℕ) (names : L
   to_narrow : (q : ℕ) (s : State) → IsNarrowFrame b first states (image_of b first true) (land_of b first true) (lead_of b first true) q s
       → FromNarrow q s
   to_narrow q s (inl o) =
-      record { place = land_of b first false o.frame.at; asked = inl (record { frame = o.frame; listed = o.listed; place = refl; state_is = o.state_is }); is = land_is b first 0 is_code o.frame.at ∙ sym o.place }
+      record { place = land_of b first false o.frame.at;
+          asked = inl (record { frame = o.frame; listed = o.listed; place = refl; state_is = o.state_is }); is = land_is b first 0 is_code o.frame.at ∙ sym o.place }
   to_narrow q s (inr (inl o)) = record {
     place = lead_of b first false (o.test + 1);
     asked = inr (inl (record { test = o.test; id = o.id; within = o.within; probed = o.probed; place = refl; state_is = o.state_is }));
@@ -209,7 +211,9 @@ module _ (b : Body) (first : ℕ) (states : List State) (array : ℕ) (names : L
         (λ more.
         let h = each_behind b first states array names is_code are_frames fit named g more in
         let o = h.1.0 in
-        (h.0, inr (record { behind = record { test = o.test; within = o.within; tests = o.tests; place = ap P o.place ∙ behind_is_two o.test o.within o.tests; state_is = o.state_is }; layout = refl }), shift g.state h.0 h.2))
+        (h.0, inr (record { behind =
+            record { test = o.test; within = o.within; tests = o.tests; place = ap P o.place ∙ behind_is_two o.test o.within o.tests; state_is =
+              o.state_is }; layout = refl }), shift g.state h.0 h.2))
         from.1)
 
     abbrev IsThere : ℕ → State → Type 0
@@ -230,7 +234,8 @@ module _ (b : Body) (first : ℕ) (states : List State) (array : ℕ) (names : L
         carried (image_of b first true i + 2) (state_behind b states i o) g
         (inr (of_piece (wide_frames_at b first states array) n i g lt (listed_if (is_further b first states array i (late_probe b first i) (flow_of (insn_at b.code i))) g t)))
         (behind_is_two i lt e)
-        (seen_is b first states array names is_code are_frames fit named (state_behind b states i (late_probe b first i)) ∙ ap (λ p. shifted (image_of b first false) b.arg_slots (type_state names (state_behind b states i p))) late))
+        (seen_is b first states array names is_code are_frames fit named (state_behind b states i (late_probe b first i))
+            ∙ ap (λ p. shifted (image_of b first false) b.arg_slots (type_state names (state_behind b states i p))) late))
         (λ plain. stands o late plain)
         (cases_Bool (is_further b first states array i o flows.Branches))
       where
@@ -241,9 +246,11 @@ module _ (b : Body) (first : ℕ) (states : List State) (array : ℕ) (names : L
             → IsThere (image_of b first true i + 2) (state_behind b states i o)
         stands (Some id) late h = absurd (true_false h)
         stands None late h =
-            let both = and_parts (has_frame b first states array (i + 1)) (is_none (lead_probe b first (i + 1))) (not-false (has_frame b first states array (i + 1) && is_none (lead_probe b first (i + 1))) h) in
+            let both = and_parts (has_frame b first states array (i + 1)) (is_none (lead_probe b first (i + 1)))
+                    (not-false (has_frame b first states array (i + 1) && is_none (lead_probe b first (i + 1))) h) in
             let next = next_within b first false is_code i lt (inr e) in
-            let here = landing b first states array names is_code are_frames fit named (i + 1) next (or_left (has_frame b first states array (i + 1)) (has_inverse b first states array (i + 1) && is_none (lead_probe b first (i + 1))) both.0) in
+            let here = landing b first states array names is_code are_frames fit named (i + 1) next
+                    (or_left (has_frame b first states array (i + 1)) (has_inverse b first states array (i + 1) && is_none (lead_probe b first (i + 1))) both.0) in
             let up = ap (lead_of b first false) (add-one i) in
             let size = behind_is b first states array names is_code are_frames fit named i e ∙ ap hop_size late in
             let lead_size = ap probe_size (none_is (lead_probe b first (i + 1)) both.1) in

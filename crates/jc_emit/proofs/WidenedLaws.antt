@@ -276,7 +276,8 @@ module _ (b : Body) (first : ℕ) (call : ℕ) (is_code : IsCode b.code) where
   within_lead : (i : ℕ) → wide_place (code_of (seg_n i)) (probe_size (lead_probe b first i)) ≡ probe_size (lead_probe b first i)
   within_lead i =
       let rest = early_part (early_probe b first i) i ++ main_n i (flow_of (old i)) in
-      let long : probe_size (lead_probe b first i) ≡ length (code_of (lead_part (lead_probe b first i) i)) = sym (length-map (lead_part (lead_probe b first i) i) (insn_of call b.arg_slots) ∙ length-lead (lead_probe b first i) i) in
+      let long : probe_size (lead_probe b first i) ≡ length (code_of (lead_part (lead_probe b first i) i)) =
+              sym (length-map (lead_part (lead_probe b first i) i) (insn_of call b.arg_slots) ∙ length-lead (lead_probe b first i) i) in
       ap (λ l. wide_place l (probe_size (lead_probe b first i))) (code_both (lead_part (lead_probe b first i) i) rest)
       ∙ place_in_front (code_of (lead_part (lead_probe b first i) i)) (code_of rest) (probe_size (lead_probe b first i)) (omega (arith, long))
       ∙ ones_place (code_of (lead_part (lead_probe b first i) i)) (probe_size (lead_probe b first i)) (lead_ones (lead_probe b first i) i)

@@ -99,8 +99,9 @@ module _ (b : Body) (first : ℕ) (wide : Bool) (code : List Insn) (m : Marks) (
 
   -- ---- jumps
 
-  -- A conditional jump is the image of its instruction. Where it is wide, as its offset might not fit, the image is its inverse, which leads to the place two behind it, and directly behind it stands a
-  -- goto to where the jump leads, which belongs to the instruction to which it leads on.
+  -- A conditional jump is the image of its instruction. Where it is wide, as its offset might not fit, the image is its inverse, which leads
+  -- to the place two behind it, and directly behind it stands a goto to where the jump leads, which belongs to the instruction to which it
+  -- leads on.
   abbrev pub HasTest : Bool → ℕ → Insn → ℕ → Type 0
   HasTest false i insn on = HasImage i insn
   HasTest true i insn on =

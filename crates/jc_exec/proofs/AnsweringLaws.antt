@@ -53,7 +53,8 @@ Answered before text = IsTaken before text ⊎ IsRefused before text
 
 refused_here : (before : Store) (text taken rest : List ℕ) (read : List Block) (store : Store) → Reached before text taken rest read store
     → (why : Refused) → RefusedHere read store (length taken) rest why → Answered before text
-refused_here before text taken rest read store r why here = inr (why, record { read = read; taken = taken; rest = rest; store = store; parts = r.parts; blocks = r.blocks; union = r.union; refused = here })
+refused_here before text taken rest read store r why here =
+    inr (why, record { read = read; taken = taken; rest = rest; store = store; parts = r.parts; blocks = r.blocks; union = r.union; refused = here })
 
 -- no block that may follow stands in front
 unfit_here : (before : Store) (text taken rest : List ℕ) (read : List Block) (store : Store) → Reached before text taken rest read store → rest ≢ []

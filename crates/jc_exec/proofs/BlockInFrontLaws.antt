@@ -43,7 +43,9 @@ other_header_decided text = by (version_at text) refl
     by (Some (v, more)) is = version (nat_eq v 0x1007) refl
       where
         version : (b : Bool) → nat_eq v 0x1007 ≡ b → ((found : ℕ) × HasOtherHeader text found) ⊎ ((found : ℕ) → HasOtherHeader text found → ⊥)
-        version true own = inr (λ found h. h.other (ap (λ (r : ℕ × List ℕ). r.0) (some_is (found, h.more) (v, more) (sym (version_again text h.version h.more found h.parts h.value) ∙ is)) ∙ eqb-true v 0x1007 own))
+        version true own = inr
+            (λ found h. h.other (ap (λ (r : ℕ × List ℕ). r.0)
+                (some_is (found, h.more) (v, more) (sym (version_again text h.version h.more found h.parts h.value) ∙ is)) ∙ eqb-true v 0x1007 own))
         version false other = let t = version_takes text v more is in inl (v, record { version = t.0; more = more; parts = t.1; value = t.2; other = eqb-false v 0x1007 other })
 
 -- ---- the block in front

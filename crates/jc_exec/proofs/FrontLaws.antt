@@ -57,7 +57,8 @@ no_version at offset here kind none = unfit at offset 1 here kind by (λ found h
     by (session s) front more parts block follows is = omega (arith, is)
     by (class c) front more parts block follows is = omega (arith, is)
 
-pub unfit_session : (at : Reading) (offset : ℕ) → offset ≡ at.place → get_or at.left 0 0 ≡ 0x10 → ((s : Session) (front more : List ℕ) → at.left ≡ front ++ more → IsSessionBlock front s → ⊥) → IsUnfit at (bad_exec offset)
+pub unfit_session : (at : Reading) (offset : ℕ) → offset ≡ at.place → get_or at.left 0 0 ≡ 0x10
+    → ((s : Session) (front more : List ℕ) → at.left ≡ front ++ more → IsSessionBlock front s → ⊥) → IsUnfit at (bad_exec offset)
 unfit_session at offset here kind none = unfit at offset 0x10 here kind by (λ found h is. omega (arith, is))
   where
     by : (b : Block) (front more : List ℕ) → at.left ≡ front ++ more → IsBlock front b → MayStandAt at.place b → kind_of b ≡ 0x10 → ⊥
@@ -69,12 +70,14 @@ pub no_session : (at : Reading) (offset : ℕ) → offset ≡ at.place → get_o
 no_session at offset here kind none = unfit_session at offset here kind (λ s front more parts block. some_none (sym (session_again front more s block) ∙ sym (ap session_at parts) ∙ none))
 
 -- the id of the session is no modified UTF-8
-pub no_id : (at : Reading) (offset : ℕ) (read : Session × List ℕ) → offset ≡ at.place → get_or at.left 0 0 ≡ 0x10 → session_at at.left ≡ Some read → (IsModified read.0.id → ⊥) → IsUnfit at (bad_exec offset)
+pub no_id : (at : Reading) (offset : ℕ) (read : Session × List ℕ) → offset ≡ at.place → get_or at.left 0 0 ≡ 0x10 → session_at at.left ≡ Some read
+    → (IsModified read.0.id → ⊥) → IsUnfit at (bad_exec offset)
 no_id at offset read here kind found apart = unfit_session at offset here kind (λ s front more parts block.
     let same = some_is (s, more) read (sym (session_again front more s block) ∙ sym (ap session_at parts) ∙ found) in
     apart (subst (λ (r : Session × List ℕ). IsModified r.0.id) same block.2.text))
 
-unfit_class : (at : Reading) (offset : ℕ) → offset ≡ at.place → get_or at.left 0 0 ≡ 0x11 → ((c : ClassHits) (front more : List ℕ) → at.left ≡ front ++ more → IsClassBlock front c → ⊥) → IsUnfit at (bad_exec offset)
+unfit_class : (at : Reading) (offset : ℕ) → offset ≡ at.place → get_or at.left 0 0 ≡ 0x11
+    → ((c : ClassHits) (front more : List ℕ) → at.left ≡ front ++ more → IsClassBlock front c → ⊥) → IsUnfit at (bad_exec offset)
 unfit_class at offset here kind none = unfit at offset 0x11 here kind by (λ found h is. omega (arith, is))
   where
     by : (b : Block) (front more : List ℕ) → at.left ≡ front ++ more → IsBlock front b → MayStandAt at.place b → kind_of b ≡ 0x11 → ⊥
@@ -86,7 +89,8 @@ pub no_class : (at : Reading) (offset : ℕ) → offset ≡ at.place → get_or 
 no_class at offset here kind none = unfit_class at offset here kind (λ c front more parts block. some_none (sym (class_again front more c block) ∙ sym (ap class_at parts) ∙ none))
 
 -- the name of the class is no modified UTF-8
-pub no_name : (at : Reading) (offset : ℕ) (read : ClassHits × List ℕ) → offset ≡ at.place → get_or at.left 0 0 ≡ 0x11 → class_at at.left ≡ Some read → (IsModified read.0.name → ⊥) → IsUnfit at (bad_exec offset)
+pub no_name : (at : Reading) (offset : ℕ) (read : ClassHits × List ℕ) → offset ≡ at.place → get_or at.left 0 0 ≡ 0x11 → class_at at.left ≡ Some read
+    → (IsModified read.0.name → ⊥) → IsUnfit at (bad_exec offset)
 no_name at offset read here kind found apart = unfit_class at offset here kind (λ c front more parts block.
     let same = some_is (c, more) read (sym (class_again front more c block) ∙ sym (ap class_at parts) ∙ found) in
     apart (subst (λ (r : ClassHits × List ℕ). IsModified r.0.name) same block.2.text))

@@ -51,7 +51,8 @@ pub record Progress (known : Entries) (bytes : List ℕ) (reader : Reading) (mor
   pub offset : reader.place ≡ length taken
   pub gathers : Gathers known taken more fresh
 
-pub goes_on : (known : Entries) (bytes : List ℕ) (old new : Reading) (before after : Added) (b : Block) → Progress known bytes old before.sessions.items before.records.entries → Took old new b → Keeps known before after b
+pub goes_on : (known : Entries) (bytes : List ℕ) (old new : Reading) (before after : Added) (b : Block)
+    → Progress known bytes old before.sessions.items before.records.entries → Took old new b → Keeps known before after b
     → Progress known bytes new after.sessions.items after.records.entries
 goes_on known bytes old new before after b p t k =
     let g = p.gathers in
@@ -65,7 +66,8 @@ goes_on known bytes old new before after b p t k =
           begins = may_follow p.taken g.read b g.blocks (subst (λ (n : ℕ). MayStandAt n b) p.offset t.follows);
           whole = blocks_push p.taken g.read t.front b g.blocks.whole t.block;
         };
-        union = λ sessions. union_push (store_of sessions known) (store_with sessions known before.sessions.items before.records.entries) (store_with sessions known after.sessions.items after.records.entries) g.read b (g.union sessions) (k.union sessions);
+        union = λ sessions. union_push (store_of sessions known) (store_with sessions known before.sessions.items before.records.entries)
+            (store_with sessions known after.sessions.items after.records.entries) g.read b (g.union sessions) (k.union sessions);
         writable = k.writable g.writable;
         keyed = k.keyed;
       };
@@ -82,7 +84,8 @@ module _ (known : Entries) (bytes : List ℕ) (old : Reading) (more : List Sessi
     store = store_with sessions known more fresh;
     parts = p.parts;
     blocks = p.gathers.blocks;
-    union = union_blocks (blocks_of (store_of sessions known)) p.gathers.read (store_of sessions known) (store_with sessions known more fresh) (own_union (store_of sessions known) (keyed_apart known keyed)) (p.gathers.union sessions);
+    union = union_blocks (blocks_of (store_of sessions known)) p.gathers.read (store_of sessions known) (store_with sessions known more fresh)
+        (own_union (store_of sessions known) (keyed_apart known keyed)) (p.gathers.union sessions);
     refused = here;
   }
 
@@ -149,20 +152,25 @@ gathered_writable [] more a b = b
 gathered_writable (s ∷ ss) more a b = (a.0, gathered_writable ss more a.1 b)
 
 -- the blocks have no other union with the store
-pub gathered_only : (text : List ℕ) (ss more : List Session) (known fresh : Entries) → Keyed known → Gathers known text more fresh → (read : List Block) (s : Store) → Blocks text read → IsUnion (blocks_of (store_of ss known) ++ read) s → store_with ss known more fresh ≡ s
+pub gathered_only : (text : List ℕ) (ss more : List Session) (known fresh : Entries) → Keyed known → Gathers known text more fresh
+    → (read : List Block) (s : Store) → Blocks text read → IsUnion (blocks_of (store_of ss known) ++ read) s → store_with ss known more fresh ≡ s
 gathered_only text ss more known fresh keyed g read s blocks u =
     let before = blocks_of (store_of ss known) in
-    let own : IsUnion (before ++ g.read) (store_with ss known more fresh) = union_blocks before g.read (store_of ss known) (store_with ss known more fresh) (own_union (store_of ss known) (keyed_apart known keyed)) (g.union ss) in
+    let own : IsUnion (before ++ g.read) (store_with ss known more fresh) = union_blocks before g.read (store_of ss known)
+            (store_with ss known more fresh) (own_union (store_of ss known) (keyed_apart known keyed)) (g.union ss) in
     one_union (before ++ read) (store_with ss known more fresh) s (subst (λ (l : List Block). IsUnion (before ++ l) (store_with ss known more fresh)) (one_list text g.read read g.blocks blocks) own) u
 
-pub gathered_not_refused : (text : List ℕ) (ss more : List Session) (known fresh : Entries) → Keyed known → Gathers known text more fresh → (why : Refused) → FirstRefusal (store_of ss known) text why → ⊥
+pub gathered_not_refused : (text : List ℕ) (ss more : List Session) (known fresh : Entries) → Keyed known → Gathers known text more fresh
+    → (why : Refused) → FirstRefusal (store_of ss known) text why → ⊥
 gathered_not_refused text ss more known fresh keyed g why refused =
     let before = blocks_of (store_of ss known) in
     not_both (store_of ss known) text why
-    (g.read, store_with ss known more fresh, g.blocks, union_blocks before g.read (store_of ss known) (store_with ss known more fresh) (own_union (store_of ss known) (keyed_apart known keyed)) (g.union ss)) refused
+    (g.read, store_with ss known more fresh, g.blocks, union_blocks before g.read (store_of ss known) (store_with ss known more fresh)
+        (own_union (store_of ss known) (keyed_apart known keyed)) (g.union ss)) refused
 
 -- a text whose blocks have a union is refused for want of memory alone
-pub refused_not_taken : (e : Fail ExecRefusal) (before : Store) (text : List ℕ) → Refuses e before text → (read : List Block) (s : Store) → Blocks text read → IsUnion (blocks_of before ++ read) s → e ≡ fails.Memory
+pub refused_not_taken : (e : Fail ExecRefusal) (before : Store) (text : List ℕ) → Refuses e before text → (read : List Block) (s : Store)
+    → Blocks text read → IsUnion (blocks_of before ++ read) s → e ≡ fails.Memory
 refused_not_taken fails.Memory before text why read s blocks u = refl
 refused_not_taken (fails.Said refusal) before text why read s blocks u = absurd (not_both before text (why_of refusal) (read, s, blocks, u) why)
 
@@ -171,7 +179,8 @@ pub refused_for : (e : Fail ExecRefusal) (before : Store) (text : List ℕ) → 
 refused_for fails.Memory before text refuses why first = tt
 refused_for (fails.Said refusal) before text refuses why first = one_reason before text (why_of refusal) why refuses first
 
-pub put_adds : (ss : List Session) (es later : Entries) (r : ClassHits) → Puts es later r → (blocks : List Block) → IsUnion blocks (store_of ss es) → IsUnion (blocks ++ class r ∷ []) (store_of ss later)
+pub put_adds : (ss : List Session) (es later : Entries) (r : ClassHits) → Puts es later r → (blocks : List Block) → IsUnion blocks (store_of ss es)
+    → IsUnion (blocks ++ class r ∷ []) (store_of ss later)
 put_adds ss es later r p blocks u =
     let one : union_of (store_of ss es) (class r ∷ []) ≡ Some (store_of ss later) = rw p.merged refl in
     union_blocks blocks (class r ∷ []) (store_of ss es) (store_of ss later) u one

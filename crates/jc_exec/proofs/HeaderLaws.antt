@@ -38,7 +38,8 @@ version_bytes (x ∷ y ∷ z ∷ version) size a b value = absurd (omega (arith,
 pub same_bytes : (b : Bool) (xs ys zs : List ℕ) → b ≡ not (bytes_eq xs ys) → b ≡ false → ys ≡ zs → xs ≡ zs
 same_bytes b xs ys zs test apart is = (bytes_eq-Decides xs ys).0 (not-false (bytes_eq xs ys) (sym test ∙ apart)) ∙ is
 
-pub header_read : (left behind magic version rest : List ℕ) → magic ≡ take 3 left → behind ≡ drop 3 left → version ≡ take 2 behind → rest ≡ drop 2 behind → 2 ≤ length behind → magic ≡ 0x01 ∷ 0xc0 ∷ 0xc0 ∷ []
+pub header_read : (left behind magic version rest : List ℕ) → magic ≡ take 3 left → behind ≡ drop 3 left → version ≡ take 2 behind
+    → rest ≡ drop 2 behind → 2 ≤ length behind → magic ≡ 0x01 ∷ 0xc0 ∷ 0xc0 ∷ []
     → get_or version 0 0 < 256 → get_or version 1 0 < 256 → 256 * get_or version 0 0 + get_or version 1 0 ≡ 0x1007 → left ≡ header_text ++ rest
 header_read left behind magic version rest m b v r enough is high low value =
     let size : length version ≡ 2 = ap length v ∙ omega (arith, length-take 2 behind, enough) in

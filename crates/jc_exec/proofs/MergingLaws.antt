@@ -97,7 +97,8 @@ ids_with (c ∷ cs) ds r e = elim (first_step c r cs ds e) [
       ∙ ap (λ (b : Bool). (c.id ∷ ids_of cs) ++ cond (b || among r.id (ids_of cs)) [] (r.id ∷ [])) (sym other.0)
 ]
 
-merged_with : (rs cs ds : List ClassHits) (r : ClassHits) → OneOfEachId cs → AllByRecursion (IsMerged rs) cs → (among r.id (ids_of cs) ≡ false → among r.id (ids_of rs) ≡ false) → with_record cs r ≡ Some ds → AllByRecursion (IsMerged (rs ++ r ∷ [])) ds
+merged_with : (rs cs ds : List ClassHits) (r : ClassHits) → OneOfEachId cs → AllByRecursion (IsMerged rs) cs
+    → (among r.id (ids_of cs) ≡ false → among r.id (ids_of rs) ≡ false) → with_record cs r ≡ Some ds → AllByRecursion (IsMerged (rs ++ r ∷ [])) ds
 merged_with rs [] ds r apart a none e = subst (AllByRecursion (IsMerged (rs ++ r ∷ []))) (some_is (r ∷ []) ds e) (merged_first rs r (none refl), tt)
 merged_with rs (c ∷ cs) ds r apart a none e = elim (first_step c r cs ds e) [
   | inl same ↦ subst (AllByRecursion (IsMerged (rs ++ r ∷ []))) (sym same.2) (merged_same rs r c same.0 same.1 a.0, all_merged_other rs cs r (subst (λ (id : ℕ). IsNew id cs) same.0 apart.0) a.1)
@@ -124,7 +125,8 @@ filter_others : (x : ℕ) (xs : List ℕ) → AllByRecursion (λ y. x ≢ y) (fi
 filter_others x [] = tt
 filter_others x (y ∷ ys) = by (nat_eq x y) refl (filter_others x ys)
   where
-    by : (b : Bool) → nat_eq x y ≡ b → AllByRecursion (λ z. x ≢ z) (filter (λ z. not (nat_eq x z)) ys) → AllByRecursion (λ z. x ≢ z) (cond (not b) (y ∷ filter (λ z. not (nat_eq x z)) ys) (filter (λ z. not (nat_eq x z)) ys))
+    by : (b : Bool) → nat_eq x y ≡ b → AllByRecursion (λ z. x ≢ z) (filter (λ z. not (nat_eq x z)) ys)
+        → AllByRecursion (λ z. x ≢ z) (cond (not b) (y ∷ filter (λ z. not (nat_eq x z)) ys) (filter (λ z. not (nat_eq x z)) ys))
     by true is rest = rest
     by false is rest = (eqb-false x y is, rest)
 
@@ -154,7 +156,8 @@ union_session bs s t u =
       merged = subst (λ (l : List ClassHits). AllByRecursion (IsMerged l) s.classes) (sym records) u.merged;
     }
 
-union_record : (bs : List Block) (s : Store) (r : ClassHits) (ds : List ClassHits) → IsUnion bs s → with_record s.classes r ≡ Some ds → IsUnion (bs ++ class r ∷ []) (record { sessions = s.sessions; classes = ds })
+union_record : (bs : List Block) (s : Store) (r : ClassHits) (ds : List ClassHits) → IsUnion bs s → with_record s.classes r ≡ Some ds
+    → IsUnion (bs ++ class r ∷ []) (record { sessions = s.sessions; classes = ds })
 union_record bs s r ds u e =
     let rs = records_of bs in
     let records : records_of (bs ++ class r ∷ []) ≡ rs ++ r ∷ [] = records-append bs (class r ∷ []) in
@@ -182,7 +185,8 @@ pub union_blocks : (bs more : List Block) (s t : Store) → IsUnion bs s → uni
 union_blocks bs [] s t u e = subst (λ (l : List Block). IsUnion l t) (sym (append-nil bs)) (subst (IsUnion bs) (some_is s t e) u)
 union_blocks bs (b ∷ more) s t u e = by (with_block s b) refl e (λ s1 u1 e1. union_blocks (bs ++ b ∷ []) more s1 t u1 e1)
   where
-    by : (o : Option Store) → with_block s b ≡ o → option_and_then (λ (x : Store). union_of x more) o ≡ Some t → ((x : Store) → IsUnion (bs ++ b ∷ []) x → union_of x more ≡ Some t → IsUnion ((bs ++ b ∷ []) ++ more) t) → IsUnion (bs ++ b ∷ more) t
+    by : (o : Option Store) → with_block s b ≡ o → option_and_then (λ (x : Store). union_of x more) o ≡ Some t
+        → ((x : Store) → IsUnion (bs ++ b ∷ []) x → union_of x more ≡ Some t → IsUnion ((bs ++ b ∷ []) ++ more) t) → IsUnion (bs ++ b ∷ more) t
     by (Some x) is e next = subst (λ (l : List Block). IsUnion l t) (append_assoc bs (b ∷ []) more) (next x (union_block bs b s x u is) e)
     by None is e next = absurd cc
 
@@ -205,7 +209,8 @@ union_consistent bs s u = λ x y there_x there_y same.
     record { name = a.name ∙ sym b.name; count = a.count ∙ sym b.count }
 
 -- the record agrees with each merged one of its id
-agrees_all : (rs cs : List ClassHits) (r : ClassHits) → Consistent (rs ++ r ∷ []) → AllByRecursion (IsMerged rs) cs → AllByRecursion (HasRecord rs) (ids_of cs) → AllByRecursion (λ c. c.id ≡ r.id → Agrees r c) cs
+agrees_all : (rs cs : List ClassHits) (r : ClassHits) → Consistent (rs ++ r ∷ []) → AllByRecursion (IsMerged rs) cs
+    → AllByRecursion (HasRecord rs) (ids_of cs) → AllByRecursion (λ c. c.id ≡ r.id → Agrees r c) cs
 agrees_all rs [] r same a there = tt
 agrees_all rs (c ∷ cs) r same a there = (
   λ id.
@@ -230,13 +235,16 @@ front_consistent rs more same = λ x y there_x there_y id. same x y (Contains-ap
 
 merging_runs : (bs more : List Block) (s : Store) → IsUnion bs s → Consistent (records_of (bs ++ more)) → (t : Store) × (union_of s more ≡ Some t)
 merging_runs bs [] s u same = (s, refl)
-merging_runs bs (header ∷ more) s u same = merging_runs (bs ++ header ∷ []) more s (union_header bs s u) (subst (λ (l : List Block). Consistent (records_of l)) (sym (append_assoc bs (header ∷ []) more)) same)
+merging_runs bs (header ∷ more) s u same = merging_runs (bs ++ header ∷ []) more s (union_header bs s u)
+    (subst (λ (l : List Block). Consistent (records_of l)) (sym (append_assoc bs (header ∷ []) more)) same)
 merging_runs bs (session x ∷ more) s u same =
-    merging_runs (bs ++ session x ∷ []) more (record { sessions = s.sessions ++ x ∷ []; classes = s.classes }) (union_session bs s x u) (subst (λ (l : List Block). Consistent (records_of l)) (sym (append_assoc bs (session x ∷ []) more)) same)
+    merging_runs (bs ++ session x ∷ []) more (record { sessions = s.sessions ++ x ∷ []; classes = s.classes }) (union_session bs s x u)
+        (subst (λ (l : List Block). Consistent (records_of l)) (sym (append_assoc bs (session x ∷ []) more)) same)
 merging_runs bs (class r ∷ more) s u same =
     let rs = records_of bs in
     let later : Consistent (records_of ((bs ++ class r ∷ []) ++ more)) = subst (λ (l : List Block). Consistent (records_of l)) (sym (append_assoc bs (class r ∷ []) more)) same in
-    let one : Consistent (rs ++ r ∷ []) = subst Consistent (records-append bs (class r ∷ [])) (front_consistent (records_of (bs ++ class r ∷ [])) (records_of more) (subst Consistent (records-append (bs ++ class r ∷ []) more) later)) in
+    let one : Consistent (rs ++ r ∷ []) = subst Consistent (records-append bs (class r ∷ []))
+            (front_consistent (records_of (bs ++ class r ∷ [])) (records_of more) (subst Consistent (records-append (bs ++ class r ∷ []) more) later)) in
     let there : AllByRecursion (HasRecord rs) (ids_of s.classes) = subst (AllByRecursion (HasRecord rs)) (sym u.ids) (seen_has_record rs) in
     let fits = record_fits s.classes r (agrees_all rs s.classes r one u.merged there) in
     let rest = merging_runs (bs ++ class r ∷ []) more (record { sessions = s.sessions; classes = fits.0 }) (union_record bs s r fits.0 u fits.1) later in

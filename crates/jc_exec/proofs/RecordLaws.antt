@@ -57,7 +57,8 @@ lookup_insert q k w (e ∷ es) = by (nat_eq k e.0) refl (lookup_insert q k w es)
     same false true is = absurd cc
     same false false is = refl
 
-    other : (a b : Bool) → nat_eq q e.0 ≡ a → nat_eq q k ≡ b → nat_eq k e.0 ≡ false → cond a (Some e.1) (cond b (Some w) (lookup (nat_eq q) es)) ≡ cond b (Some w) (cond a (Some e.1) (lookup (nat_eq q) es))
+    other : (a b : Bool) → nat_eq q e.0 ≡ a → nat_eq q k ≡ b → nat_eq k e.0 ≡ false → cond a (Some e.1) (cond b (Some w) (lookup (nat_eq q) es))
+        ≡ cond b (Some w) (cond a (Some e.1) (lookup (nat_eq q) es))
     other true true p r apart = absurd (eqb-false k e.0 apart (sym (eqb-true q k r) ∙ eqb-true q e.0 p))
     other true false p r apart = refl
     other false true p r apart = refl
@@ -80,7 +81,8 @@ pub lookup_gathered : (k : ℕ) (es fs : Entries) (c : ClassHits) → Keyed fs �
 lookup_gathered k es [] c keyed is = absurd cc
 lookup_gathered k es (f ∷ fs) c keyed is = by (nat_eq k f.0) refl is (λ later. lookup_gathered k (insert_entry nat_eq es f.0 f.1) fs c keyed.4 later)
   where
-    by : (b : Bool) → nat_eq k f.0 ≡ b → cond b (Some f.1) (lookup (nat_eq k) fs) ≡ Some c → (lookup (nat_eq k) fs ≡ Some c → lookup (nat_eq k) (insert_all nat_eq (insert_entry nat_eq es f.0 f.1) fs) ≡ Some c)
+    by : (b : Bool) → nat_eq k f.0 ≡ b → cond b (Some f.1) (lookup (nat_eq k) fs) ≡ Some c
+        → (lookup (nat_eq k) fs ≡ Some c → lookup (nat_eq k) (insert_all nat_eq (insert_entry nat_eq es f.0 f.1) fs) ≡ Some c)
         → lookup (nat_eq k) (insert_all nat_eq (insert_entry nat_eq es f.0 f.1) fs) ≡ Some c
     by true same is rest =
         let id : f.1.id ≡ k = sym keyed.0 ∙ sym (eqb-true k f.0 same) in
@@ -118,7 +120,8 @@ insert_past : (k : ℕ) (w : ClassHits) (es fs : Entries) → Keyed fs → IsNew
 insert_past k w es [] keyed new some = refl
 insert_past k w es (f ∷ fs) keyed new some =
     let apart : nat_eq k f.0 ≡ false = ne_eqb k f.0 (λ same. new.0 (same ∙ keyed.0)) in
-    let still : is_some (lookup (nat_eq k) (insert_entry nat_eq es f.0 f.1)) ≡ true = ap is_some (lookup_insert k f.0 f.1 es ∙ ap (λ (b : Bool). cond b (Some f.1) (lookup (nat_eq k) es)) apart) ∙ some in
+    let still : is_some (lookup (nat_eq k) (insert_entry nat_eq es f.0 f.1)) ≡ true =
+            ap is_some (lookup_insert k f.0 f.1 es ∙ ap (λ (b : Bool). cond b (Some f.1) (lookup (nat_eq k) es)) apart) ∙ some in
     ap (λ (l : Entries). insert_all nat_eq l fs) (insert_swap k f.0 f.1 w es apart some) ∙ insert_past k w (insert_entry nat_eq es f.0 f.1) fs keyed.4 new.1 still
 
 -- to gather a record is to put it into the whole
@@ -126,11 +129,13 @@ pub insert_gathered : (k : ℕ) (w : ClassHits) (es fs : Entries) → Keyed fs �
 insert_gathered k w es [] keyed = refl
 insert_gathered k w es (f ∷ fs) keyed = by (nat_eq k f.0) refl (insert_gathered k w (insert_entry nat_eq es f.0 f.1) fs keyed.4)
   where
-    by : (b : Bool) → nat_eq k f.0 ≡ b → insert_all nat_eq (insert_entry nat_eq es f.0 f.1) (insert_entry nat_eq fs k w) ≡ insert_entry nat_eq (insert_all nat_eq (insert_entry nat_eq es f.0 f.1) fs) k w
+    by : (b : Bool) → nat_eq k f.0 ≡ b → insert_all nat_eq (insert_entry nat_eq es f.0 f.1) (insert_entry nat_eq fs k w) ≡ insert_entry nat_eq
+        (insert_all nat_eq (insert_entry nat_eq es f.0 f.1) fs) k w
         → insert_all nat_eq es (cond b ((f.0, w) ∷ fs) (f ∷ insert_entry nat_eq fs k w)) ≡ insert_entry nat_eq (insert_all nat_eq (insert_entry nat_eq es f.0 f.1) fs) k w
     by true is rest =
         let same : k ≡ f.0 = eqb-true k f.0 is in
-        let some : is_some (lookup (nat_eq k) (insert_entry nat_eq es k f.1)) ≡ true = ap is_some (lookup_insert k k f.1 es ∙ ap (λ (b : Bool). cond b (Some f.1) (lookup (nat_eq k) es)) (eq-eqb k k refl)) in
+        let some : is_some (lookup (nat_eq k) (insert_entry nat_eq es k f.1)) ≡ true =
+                ap is_some (lookup_insert k k f.1 es ∙ ap (λ (b : Bool). cond b (Some f.1) (lookup (nat_eq k) es)) (eq-eqb k k refl)) in
         ap (λ (n : ℕ). insert_all nat_eq (insert_entry nat_eq es n w) fs) (sym same)
         ∙ ap (λ (l : Entries). insert_all nat_eq l fs) (sym (insert_again k f.1 w es))
         ∙ insert_past k w (insert_entry nat_eq es k f.1) fs keyed.4 (subst (λ (n : ℕ). IsNew n (classes_of fs)) (sym keyed.0 ∙ sym same) keyed.3) some
@@ -194,7 +199,8 @@ record_new (e ∷ es) r keyed none =
     let apart : nat_eq e.1.id r.id ≡ false = ne_eqb e.1.id r.id (λ same. eqb-false r.id e.0 n.0 (sym same ∙ sym keyed.0)) in
     rw (apart, n.0, record_new es r keyed.4 n.1) refl
 
-record_known : (es : Entries) (r c : ClassHits) → Keyed es → lookup (nat_eq r.id) es ≡ Some c → agree c r ≡ true → with_record (classes_of es) r ≡ Some (classes_of (insert_entry nat_eq es r.id (either_hits c r)))
+record_known : (es : Entries) (r c : ClassHits) → Keyed es → lookup (nat_eq r.id) es ≡ Some c → agree c r ≡ true
+    → with_record (classes_of es) r ≡ Some (classes_of (insert_entry nat_eq es r.id (either_hits c r)))
 record_known [] r c keyed is agrees = absurd cc
 record_known (e ∷ es) r c keyed is agrees = by (nat_eq r.id e.0) refl is (λ later. record_known es r c keyed.4 later agrees)
   where
@@ -224,14 +230,16 @@ module _ (es fs : Entries) (r : ClassHits) (known : Keyed es) (fresh : Keyed fs)
   pub merges_new : (later : Entries) → lookup (nat_eq r.id) fs ≡ None → lookup (nat_eq r.id) es ≡ None → later ≡ insert_entry nat_eq fs r.id r → Merges es fs later r
   merges_new later none new is = merges r later refl small text (record_new (insert_all nat_eq es fs) r (keyed_over es fs known fresh) (lookup_known r.id es fs none ∙ new)) is
 
-  merges_in : (c v : ClassHits) (later : Entries) → Found r.id (insert_all nat_eq es fs) c → lookup (nat_eq r.id) (insert_all nat_eq es fs) ≡ Some c → GivesMerged c r v → later ≡ insert_entry nat_eq fs r.id v → Merges es fs later r
+  merges_in : (c v : ClassHits) (later : Entries) → Found r.id (insert_all nat_eq es fs) c → lookup (nat_eq r.id) (insert_all nat_eq es fs) ≡ Some c
+      → GivesMerged c r v → later ≡ insert_entry nat_eq fs r.id v → Merges es fs later r
   merges_in c v later f found gives is =
       merges (either_hits c r) later f.id (small_either c r f.small gives.0) f.text
       (record_known (insert_all nat_eq es fs) r c (keyed_over es fs known fresh) found gives.0)
       (is ∙ ap (insert_entry nat_eq fs r.id) gives.1)
 
   -- a record of its id is known, and none was gathered
-  pub merges_known : (c v : ClassHits) (later : Entries) → lookup (nat_eq r.id) fs ≡ None → lookup (nat_eq r.id) es ≡ Some c → GivesMerged c r v → later ≡ insert_entry nat_eq fs v.id v → Merges es fs later r
+  pub merges_known : (c v : ClassHits) (later : Entries) → lookup (nat_eq r.id) fs ≡ None → lookup (nat_eq r.id) es ≡ Some c → GivesMerged c r v
+      → later ≡ insert_entry nat_eq fs v.id v → Merges es fs later r
   merges_known c v later none there gives is =
       let at = lookup_known r.id es fs none ∙ there in
       let f = found r.id (insert_all nat_eq es fs) c (keyed_over es fs known fresh) at in
@@ -249,7 +257,8 @@ pub refuses_record : (es : Entries) (c r : ClassHits) (e : Fail ExecRefusal) →
 refuses_record es c r fails.Memory f why = tt
 refuses_record es c r (fails.Said refusal) f why = (c, record { holds = f.there; same_id = f.id; differs = agree_apart c r why.0 }, why.1)
 
-pub refuses_known : (es fs : Entries) (c r : ClassHits) (e : Fail ExecRefusal) → Keyed es → Keyed fs → lookup (nat_eq r.id) fs ≡ None → lookup (nat_eq r.id) es ≡ Some c → RefusesMerging c r e → RefusesRecord e (over es fs) r
+pub refuses_known : (es fs : Entries) (c r : ClassHits) (e : Fail ExecRefusal) → Keyed es → Keyed fs → lookup (nat_eq r.id) fs ≡ None
+    → lookup (nat_eq r.id) es ≡ Some c → RefusesMerging c r e → RefusesRecord e (over es fs) r
 refuses_known es fs c r e known fresh none there why =
     refuses_record (insert_all nat_eq es fs) c r e (found r.id (insert_all nat_eq es fs) c (keyed_over es fs known fresh) (lookup_known r.id es fs none ∙ there)) why
 
@@ -257,7 +266,8 @@ pub refuses_gathered : (es fs : Entries) (c r : ClassHits) (e : Fail ExecRefusal
 refuses_gathered es fs c r e known fresh there why =
     refuses_record (insert_all nat_eq es fs) c r e (found r.id (insert_all nat_eq es fs) c (keyed_over es fs known fresh) (lookup_gathered r.id es fs c fresh there)) why
 
-pub gathered_ok : (result : Result (Unit {0}) (Fail ExecRefusal)) (es fs later : Entries) (c v r : ClassHits) → Keyed es → Keyed fs → IsSmall r → IsModified r.name → lookup (nat_eq r.id) fs ≡ Some c → MergesInto result c v r
+pub gathered_ok : (result : Result (Unit {0}) (Fail ExecRefusal)) (es fs later : Entries) (c v r : ClassHits) → Keyed es → Keyed fs → IsSmall r
+    → IsModified r.name → lookup (nat_eq r.id) fs ≡ Some c → MergesInto result c v r
     → later ≡ set_value (nat_eq r.id) fs v → OnOk result (Merges es fs later r)
 gathered_ok (Ok done) es fs later c v r known fresh small text there merges is = merges_gathered es fs r known fresh small text c v later there merges is
 gathered_ok (Err e) es fs later c v r known fresh small text there merges is = tt
@@ -269,24 +279,28 @@ gathered_err (Err e) es fs c v r known fresh there merges = refuses_gathered es 
 
 -- ---- the records of a store with one more
 
-puts : (es later : Entries) (v r : ClassHits) → Keyed es → v.id ≡ r.id → IsSmall v → IsModified v.name → with_record (classes_of es) r ≡ Some (classes_of (insert_entry nat_eq es r.id v)) → later ≡ insert_entry nat_eq es r.id v → Puts es later r
+puts : (es later : Entries) (v r : ClassHits) → Keyed es → v.id ≡ r.id → IsSmall v → IsModified v.name
+    → with_record (classes_of es) r ≡ Some (classes_of (insert_entry nat_eq es r.id v)) → later ≡ insert_entry nat_eq es r.id v → Puts es later r
 puts es later v r keyed id small text one is = subst (λ (l : Entries). Puts es l r) (sym is) (record { merged = one; keyed = keyed_insert r.id v es keyed id small text })
 
 pub puts_new : (es later : Entries) (r : ClassHits) → Keyed es → IsSmall r → IsModified r.name → lookup (nat_eq r.id) es ≡ None → later ≡ insert_entry nat_eq es r.id r → Puts es later r
 puts_new es later r keyed small text none is = puts es later r r keyed refl small text (record_new es r keyed none) is
 
-pub puts_known : (result : Result (Unit {0}) (Fail ExecRefusal)) (es later : Entries) (c v r : ClassHits) → Keyed es → lookup (nat_eq r.id) es ≡ Some c → MergesInto result c v r → later ≡ set_value (nat_eq r.id) es v → OnOk result (Puts es later r)
+pub puts_known : (result : Result (Unit {0}) (Fail ExecRefusal)) (es later : Entries) (c v r : ClassHits) → Keyed es
+    → lookup (nat_eq r.id) es ≡ Some c → MergesInto result c v r → later ≡ set_value (nat_eq r.id) es v → OnOk result (Puts es later r)
 puts_known (Ok done) es later c v r keyed there merges is =
     let f = found r.id es c keyed there in
     puts es later (either_hits c r) r keyed f.id (small_either c r f.small merges.0) f.text (record_known es r c keyed there merges.0)
     (is ∙ set_is_insert r.id v es c there ∙ ap (insert_entry nat_eq es r.id) merges.1)
 puts_known (Err e) es later c v r keyed there merges is = tt
 
-pub known_refused : (result : Result (Unit {0}) (Fail ExecRefusal)) (es : Entries) (c v r : ClassHits) → Keyed es → lookup (nat_eq r.id) es ≡ Some c → MergesInto result c v r → IfErr result (λ e. RefusesRecord e (classes_of es) r)
+pub known_refused : (result : Result (Unit {0}) (Fail ExecRefusal)) (es : Entries) (c v r : ClassHits) → Keyed es → lookup (nat_eq r.id) es ≡ Some c
+    → MergesInto result c v r → IfErr result (λ e. RefusesRecord e (classes_of es) r)
 known_refused (Ok done) es c v r keyed there merges = tt
 known_refused (Err e) es c v r keyed there merges = refuses_record es c r e (found r.id es c keyed there) merges.1
 
-pub known_unchanged : (result : Result (Unit {0}) (Fail ExecRefusal)) (es later : Entries) (c v r : ClassHits) → lookup (nat_eq r.id) es ≡ Some c → MergesInto result c v r → later ≡ set_value (nat_eq r.id) es v → OnErr result (later ≡ es)
+pub known_unchanged : (result : Result (Unit {0}) (Fail ExecRefusal)) (es later : Entries) (c v r : ClassHits) → lookup (nat_eq r.id) es ≡ Some c
+    → MergesInto result c v r → later ≡ set_value (nat_eq r.id) es v → OnErr result (later ≡ es)
 known_unchanged (Ok done) es later c v r there merges is = tt
 known_unchanged (Err e) es later c v r there merges is = is ∙ set_value_same (nat_eq r.id) es v (there ∙ ap (λ (x : ClassHits). Some x) (sym merges.0))
 
@@ -318,7 +332,8 @@ pub got : (r : Option (Bor ClassHits)) (id : ℕ) (es : Entries) → Keyed es �
 got None id es keyed is = tt
 got (Some c) id es keyed is = let f = found id es c.now keyed (sym is) in (f.there, f.id)
 
-pub got_only : (r : Option (Bor ClassHits)) (id : ℕ) (es : Entries) → Keyed es → option_copied r ≡ lookup (nat_eq id) es → (c : ClassHits) → Contains (classes_of es) c → c.id ≡ id → IsSomeAnd r (λ d. d.now ≡ c)
+pub got_only : (r : Option (Bor ClassHits)) (id : ℕ) (es : Entries) → Keyed es → option_copied r ≡ lookup (nat_eq id) es → (c : ClassHits)
+    → Contains (classes_of es) c → c.id ≡ id → IsSomeAnd r (λ d. d.now ≡ c)
 got_only None id es keyed is c there same = some_none (sym (there_is_found id es c keyed there same) ∙ sym is)
 got_only (Some d) id es keyed is c there same = some_is d.now c (is ∙ there_is_found id es c keyed there same)
 
@@ -326,7 +341,8 @@ refused_record : (es : Entries) (r c : ClassHits) → Keyed es → lookup (nat_e
 refused_record [] r c keyed is apart = absurd cc
 refused_record (e ∷ es) r c keyed is apart = by (nat_eq r.id e.0) refl is (λ later. refused_record es r c keyed.4 later apart)
   where
-    by : (b : Bool) → nat_eq r.id e.0 ≡ b → cond b (Some e.1) (lookup (nat_eq r.id) es) ≡ Some c → (lookup (nat_eq r.id) es ≡ Some c → with_record (classes_of es) r ≡ None) → with_record (classes_of (e ∷ es)) r ≡ None
+    by : (b : Bool) → nat_eq r.id e.0 ≡ b → cond b (Some e.1) (lookup (nat_eq r.id) es) ≡ Some c
+        → (lookup (nat_eq r.id) es ≡ Some c → with_record (classes_of es) r ≡ None) → with_record (classes_of (e ∷ es)) r ≡ None
     by true same is rest =
         let here : e.1 ≡ c = some_is e.1 c is in
         let id : nat_eq e.1.id r.id ≡ true = eq-eqb e.1.id r.id (sym keyed.0 ∙ sym (eqb-true r.id e.0 same)) in
@@ -348,7 +364,8 @@ says_conflict es c r (fails.Said refusal) keyed conflict why =
     let other = there_is_found r.id es c keyed conflict.holds conflict.same_id in
     why.2 ∙ ap (λ (x : ClassHits). conflict_of x r) (some_is why.0 c (sym one ∙ other))
 
-pub put_refuses : (result : Result (Unit {0}) (Fail ExecRefusal)) (es later : Entries) (r : ClassHits) → Keyed es → OnOk result (Puts es later r) → IfErr result (λ e. RefusesRecord e (classes_of es) r)
+pub put_refuses : (result : Result (Unit {0}) (Fail ExecRefusal)) (es later : Entries) (r : ClassHits) → Keyed es → OnOk result (Puts es later r)
+    → IfErr result (λ e. RefusesRecord e (classes_of es) r)
     → (c : ClassHits) → IsConflict (classes_of es) c r → IsErrAnd result (SaysOnly (conflict_of c r))
 put_refuses (Ok done) es later r keyed puts refused c conflict = not_put es later c r keyed conflict puts
 put_refuses (Err e) es later r keyed puts refused c conflict = says_conflict es c r e keyed conflict refused

@@ -49,7 +49,8 @@ contains_block base read later r =
     append_assoc (records_of (base ++ read)) (r ∷ []) (records_of later) ∙ sym (records-append (base ++ read) (class r ∷ later)) ∙ ap records_of (append_assoc base read (class r ∷ later)) in
     subst (λ (l : List ClassHits). Contains l r) all (Contains-append_left (records_of (base ++ read) ++ r ∷ []) (records_of later) r (Contains-push (records_of (base ++ read)) r))
 
-no_conflict : (base read later : List Block) (s t : Store) (text : List ℕ) (there hits : ClassHits) → IsUnion (base ++ read) s → IsUnion (base ++ (read ++ class hits ∷ later)) t → HasConflict read s text there hits → ⊥
+no_conflict : (base read later : List Block) (s t : Store) (text : List ℕ) (there hits : ClassHits) → IsUnion (base ++ read) s
+    → IsUnion (base ++ (read ++ class hits ∷ later)) t → HasConflict read s text there hits → ⊥
 no_conflict base read later s t text there hits u v h =
     let rs = records_of (base ++ read) in
     let own = merged_of (base ++ read) s there u h.holds in
@@ -112,15 +113,18 @@ cut_more base done text rest x xs c =
 -- one that stops at once does not stop later
 not_later : (base done : List Block) (text rest later : List ℕ) (y : Block) (ys : List Block) → Cut base done text [] rest → Cut base done text (y ∷ ys) later → ⊥
 not_later base done text rest later y ys a b =
-    subst (λ (l : List Block). Stops base l rest) (append-nil done) a.stops y b.blocks.0 (b.blocks.1 ++ later) ys b.store (sym (cut_empty base done text rest a) ∙ cut_front base done text later y ys b) b.blocks.3 (begins_front done y ys b.begins) b.union
+    subst (λ (l : List Block). Stops base l rest) (append-nil done) a.stops y b.blocks.0 (b.blocks.1 ++ later) ys b.store
+        (sym (cut_empty base done text rest a) ∙ cut_front base done text later y ys b) b.blocks.3 (begins_front done y ys b.begins) b.union
 
 same_cut : (base done : List Block) (text rest later : List ℕ) (xs ys : List Block) → Cut base done text xs rest → Cut base done text ys later → (xs ≡ ys) × (rest ≡ later)
 same_cut base done text rest later [] [] a b = (refl, sym (cut_empty base done text rest a) ∙ cut_empty base done text later b)
 same_cut base done text rest later (x ∷ xs) [] a b = absurd (not_later base done text later rest x xs b a)
 same_cut base done text rest later [] (y ∷ ys) a b = absurd (not_later base done text rest later y ys a b)
 same_cut base done text rest later (x ∷ xs) (y ∷ ys) a b =
-    let same = one_front x y text a.blocks.0 (a.blocks.1 ++ rest) b.blocks.0 (b.blocks.1 ++ later) a.blocks.3 b.blocks.3 (cut_front base done text rest x xs a) (cut_front base done text later y ys b) in
-    let next : Cut base (done ++ x ∷ []) (a.blocks.1 ++ rest) ys later = subst (λ (l : List ℕ). Cut base (done ++ x ∷ []) l ys later) (sym same.1) (subst (λ (z : Block). Cut base (done ++ z ∷ []) (b.blocks.1 ++ later) ys later) (sym same.0) (cut_more base done text later y ys b)) in
+    let same = one_front x y text a.blocks.0 (a.blocks.1 ++ rest) b.blocks.0 (b.blocks.1 ++ later) a.blocks.3 b.blocks.3
+            (cut_front base done text rest x xs a) (cut_front base done text later y ys b) in
+    let next : Cut base (done ++ x ∷ []) (a.blocks.1 ++ rest) ys later = subst (λ (l : List ℕ). Cut base (done ++ x ∷ []) l ys later) (sym same.1)
+            (subst (λ (z : Block). Cut base (done ++ z ∷ []) (b.blocks.1 ++ later) ys later) (sym same.0) (cut_more base done text later y ys b)) in
     let more = same_cut base (done ++ x ∷ []) (a.blocks.1 ++ rest) rest later xs ys (cut_more base done text rest x xs a) next in
     (λ i. same.0 i ∷ more.0 i, more.1)
 
@@ -177,9 +181,11 @@ one_reason_here read s offset rest (bad_exec p) (other_version found) apart x y 
 one_reason_here read s offset rest (bad_exec p) (conflict id first second m n) apart x (there, hits, h, i1, i2, i3, i4, i5) = absurd (x.1.none (class hits) h.front h.more h.parts h.block h.follows)
 one_reason_here read s offset rest (other_version found) (bad_exec q) apart x y = absurd (y.1.known found x)
 one_reason_here read s offset rest (other_version found) (other_version other) apart x y = ap other_version (same_version rest found other x y)
-one_reason_here read s offset rest (other_version found) (conflict id first second m n) apart x (there, hits, h, i1, i2, i3, i4, i5) = absurd (omega (arith, sym (other_header_kind rest found x) ∙ kind_first (class hits) rest h.front h.more h.block h.parts))
+one_reason_here read s offset rest (other_version found) (conflict id first second m n) apart x (there, hits, h, i1, i2, i3, i4, i5) =
+    absurd (omega (arith, sym (other_header_kind rest found x) ∙ kind_first (class hits) rest h.front h.more h.block h.parts))
 one_reason_here read s offset rest (conflict id first second m n) (bad_exec q) apart (there, hits, h, i1, i2, i3, i4, i5) y = absurd (y.1.none (class hits) h.front h.more h.parts h.block h.follows)
-one_reason_here read s offset rest (conflict id first second m n) (other_version found) apart (there, hits, h, i1, i2, i3, i4, i5) y = absurd (omega (arith, sym (other_header_kind rest found y) ∙ kind_first (class hits) rest h.front h.more h.block h.parts))
+one_reason_here read s offset rest (conflict id first second m n) (other_version found) apart (there, hits, h, i1, i2, i3, i4, i5) y =
+    absurd (omega (arith, sym (other_header_kind rest found y) ∙ kind_first (class hits) rest h.front h.more h.block h.parts))
 one_reason_here read s offset rest (conflict id first second m n) (conflict id' first' second' m' n') apart x y =
     let hits : x.1 ≡ y.1 = same_hits rest read s x.0 y.0 x.1 y.1 x.2 y.2 in
     let ids : x.0.id ≡ y.0.id = x.2.same_id ∙ ap (λ (c : ClassHits). c.id) hits ∙ sym y.2.same_id in
@@ -196,7 +202,10 @@ one_reason before text a b x y =
     let same = same_cut (blocks_of before) [] text x.rest y.rest x.read y.read (cut_of before text a x) (cut_of before text b y) in
     let store : x.store ≡ y.store = one_union (blocks_of before ++ y.read) x.store y.store (subst (λ (l : List Block). IsUnion (blocks_of before ++ l) x.store) same.0 x.union) y.union in
     let offset : length x.taken ≡ length y.taken = omega (arith, ap length x.parts, length-append x.taken x.rest, ap length y.parts, length-append y.taken y.rest, ap length same.1) in
-    let first : RefusedHere y.read y.store (length y.taken) y.rest a = subst (λ (l : List Block). RefusedHere l y.store (length y.taken) y.rest a) same.0 (subst (λ (s : Store). RefusedHere x.read s (length y.taken) y.rest a) store (subst (λ (n : ℕ). RefusedHere x.read x.store n y.rest a) offset (subst (λ (l : List ℕ). RefusedHere x.read x.store (length x.taken) l a) same.1 x.refused))) in
+    let first : RefusedHere y.read y.store (length y.taken) y.rest a = subst (λ (l : List Block). RefusedHere l y.store (length y.taken) y.rest a)
+            same.0 (subst (λ (s : Store). RefusedHere x.read s (length y.taken) y.rest a) store
+              (subst (λ (n : ℕ). RefusedHere x.read x.store n y.rest a) offset
+                (subst (λ (l : List ℕ). RefusedHere x.read x.store (length x.taken) l a) same.1 x.refused))) in
     one_reason_here y.read y.store (length y.taken) y.rest a b (union_distinct (blocks_of before ++ y.read) y.store y.union) first y.refused
 
 pub not_both : (before : Store) (text : List ℕ) (why : Refused) → IsTaken before text → FirstRefusal before text why → ⊥

@@ -206,7 +206,8 @@ ties_at time s = λ i. not_lt time (dump_of s) i && not_lt (dump_of s) time i
 pub sorted_by_dump : (old new : List (Bor Session)) → IsSortedByKey dump_of int_cmp new → IsStableByKey dump_of int_cmp old new
     → sessions_at new ≡ by_dump (sessions_at old)
 sorted_by_dump old new sorted stable = only_by_dump (sessions_at old) (sessions_at new) (record {
-  sorted = in_order new (λ i j d le lt. sym (not_lt (dump_of (get_or new j d)) (dump_of (get_or new i d))) ∙ ap not (sorted_far (λ x y. is_lt (int_cmp (dump_of x) (dump_of y))) (ranks_by int_cmp_total dump_of) new sorted i j d le lt));
+  sorted = in_order new (λ i j d le lt. sym (not_lt (dump_of (get_or new j d)) (dump_of (get_or new i d)))
+      ∙ ap not (sorted_far (λ x y. is_lt (int_cmp (dump_of x) (dump_of y))) (ranks_by int_cmp_total dump_of) new sorted i j d le lt));
   stable = λ time.
       filter_at (is_dumped_at time) (ties_with time) (ties_at time) new
       ∙ ap sessions_at (stable (at_time time))

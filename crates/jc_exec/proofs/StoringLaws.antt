@@ -21,7 +21,8 @@ sessions_union : (bs : List Block) (s : Store) (more : List Session) → IsUnion
 sessions_union bs s [] u = both (sym (append-nil bs)) (sym (append-nil s.sessions))
   where
     both : {ds : List Block} {ss : List Session} → bs ≡ ds → s.sessions ≡ ss → IsUnion ds (record { sessions = ss; classes = s.classes })
-    both {ss = ss} p q = subst (λ (l : List Block). IsUnion l (record { sessions = ss; classes = s.classes })) p (subst (λ (l : List Session). IsUnion bs (record { sessions = l; classes = s.classes })) q u)
+    both {ss = ss} p q = subst (λ (l : List Block). IsUnion l (record { sessions = ss; classes = s.classes })) p
+        (subst (λ (l : List Session). IsUnion bs (record { sessions = l; classes = s.classes })) q u)
 sessions_union bs s (x ∷ more) u =
     subst (λ (l : List Block). IsUnion l (record { sessions = s.sessions ++ x ∷ more; classes = s.classes })) (append_assoc bs (session x ∷ []) (map session more))
     (subst (λ (l : List Session). IsUnion ((bs ++ session x ∷ []) ++ map session more) (record { sessions = l; classes = s.classes })) (append_assoc s.sessions (x ∷ []) more)
@@ -32,14 +33,17 @@ classes_union : (bs : List Block) (s : Store) (cs : List ClassHits) → IsUnion 
 classes_union bs s [] u one = both (sym (append-nil bs)) (sym (append-nil s.classes))
   where
     both : {ds : List Block} {cs : List ClassHits} → bs ≡ ds → s.classes ≡ cs → IsUnion ds (record { sessions = s.sessions; classes = cs })
-    both {cs = cs} p q = subst (λ (l : List Block). IsUnion l (record { sessions = s.sessions; classes = cs })) p (subst (λ (l : List ClassHits). IsUnion bs (record { sessions = s.sessions; classes = l })) q u)
+    both {cs = cs} p q = subst (λ (l : List Block). IsUnion l (record { sessions = s.sessions; classes = cs })) p
+        (subst (λ (l : List ClassHits). IsUnion bs (record { sessions = s.sessions; classes = l })) q u)
 classes_union bs s (c ∷ cs) u one =
     subst (λ (l : List Block). IsUnion l (record { sessions = s.sessions; classes = s.classes ++ c ∷ cs })) (append_assoc bs (class c ∷ []) (map class cs))
     (subst (λ (l : List ClassHits). IsUnion ((bs ++ class c ∷ []) ++ map class cs) (record { sessions = s.sessions; classes = l })) (append_assoc s.classes (c ∷ []) cs)
-    (classes_union (bs ++ class c ∷ []) (record { sessions = s.sessions; classes = s.classes ++ c ∷ [] }) cs (union_class bs s c u (new_behind s.classes c cs one)) (subst OneOfEachId (sym (append_assoc s.classes (c ∷ []) cs)) one)))
+    (classes_union (bs ++ class c ∷ []) (record { sessions = s.sessions; classes = s.classes ++ c ∷ [] }) cs
+        (union_class bs s c u (new_behind s.classes c cs one)) (subst OneOfEachId (sym (append_assoc s.classes (c ∷ []) cs)) one)))
 
 pub own_union : (s : Store) → OneOfEachId s.classes → IsUnion (blocks_of s) s
-own_union s one = classes_union (map session s.sessions) (record { sessions = s.sessions; classes = [] }) s.classes (sessions_union [] (record { sessions = []; classes = [] }) s.sessions union_none) one
+own_union s one = classes_union (map session s.sessions) (record { sessions = s.sessions; classes = [] }) s.classes
+    (sessions_union [] (record { sessions = []; classes = [] }) s.sessions union_none) one
 
 -- ---- blocks behind those that made the store
 

@@ -143,7 +143,8 @@ union_class bs s c u new =
     let rs = records_of bs in
     let records : records_of (bs ++ class c ∷ []) ≡ rs ++ c ∷ [] = records-append bs (class c ∷ []) in
     let none = new_to_records bs s c.id u new in
-    let merged : AllByRecursion (IsMerged (rs ++ c ∷ [])) (s.classes ++ c ∷ []) = all_push (IsMerged (rs ++ c ∷ [])) s.classes c (all_merged_other rs s.classes c new u.merged) (merged_first rs c none) in
+    let merged : AllByRecursion (IsMerged (rs ++ c ∷ [])) (s.classes ++ c ∷ []) = all_push (IsMerged (rs ++ c ∷ [])) s.classes c
+            (all_merged_other rs s.classes c new u.merged) (merged_first rs c none) in
     record {
       sessions = u.sessions ∙ sym (sessions-append bs (class c ∷ []) ∙ append-nil (sessions_of bs));
       ids =
@@ -156,7 +157,8 @@ union_class bs s c u new =
 
 -- ---- one union of each list
 
-same_bits : (xs ys : List Bool) → length xs ≡ length ys → ((k : ℕ) → k < length xs → (get_or xs k false ≡ true → get_or ys k false ≡ true) × (get_or ys k false ≡ true → get_or xs k false ≡ true)) → xs ≡ ys
+same_bits : (xs ys : List Bool) → length xs ≡ length ys
+    → ((k : ℕ) → k < length xs → (get_or xs k false ≡ true → get_or ys k false ≡ true) × (get_or ys k false ≡ true → get_or xs k false ≡ true)) → xs ≡ ys
 same_bits [] [] long same = refl
 same_bits [] (y ∷ ys) long same = absurd (omega (arith, long))
 same_bits (x ∷ xs) [] long same = absurd (omega (arith, long))
@@ -217,7 +219,8 @@ pub in_union : (rs cs : List ClassHits) (id : ℕ) → among id (ids_of cs) ≡ 
 in_union rs [] id some a = absurd cc
 in_union rs (c ∷ cs) id some a = by (nat_eq c.id id) refl some (λ later. in_union rs cs id later a.1)
   where
-    by : (b : Bool) → nat_eq c.id id ≡ b → (b || among id (ids_of cs)) ≡ true → (among id (ids_of cs) ≡ true → (d : ClassHits) × IsMerged rs d × (d.id ≡ id)) → (d : ClassHits) × IsMerged rs d × (d.id ≡ id)
+    by : (b : Bool) → nat_eq c.id id ≡ b → (b || among id (ids_of cs)) ≡ true
+        → (among id (ids_of cs) ≡ true → (d : ClassHits) × IsMerged rs d × (d.id ≡ id)) → (d : ClassHits) × IsMerged rs d × (d.id ≡ id)
     by true is some rest = (c, a.0, eqb-true c.id id is)
     by false is some rest = rest some
 
@@ -226,7 +229,8 @@ among_there [] r k lt is = absurd (omega (arith, lt))
 among_there (x ∷ rs) r zero lt is = rw (eq-eqb x.id r.id (ap (λ (y : ClassHits). y.id) is)) refl
 among_there (x ∷ rs) r (suc k) lt is = or_right (nat_eq x.id r.id) (among r.id (ids_of rs)) (among_there rs r k (omega (arith, lt)) is)
 
-merged_at : (rs cs : List ClassHits) (c : ClassHits) (k : ℕ) → k < length cs → get_or cs k c ≡ c → AllByRecursion (IsMerged rs) cs → AllByRecursion (HasRecord rs) (ids_of cs) → IsMerged rs c × HasRecord rs c.id
+merged_at : (rs cs : List ClassHits) (c : ClassHits) (k : ℕ) → k < length cs → get_or cs k c ≡ c → AllByRecursion (IsMerged rs) cs
+    → AllByRecursion (HasRecord rs) (ids_of cs) → IsMerged rs c × HasRecord rs c.id
 merged_at rs [] c k lt is a b = absurd (omega (arith, lt))
 merged_at rs (d ∷ cs) c zero lt is a b = (subst (IsMerged rs) is a.0, subst (λ (x : ClassHits). HasRecord rs x.id) is b.0)
 merged_at rs (d ∷ cs) c (suc k) lt is a b = merged_at rs cs c k (omega (arith, lt)) is a.1 b.1

@@ -45,7 +45,8 @@ agrees_nowhere {X} = record {
 behind_agrees : (form : TypeForm) → Agrees (type_behind form) (type_behind_at form)
 behind_agrees (type_forms.Plain type) = agrees_nothing type
 behind_agrees type_forms.WithClass = agrees_followed (number 2) _ (item (number_at 2)) (λ place left. Good (types.Object place) left) (agrees_number 2) (λ place. agrees_nothing (types.Object place))
-behind_agrees type_forms.WithOffset = agrees_followed (number 2) _ (item (number_at 2)) (λ offset left. Good (types.Uninit offset) left) (agrees_number 2) (λ offset. agrees_nothing (types.Uninit offset))
+behind_agrees type_forms.WithOffset = agrees_followed (number 2) _ (item (number_at 2)) (λ offset left. Good (types.Uninit offset) left)
+    (agrees_number 2) (λ offset. agrees_nothing (types.Uninit offset))
 behind_agrees type_forms.NoType = agrees_nowhere
 
 pub type_agrees : Agrees type_item type_at
@@ -70,13 +71,17 @@ frame_behind_agrees frame_forms.SameFar =
     agrees_followed (number 2) _ (item (number_at 2)) (λ delta left. Good (frames.Same delta) left) (agrees_number 2) (λ delta. agrees_nothing (frames.Same delta))
 frame_behind_agrees (frame_forms.Append count) =
     agrees_followed (number 2) _ (item (number_at 2)) (λ delta left. times_at count type_at left >>= λ added. Good (frames.Append delta added.0) added.1) (agrees_number 2) (λ delta.
-    agrees_followed (times count type_item) _ (times_at count type_at) (λ added left. Good (frames.Append delta added) left) (agrees_times count type_item type_at type_agrees) (λ added. agrees_nothing (frames.Append delta added)))
+    agrees_followed (times count type_item) _ (times_at count type_at) (λ added left. Good (frames.Append delta added) left)
+        (agrees_times count type_item type_at type_agrees) (λ added. agrees_nothing (frames.Append delta added)))
 frame_behind_agrees frame_forms.Full =
-    agrees_followed (number 2) _ (item (number_at 2)) (λ delta left. counted_at type_at left >>= λ locals. (counted_at type_at locals.1 >>= λ stack. Good (frames.Full delta locals.0 stack.0) stack.1)) (agrees_number 2) (λ delta.
+    agrees_followed (number 2) _ (item (number_at 2))
+        (λ delta left. counted_at type_at left >>= λ locals.
+          (counted_at type_at locals.1 >>= λ stack. Good (frames.Full delta locals.0 stack.0) stack.1)) (agrees_number 2) (λ delta.
     agrees_followed (counted type_item) _ (counted_at type_at) (λ locals left. counted_at type_at left >>= λ stack. Good (frames.Full delta locals stack.0) stack.1) types_agree (λ locals.
     agrees_followed (counted type_item) _ (counted_at type_at) (λ stack left. Good (frames.Full delta locals stack) left) types_agree (λ stack. agrees_nothing (frames.Full delta locals stack))))
 frame_behind_agrees frame_forms.NoFrame = agrees_nowhere
 
 pub frame_agrees : Agrees frame_item frame_item_at
 unfolding frame_item frame_item_at
-frame_agrees = agrees_followed (number 1) (λ tag. frame_behind (frame_form tag)) (item byte_at) (λ tag left. frame_behind_at (frame_form tag) left) agrees_byte (λ tag. frame_behind_agrees (frame_form tag))
+frame_agrees = agrees_followed (number 1) (λ tag. frame_behind (frame_form tag)) (item byte_at) (λ tag left. frame_behind_at (frame_form tag) left)
+    agrees_byte (λ tag. frame_behind_agrees (frame_form tag))

@@ -58,7 +58,8 @@ list_names_nothing : (g : Ground) (items : List TypeItem) → types_of g items �
 list_names_nothing g [] e = absurd (none_some (sym e))
 list_names_nothing g (item ∷ items) e = by (λ j. list_names_nothing g items j) (type_of g item) (types_of g items) refl refl e
   where
-    by : (types_of g items ≡ None → SomeNothing g items) → (o : Option VerificationType) (p : Option (List VerificationType)) → type_of g item ≡ o → types_of g items ≡ p → in_front o p ≡ None → SomeNothing g (item ∷ items)
+    by : (types_of g items ≡ None → SomeNothing g items) → (o : Option VerificationType) (p : Option (List VerificationType)) → type_of g item ≡ o
+        → types_of g items ≡ p → in_front o p ≡ None → SomeNothing g (item ∷ items)
     by more None p i j e = (item, (0, omega arith, refl), one_names_nothing g item i)
     by more (Some h) None i j e = let s = more j in (s.0, later item items s.0 s.1, s.2)
     by more (Some h) (Some hs) i j e = absurd (none_some (sym e))
@@ -140,7 +141,9 @@ pub no_second : (g : Ground) (offset : ℕ) (o p : Option (List VerificationType
 no_second g offset None p e = refl
 no_second g offset (Some values) p e = ap (found_if g offset (Some values)) e
 
-refused : (g : Ground) (offset : ℕ) (o p : Option (List VerificationType)) → ((values stack : List VerificationType) → o ≡ Some values → p ≡ Some stack → (is_start g offset && fits_slots g values stack) ≡ false) → found_if g offset o p ≡ None
+refused : (g : Ground) (offset : ℕ) (o p : Option (List VerificationType))
+    → ((values stack : List VerificationType) → o ≡ Some values → p ≡ Some stack → (is_start g offset && fits_slots g values stack) ≡ false)
+    → found_if g offset o p ≡ None
 refused g offset None p test = refl
 refused g offset (Some values) None test = refl
 refused g offset (Some values) (Some stack) test = ap (λ (b : Bool). if b then Some (found g offset values stack) else None) (test values stack refl refl)
@@ -151,13 +154,15 @@ and_right false b e = refl
 
 item_nothing : (g : Ground) (before : Before) (item : FrameItem) → SomeNothing g (items_of item) → found_if g (offset_of before item) (values_of g before item) (stack_of g item) ≡ None
 item_nothing g before (frames.Same delta) s = absurd (omega (arith, s.1.1))
-item_nothing g before (frames.OneItem delta item) s = no_second g (offset_of before (frames.OneItem delta item)) (Some before.values) (in_front (type_of g item) (Some [])) (ap (λ (o : Option VerificationType). in_front o (Some [])) (one s.1.0 s.1.1 s.1.2))
+item_nothing g before (frames.OneItem delta item) s = no_second g (offset_of before (frames.OneItem delta item)) (Some before.values)
+    (in_front (type_of g item) (Some [])) (ap (λ (o : Option VerificationType). in_front o (Some [])) (one s.1.0 s.1.1 s.1.2))
   where
     one : (k : ℕ) → k < length (item ∷ []) → get_or (item ∷ []) k s.0 ≡ s.0 → type_of g item ≡ None
     one zero lt e = ap (type_of g) e ∙ nothing_is_none g s.0 s.2
     one (suc k) lt e = absurd (omega (arith, lt))
 item_nothing g before (frames.Chop delta count) s = absurd (omega (arith, s.1.1))
-item_nothing g before (frames.Append delta added) s = no_first g (offset_of before (frames.Append delta added)) (option_map (λ more. before.values ++ more) (types_of g added)) (Some []) (ap (option_map (λ more. before.values ++ more)) (some_is_none g added s))
+item_nothing g before (frames.Append delta added) s = no_first g (offset_of before (frames.Append delta added))
+    (option_map (λ more. before.values ++ more) (types_of g added)) (Some []) (ap (option_map (λ more. before.values ++ more)) (some_is_none g added s))
 item_nothing g before (frames.Full delta locals stack) s = ⊎_elim
     (λ c. no_first g (offset_of before (frames.Full delta locals stack)) (types_of g locals) (types_of g stack) (some_is_none g locals (s.0, c, s.2)))
     (λ c. no_second g (offset_of before (frames.Full delta locals stack)) (types_of g locals) (types_of g stack) (some_is_none g stack (s.0, c, s.2)))
@@ -172,7 +177,8 @@ chop_nothing g before (frames.Full delta locals stack) lt = absurd (omega (arith
 
 pub fault_says_nothing : (g : Ground) (before : Before) (item : FrameItem) → FrameFault g before item → frame_of g before item ≡ None
 unfolding frame_of
-fault_says_nothing g before item (astray le) = refused g (offset_of before item) (values_of g before item) (stack_of g item) (λ values stack i j. ap (λ (b : Bool). b && fits_slots g values stack) (le-ltb _ _ le))
+fault_says_nothing g before item (astray le) = refused g (offset_of before item) (values_of g before item) (stack_of g item)
+    (λ values stack i j. ap (λ (b : Bool). b && fits_slots g values stack) (le-ltb _ _ le))
 fault_says_nothing g before item (chops_too_many lt) = no_first g (offset_of before item) (values_of g before item) (stack_of g item) (chop_nothing g before item lt)
 fault_says_nothing g before item (no_class place has none) = item_nothing g before item (types.Object place, has, record { which = inl (place, refl, none) })
 fault_says_nothing g before item (no_new offset has none) = item_nothing g before item (types.Uninit offset, has, record { which = inr (offset, refl, none) })

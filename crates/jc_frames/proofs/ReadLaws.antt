@@ -40,7 +40,8 @@ frames_pushed a b frames new f is g all last = subst (AreNumberedFrames (length 
 
 -- ---- one frame more
 
-pub built_more : (m g : Ground) (later : Names) (entry : TypeState) (table : List ℕ) (count this : ℕ) (frames new : List FrameAt) (built : FrameAt) (running : Running) (frame : Frame) (b : Before) (rest : List ℕ)
+pub built_more : (m g : Ground) (later : Names) (entry : TypeState) (table : List ℕ) (count this : ℕ) (frames new : List FrameAt) (built : FrameAt)
+    (running : Running) (frame : Frame) (b : Before) (rest : List ℕ)
     → m ≡ g → new ≡ frames ++ built ∷ [] → type_state_at later built ≡ (found_as m later running frame).frame
     → Walking g entry table count this (map (type_state_at later) frames ++ (found_as g later running frame).frame ∷ []) b rest
     → Walking g entry table count this (map (type_state_at later) new) b rest

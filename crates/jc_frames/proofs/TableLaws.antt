@@ -24,7 +24,8 @@ fault_is a b e = cc
 -- ---- one frame
 
 -- a frame that is read and says something is one that stands in front
-frame_before : (g : Ground) (before : Before) (bytes rest : List ℕ) (x : FrameItem) (found : Found) → frame_item_at bytes ≡ Good x rest → frame_of g before x ≡ Some found → FrameBefore g before bytes rest found
+frame_before : (g : Ground) (before : Before) (bytes rest : List ℕ) (x : FrameItem) (found : Found) → frame_item_at bytes ≡ Good x rest
+    → frame_of g before x ≡ Some found → FrameBefore g before bytes rest found
 frame_before g before bytes rest x found is says = let t = frame_agrees.good bytes x rest is in record { item = x; front = t.0; parts = t.1; text = t.2; says = says }
 
 -- what the frames behind one come to, by what they depend on and by the bytes that are left
@@ -132,7 +133,8 @@ unfolding outcome_of
 table_good g entry table frames e = by (item (number_at 2) table) refl e
   where
     by : (p : Parsed ℕ) → item (number_at 2) table ≡ p → with_count g entry p ≡ stands_for frames → StandsFor g entry table frames
-    by (Good count rest) is e = let t = (agrees_number 2).good table count rest is in record { count = count; front = t.0; rest = rest; parts = t.1; counted = t.2; are = frames_good g 0 count (first_before entry) rest frames e }
+    by (Good count rest) is e = let t = (agrees_number 2).good table count rest is in
+        record { count = count; front = t.0; rest = rest; parts = t.1; counted = t.2; are = frames_good g 0 count (first_before entry) rest frames e }
     by (Bad left) is e = absurd (stands_fault (sym e))
 
 pub table_again : (g : Ground) (entry : TypeState) (table : List ℕ) (frames : List TypeStateAt) → StandsFor g entry table frames → outcome_of g entry table ≡ stands_for frames
@@ -146,8 +148,11 @@ unfolding outcome_of
 table_bad g entry table place e = by (item (number_at 2) table) refl e
   where
     by : (p : Parsed ℕ) → item (number_at 2) table ≡ p → with_count g entry p ≡ at_fault place → TableFault g entry table place
-    by (Good count rest) is e = let t = (agrees_number 2).good table count rest is in inr (record { count = count; front = t.0; rest = rest; parts = t.1; counted = t.2; fault = frames_bad g 0 count (first_before entry) rest place e })
-    by (Bad left) is e = inl (record { at = sym (fault_is 0 place e); fault = λ front rest count parts text. good_bad (sym ((agrees_number 2).again front rest count text) ∙ (ap (item (number_at 2)) (sym parts) ∙ is)) })
+    by (Good count rest) is e = let t = (agrees_number 2).good table count rest is in
+        inr (record { count = count; front = t.0; rest = rest; parts = t.1; counted = t.2; fault = frames_bad g 0 count (first_before entry) rest place e })
+    by (Bad left) is e =
+        inl (record { at = sym (fault_is 0 place e);
+            fault = λ front rest count parts text. good_bad (sym ((agrees_number 2).again front rest count text) ∙ (ap (item (number_at 2)) (sym parts) ∙ is)) })
 
 pub table_fails : (g : Ground) (entry : TypeState) (table : List ℕ) (place : ℕ) → TableFault g entry table place → outcome_of g entry table ≡ at_fault place
 unfolding outcome_of

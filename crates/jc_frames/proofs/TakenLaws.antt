@@ -71,7 +71,8 @@ takes_more old now next all front rest left split p t = record {
   refuses = λ new fail q. t.refuses new fail (subst (λ (l : Names). RefusesClasses now l new fail) (sym split) (refused_later now next new front rest fail p q));
 }
 
-pub refuses_here : (old now new : PoolValue) (all front rest left : Names) (fail : Fail PoolFull) → left ≡ front ++ rest → RefusesClasses now front new fail → Taking old all now left → RefusesClasses old all new fail
+pub refuses_here : (old now new : PoolValue) (all front rest left : Names) (fail : Fail PoolFull) → left ≡ front ++ rest
+    → RefusesClasses now front new fail → Taking old all now left → RefusesClasses old all new fail
 refuses_here old now new all front rest left fail split p t =
     t.refuses new fail (subst (λ (l : Names). RefusesClasses now l new fail) (sym split) (refused_sooner now new front rest fail p))
 

@@ -9,10 +9,13 @@ use Rattle.jc_frames.specs.FullFrames.{BeginsWithTop, ArePaired}
 -- ---- values in local variables, and back
 
 -- `top` alone goes
-pub single_values : (h : VerificationType) (rest : List VerificationType) → is_pair h ≡ false → (values_in (h ∷ rest) ≡ h ∷ values_in rest) ⊎ ((h ≡ top) × (values_in (h ∷ rest) ≡ []) × (values_in rest ≡ []))
+pub single_values : (h : VerificationType) (rest : List VerificationType) → is_pair h ≡ false → (values_in (h ∷ rest) ≡ h ∷ values_in rest)
+    ⊎ ((h ≡ top) × (values_in (h ∷ rest) ≡ []) × (values_in rest ≡ []))
 single_values h rest single = by h (trimmed rest) single
   where
-    by : (h : VerificationType) (t : List VerificationType) → is_pair h ≡ false → (values_from false (without_last_top h t) ≡ h ∷ values_from false t) ⊎ ((h ≡ top) × (values_from false (without_last_top h t) ≡ []) × (values_from false t ≡ []))
+    by : (h : VerificationType) (t : List VerificationType) → is_pair h ≡ false
+        → (values_from false (without_last_top h t) ≡ h ∷ values_from false t)
+        ⊎ ((h ≡ top) × (values_from false (without_last_top h t) ≡ []) × (values_from false t ≡ []))
     by top [] single = inr (refl, refl, refl)
     by top (x ∷ t) single = inl refl
     by int t single = inl refl
@@ -72,7 +75,8 @@ none_in n =
     ap (λ (k : ℕ). replicate k top) (let e : suc n - 0 ≡ suc n = omega arith in e)
     ∙ ap (λ (k : ℕ). top ∷ replicate k top) (let e : n ≡ n - 0 = omega arith in e)
 
-single_back : (h : VerificationType) (rest : List VerificationType) → is_pair h ≡ false → in_locals (length rest) (values_in rest) ≡ rest → in_locals (suc (length rest)) (values_in (h ∷ rest)) ≡ h ∷ rest
+single_back : (h : VerificationType) (rest : List VerificationType) → is_pair h ≡ false → in_locals (length rest) (values_in rest) ≡ rest
+    → in_locals (suc (length rest)) (values_in (h ∷ rest)) ≡ h ∷ rest
 single_back h rest single back = ⊎_elim
     (λ e. ap (in_locals (suc (length rest))) e ∙ single_in (length rest) h (values_in rest) single ∙ ap (λ (l : List VerificationType). h ∷ l) back)
     (λ w. ap (in_locals (suc (length rest))) w.1 ∙ none_in (length rest) ∙ ap₂ (λ (x : VerificationType) (l : List VerificationType). x ∷ l) (sym w.0) (sym (ap (in_locals (length rest)) w.2) ∙ back))
@@ -92,7 +96,8 @@ values_back (h ∷ x ∷ rest) paired = ⊎_elim
     after_top : is_pair h ≡ true → in_locals (length rest) (values_in rest) ≡ rest → in_locals (suc (suc (length rest))) (values_in (h ∷ top ∷ rest)) ≡ h ∷ top ∷ rest
     after_top pair back = ap (in_locals (suc (suc (length rest)))) (pair_values h rest pair) ∙ pair_in (length rest) h (values_in rest) pair ∙ ap (λ (l : List VerificationType). h ∷ top ∷ l) back
 
-    two : (x : VerificationType) → BeginsWithTop (x ∷ rest) → is_pair h ≡ true → in_locals (length rest) (values_in rest) ≡ rest → in_locals (suc (suc (length rest))) (values_in (h ∷ x ∷ rest)) ≡ h ∷ x ∷ rest
+    two : (x : VerificationType) → BeginsWithTop (x ∷ rest) → is_pair h ≡ true → in_locals (length rest) (values_in rest) ≡ rest
+        → in_locals (suc (suc (length rest))) (values_in (h ∷ x ∷ rest)) ≡ h ∷ x ∷ rest
     two top begins pair back = after_top pair back
     two int begins pair back = absurd begins
     two float begins pair back = absurd begins

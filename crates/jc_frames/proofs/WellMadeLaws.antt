@@ -61,7 +61,8 @@ sorted starts count i (suc d) rising le =
     omega (arith, a, b, q)
 
 -- a later offset is that of a later instruction
-later_number : (g : Ground) → AreOffsets (length g.code) g.starts → (a b : ℕ) → a < b → insn_number g.starts a < length g.code → insn_number g.starts b < length g.code → insn_number g.starts a < insn_number g.starts b
+later_number : (g : Ground) → AreOffsets (length g.code) g.starts → (a b : ℕ) → a < b → insn_number g.starts a < length g.code
+    → insn_number g.starts b < length g.code → insn_number g.starts a < insn_number g.starts b
 later_number g o a b lt p q = ⊎_elim (λ less. less) (λ le. absurd (no le)) (cases_lt (insn_number g.starts a) (insn_number g.starts b))
   where
     no : insn_number g.starts b ≤ insn_number g.starts a → ⊥
@@ -105,7 +106,8 @@ module _ (g : Ground) where
   types_new [] hs e = subst HaveNew (some_is [] hs e) tt
   types_new (item ∷ items) hs e = by (λ more f. types_new items more f) (type_of g item) (types_of g items) refl refl e
     where
-      by : ((more : List VerificationType) → types_of g items ≡ Some more → HaveNew more) → (o : Option VerificationType) (p : Option (List VerificationType)) → type_of g item ≡ o → types_of g items ≡ p → in_front o p ≡ Some hs → HaveNew hs
+      by : ((more : List VerificationType) → types_of g items ≡ Some more → HaveNew more)
+          → (o : Option VerificationType) (p : Option (List VerificationType)) → type_of g item ≡ o → types_of g items ≡ p → in_front o p ≡ Some hs → HaveNew hs
       by more None p i j e = absurd (none_some e)
       by more (Some h) None i j e = absurd (none_some e)
       by more (Some h) (Some rest) i j e = subst HaveNew (some_is (h ∷ rest) hs e) (type_new item h i, more rest j)
@@ -374,7 +376,8 @@ args_first : (n : ℕ) (arguments : List VerificationType) → AllByRecursion Is
 args_first n [] all = ap (values_from false) (tops_gone n)
 args_first n (h ∷ arguments) all = by (is_pair h) refl (args_first n arguments all.1)
   where
-    by : (b : Bool) → is_pair h ≡ b → values_in (spread arguments ++ replicate n top) ≡ arguments → values_in (((if b then h ∷ top ∷ [] else h ∷ []) ++ spread arguments) ++ replicate n top) ≡ h ∷ arguments
+    by : (b : Bool) → is_pair h ≡ b → values_in (spread arguments ++ replicate n top) ≡ arguments
+        → values_in (((if b then h ∷ top ∷ [] else h ∷ []) ++ spread arguments) ++ replicate n top) ≡ h ∷ arguments
     by true is more = pair_values h (spread arguments ++ replicate n top) is ∙ ap (λ (l : List VerificationType). h ∷ l) more
     by false is more = ⊎_elim
         (λ e. e ∙ ap (λ (l : List VerificationType). h ∷ l) more)

@@ -55,7 +55,8 @@ module _ (p : Program) where
       by (inr behind) later = later (none_behind c.threads (flat_map (λ (k : Case). k.threads) cases) whole) behind
 
 -- entries of the one program are those of another in which each thread has the same
-pub entries_alike : (p q : Program) → ((thread : ThreadLine) → entry_of q thread ≡ entry_of p thread) → (threads : List ThreadLine) (es : List Entry) → AreEntries q threads es → AreEntries p threads es
+pub entries_alike : (p q : Program) → ((thread : ThreadLine) → entry_of q thread ≡ entry_of p thread) → (threads : List ThreadLine) (es : List Entry)
+    → AreEntries q threads es → AreEntries p threads es
 entries_alike p q same [] [] are = tt
 entries_alike p q same [] (e ∷ es) are = absurd are
 entries_alike p q same (t ∷ ts) [] are = absurd are

@@ -152,10 +152,12 @@ module _ (looked : List LookedFile) (written : List (List ℕ)) where
   one_end_as : (r : LinkRefusal) (e f : End) → EndsAmongAll looked written r e → EndsAmongAll looked written r f → e ≡ f
   one_end_as (refusals.Class index why) e f p q = p ∙ sym q
   one_end_as (refusals.SameName first second) e f p q =
-      p.2 ∙ ap (λ (n : List ℕ). refused_end (fault.SameName (place_of looked first) (place_of looked second)) (same_name_text (path_of looked first) (path_of looked second) n)) (one_named written first p.0 q.0 p.1 q.1)
+      p.2 ∙ ap (λ (n : List ℕ). refused_end (fault.SameName (place_of looked first) (place_of looked second))
+          (same_name_text (path_of looked first) (path_of looked second) n)) (one_named written first p.0 q.0 p.1 q.1)
       ∙ sym q.2
   one_end_as (refusals.SameId first second) e f p q =
-      p.2 ∙ ap (λ (n : ℕ). refused_end (fault.SameId (place_of looked first) (place_of looked second)) (same_id_text (path_of looked first) (path_of looked second) n)) (one_with_id written first p.0 q.0 p.1 q.1)
+      p.2 ∙ ap (λ (n : ℕ). refused_end (fault.SameId (place_of looked first) (place_of looked second))
+          (same_id_text (path_of looked first) (path_of looked second) n)) (one_with_id written first p.0 q.0 p.1 q.1)
       ∙ sym q.2
 
   some_end : (r : LinkRefusal) → IsLinkRefusal written r → (e : End) × EndsAmongAll looked written r e
@@ -214,7 +216,8 @@ module _ (name exec : Word) (store : Store) (texts : List (List ℕ)) where
       (λ x e is ends. no_clash_in_front store.classes texts ends.1.0 is.items ends.1.1 ends.0 is.are ends.1.2 is.fits ends.1.3)
       (let items = some_items texts files in by items.0 items.1 (first_clash store.classes items.0) refl)
     where
-      by : (xs : List ReportedFile) → AreItems texts xs → (o : Option ExecRefusal) → first_clash store.classes xs ≡ o → ((x : List ℕ) × IsReportText name store texts x) ⊎ ((e : End) × IsClashEnd exec store texts e)
+      by : (xs : List ReportedFile) → AreItems texts xs → (o : Option ExecRefusal) → first_clash store.classes xs ≡ o
+          → ((x : List ℕ) × IsReportText name store texts x) ⊎ ((e : End) × IsClashEnd exec store texts e)
       by xs are None is = inl (
         report_text name (counted_classes store.classes xs),
         record {
@@ -248,7 +251,8 @@ module _ (laws : PlansAreOne) (landed : Landed) (c : Cover) where
 
   has_entry : (plan : RunPlan) (looked : List LookedFile) (program : Program) → AllByRecursion IsFile (texts_in (accepted looked)) → HasOne landed (entry_part c plan looked program)
   has_entry plan looked program files =
-      has_then landed (deciding (HaveEntries program plan) (IsEntryEnd c.plan program plan)) _ (λ w told. one_deciding landed w _ _ (begins c.plan program plan)) (λ _. has_report plan looked program files)
+      has_then landed (deciding (HaveEntries program plan) (IsEntryEnd c.plan program plan)) _ (λ w told. one_deciding landed
+          w _ _ (begins c.plan program plan)) (λ _. has_report plan looked program files)
 
   has_link : (plan : RunPlan) (looked : List LookedFile) (written : List (List ℕ)) → AllByRecursion IsFile (texts_in (accepted looked)) → AllByRecursion IsShortFile written
       → HasOne landed (link_part c plan looked written)
@@ -259,7 +263,8 @@ module _ (laws : PlansAreOne) (landed : Landed) (c : Cover) where
   has_run plan looked files =
       has_then_if landed (reading_all (targets c.dest looked)) (λ written. link_part c plan looked written)
       (has_reading_all landed (targets c.dest looked))
-      (λ w steps written over fits. has_link plan looked written files (short_texts written (all_files (targets c.dest looked) written (texts_read landed w (targets c.dest looked) steps written over fits))))
+      (λ w steps written over fits. has_link plan looked written files
+          (short_texts written (all_files (targets c.dest looked) written (texts_read landed w (targets c.dest looked) steps written over fits))))
 
   has_instrumenting : (paths : List Word) (read : List (List ℕ)) → AreTexts paths read → HasOne landed (instrumenting c.dest paths read)
   has_instrumenting paths read are =
@@ -270,7 +275,8 @@ module _ (laws : PlansAreOne) (landed : Landed) (c : Cover) where
   has_looked paths read plan are =
       has_then_if landed (instrumenting c.dest paths read) (λ looked. running c plan looked) (has_instrumenting paths read are)
       (λ w steps looked over fits.
-      has_run plan looked (file_texts (texts_in (accepted looked)) (all_short paths read looked (instrumenting_over landed w c.dest paths read looked steps over fits).0 (short_texts read (all_files paths read are)))))
+      has_run plan looked (file_texts (texts_in (accepted looked))
+          (all_short paths read looked (instrumenting_over landed w c.dest paths read looked steps over fits).0 (short_texts read (all_files paths read are)))))
 
   has_look : (text : List ℕ) (paths : List Word) (read : List (List ℕ)) → AreTexts paths read → HasOne landed (look_part c text paths read)
   has_look text paths read are =

@@ -175,7 +175,8 @@ through p q steps quiet (inl within) = absurd (quiet steps within)
 through p q steps quiet (inr h) = h
 
 module _ (landed : Landed) where
-  pub reading_all_over : (w : Outside) (paths : List Word) (read : List (List ℕ)) (steps : List Step) → reading_all paths steps (gives read) → Fit landed w steps → AreRead w.contents paths read × (after landed w steps ≡ w)
+  pub reading_all_over : (w : Outside) (paths : List Word) (read : List (List ℕ)) (steps : List Step) → reading_all paths steps (gives read)
+      → Fit landed w steps → AreRead w.contents paths read × (after landed w steps ≡ w)
   reading_all_over w [] read steps is fits = let g = giving_over landed w [] read steps is in (subst (AreRead w.contents []) (sym g.0) tt, g.1)
   reading_all_over w (p ∷ ps) read steps is fits =
       let a = both landed (reading p) _ w steps (gives read) (handed (reading p) _ steps read is) fits in
@@ -186,7 +187,8 @@ module _ (landed : Landed) where
       let (is', left'') = giving_over landed (after landed w b.front) (a.value ∷ b.value) read b.behind b.next in
       (subst (AreRead w.contents (p ∷ ps)) (sym is') (there, more), a.stands ∙ ap (λ (v : Outside). after landed v a.behind) left ∙ b.stands ∙ left'' ∙ left')
 
-  pub writing_all_over : (w : Outside) (writes : List Write) (u : Unit {0}) (steps : List Step) → writing_all writes steps (gives u) → Fit landed w steps → after landed w steps ≡ after_writes landed w writes
+  pub writing_all_over : (w : Outside) (writes : List Write) (u : Unit {0}) (steps : List Step) → writing_all writes steps (gives u)
+      → Fit landed w steps → after landed w steps ≡ after_writes landed w writes
   writing_all_over w [] u steps is fits = (giving_over landed w tt u steps is).1
   writing_all_over w (v ∷ vs) u steps is fits =
       let a = both landed (writing v) _ w steps (gives u) (handed (writing v) _ steps u is) fits in
@@ -212,7 +214,8 @@ module _ (landed : Landed) where
       let (same, left') = giving_over landed (after landed w a.front) (once [] a.value) ps a.behind a.next in
       (subst AreDistinct (sym same) (distinct_once [] a.value), a.stands ∙ left' ∙ left)
 
-  pub instrumenting_over : (w : Outside) (dest : Word) (paths : List Word) (read : List (List ℕ)) (l : List LookedFile) (steps : List Step) → instrumenting dest paths read steps (gives l) → Fit landed w steps
+  pub instrumenting_over : (w : Outside) (dest : Word) (paths : List Word) (read : List (List ℕ)) (l : List LookedFile) (steps : List Step)
+      → instrumenting dest paths read steps (gives l) → Fit landed w steps
       → AreLooked paths read l × (after landed w steps ≡ after_writes landed w (all_file_writes dest l))
   instrumenting_over w dest paths read l steps is fits =
       let a = both landed (making (AreLooked paths read)) _ w steps (gives l) (handed (making (AreLooked paths read)) _ steps l is) fits in

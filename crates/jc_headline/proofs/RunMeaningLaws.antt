@@ -97,7 +97,8 @@ module _ (c : Cover) (old new : Outside) (m : FileMap) (told : old.contents ≡ 
 
   back : r.written ≡ all_written r.looked
   unfolding there
-  back = same_back c.dest there r.looked all_stand r.written (subst (λ (o : Option FileMap). AreRead o (targets c.dest r.looked) r.written) (contents_after old m (all_file_writes c.dest r.looked) told) r.read_back)
+  back = same_back c.dest there r.looked all_stand r.written
+      (subst (λ (o : Option FileMap). AreRead o (targets c.dest r.looked) r.written) (contents_after old m (all_file_writes c.dest r.looked) told) r.read_back)
 
   pub instrumented : IsProgramOf (all_written r.looked) twin
   unfolding twin
@@ -180,7 +181,8 @@ module _ (c : Cover) (old new : Outside) (m : FileMap) (told : old.contents ≡ 
     pub entries : (case : Case) → Contains r.plan.cases case → (es : List Entry) × AreEntries original case.threads es
     unfolding twin
     entries case there =
-        let none : first_without twin (threads_of r.plan) ≡ None = sym (same_without twin (threads_of r.plan)) ∙ ap (λ (p : Program). first_without p (threads_of r.plan)) (sym r.links.2) ∙ r.entries in
+        let none : first_without twin (threads_of r.plan) ≡ None = sym (same_without twin (threads_of r.plan))
+                ∙ ap (λ (p : Program). first_without p (threads_of r.plan)) (sym r.links.2) ∙ r.entries in
         let es = case_entries twin r.plan.cases none case there in
         let s = have_sides original twin marks twins are_marks in
         (es.0, entries_alike original twin (entry_alike original twin s.0 s.1) case.threads es.0 es.1)

@@ -56,7 +56,8 @@ map_after m (to_err text ∷ ws) = map_after m ws
 
 pub contents_after : (w : Outside) (m : FileMap) (ws : List Write) → w.contents ≡ Some m → (after_writes as_written w ws).contents ≡ Some (map_after m ws)
 contents_after w m [] is = is
-contents_after w m (to_file path bytes ∷ ws) is = contents_after (after_write as_written w (to_file path bytes)) (insert m path bytes) ws (ap (λ (c : Option FileMap). option_map (λ (n : FileMap). insert n path bytes) c) is)
+contents_after w m (to_file path bytes ∷ ws) is = contents_after (after_write as_written w (to_file path bytes)) (insert m path bytes) ws
+    (ap (λ (c : Option FileMap). option_map (λ (n : FileMap). insert n path bytes) c) is)
 contents_after w m (to_out text ∷ ws) is = contents_after (after_write as_written w (to_out text)) m ws is
 contents_after w m (to_err text ∷ ws) is = contents_after (after_write as_written w (to_err text)) m ws is
 
@@ -64,14 +65,16 @@ module _ (landed : Landed) where
   pub out_after : (w : Outside) (t : List ℕ) (ws : List Write) → w.out ≡ Some t → (after_writes landed w ws).out ≡ Some (t ++ out_text ws)
   out_after w t [] is = is ∙ ap (λ (x : List ℕ). Some x) (sym (append-nil t))
   out_after w t (to_file path bytes ∷ ws) is = out_after (after_write landed w (to_file path bytes)) t ws is
-  out_after w t (to_out text ∷ ws) is = out_after (after_write landed w (to_out text)) (t ++ text) ws (ap (λ (o : Option (List ℕ)). grown o text) is) ∙ ap (λ (x : List ℕ). Some x) (append_assoc t text (out_text ws))
+  out_after w t (to_out text ∷ ws) is = out_after (after_write landed w (to_out text)) (t ++ text) ws (ap (λ (o : Option (List ℕ)). grown o text) is)
+      ∙ ap (λ (x : List ℕ). Some x) (append_assoc t text (out_text ws))
   out_after w t (to_err text ∷ ws) is = out_after (after_write landed w (to_err text)) t ws is
 
   pub err_after : (w : Outside) (t : List ℕ) (ws : List Write) → w.err ≡ Some t → (after_writes landed w ws).err ≡ Some (t ++ err_text ws)
   err_after w t [] is = is ∙ ap (λ (x : List ℕ). Some x) (sym (append-nil t))
   err_after w t (to_file path bytes ∷ ws) is = err_after (after_write landed w (to_file path bytes)) t ws is
   err_after w t (to_out text ∷ ws) is = err_after (after_write landed w (to_out text)) t ws is
-  err_after w t (to_err text ∷ ws) is = err_after (after_write landed w (to_err text)) (t ++ text) ws (ap (λ (o : Option (List ℕ)). grown o text) is) ∙ ap (λ (x : List ℕ). Some x) (append_assoc t text (err_text ws))
+  err_after w t (to_err text ∷ ws) is = err_after (after_write landed w (to_err text)) (t ++ text) ws (ap (λ (o : Option (List ℕ)). grown o text) is)
+      ∙ ap (λ (x : List ℕ). Some x) (append_assoc t text (err_text ws))
 
 pub out-append : (xs ys : List Write) → out_text (xs ++ ys) ≡ out_text xs ++ out_text ys
 out-append [] ys = refl
@@ -104,14 +107,17 @@ module _ (dest : Word) where
   one_file m l (refused_file why) = refl
   one_file m l (accepted_file a) = refl
 
-  first_file : (m : FileMap) (l : LookedFile) (ls : List LookedFile) → map_after m (all_file_writes dest (l ∷ ls)) ≡ map_after (insert m (in_folder dest l.file) (stored l l.decision)) (all_file_writes dest ls)
-  first_file m l ls = map_after-append m (file_writes (in_folder dest l.file) l.file l.bytes l.decision) (all_file_writes dest ls) ∙ ap (λ (n : FileMap). map_after n (all_file_writes dest ls)) (one_file m l l.decision)
+  first_file : (m : FileMap) (l : LookedFile) (ls : List LookedFile) → map_after m (all_file_writes dest (l ∷ ls))
+      ≡ map_after (insert m (in_folder dest l.file) (stored l l.decision)) (all_file_writes dest ls)
+  first_file m l ls = map_after-append m (file_writes (in_folder dest l.file) l.file l.bytes l.decision) (all_file_writes dest ls)
+      ∙ ap (λ (n : FileMap). map_after n (all_file_writes dest ls)) (one_file m l l.decision)
 
   -- another path stays
   pub stays : (m : FileMap) (q : Word) (ls : List LookedFile) → IsNone q (all_targets dest ls) → get (map_after m (all_file_writes dest ls)) q ≡ get m q
   stays m q [] none = refl
   stays m q (l ∷ ls) none =
-      ap (λ (n : FileMap). get n q) (first_file m l ls) ∙ stays (insert m (in_folder dest l.file) (stored l l.decision)) q ls none.1 ∙ get_there m (in_folder dest l.file) (stored l l.decision) q none.0
+      ap (λ (n : FileMap). get n q) (first_file m l ls) ∙ stays (insert m (in_folder dest l.file) (stored l l.decision)) q ls none.1
+          ∙ get_there m (in_folder dest l.file) (stored l l.decision) q none.0
 
   -- each file stands in the folder
   abbrev pub Stand : FileMap → List LookedFile → Type 0

@@ -45,7 +45,8 @@ pub not_both : (c : ClassFile) (number : ℕ) (kind : RefusalKind) (r : Refusal)
 not_both c number kind r place other f faulty = other (ap (λ (s : Refusal). s.kind) (one_fault c number r (of_method kind number place) f faulty))
 
 -- methods that have bodies or no code have no fault
-pub none_below : (names : Names) (c : ClassFile) (n : ℕ) (bodies : List Body) → AreBodiesBelow names c n bodies → (kind : RefusalKind) (number place : ℕ) → number < n → IsFaulty c kind number place → ⊥
+pub none_below : (names : Names) (c : ClassFile) (n : ℕ) (bodies : List Body) → AreBodiesBelow names c n bodies
+    → (kind : RefusalKind) (number place : ℕ) → number < n → IsFaulty c kind number place → ⊥
 none_below names c n bodies are kind number place less faulty = by (are.all number less)
   where
     by : Bodiless c number ⊎ IsListed bodies number → ⊥
@@ -91,7 +92,8 @@ module _ (old new : Names) (c : ClassFile) (n : ℕ) (grows : Grows old new) whe
       found (Some r) first = first
 
 -- its code has a fault that is no subroutine instruction; the first such refusal is kept
-pub fault_read : (old new : Names) (c : ClassFile) (n : ℕ) (bodies : List Body) (bad kept : Option Refusal) (r : Refusal) → kept ≡ Some (unwrap_or bad r) → IsReading old c n (record { bodies = bodies; bad = bad })
+pub fault_read : (old new : Names) (c : ClassFile) (n : ℕ) (bodies : List Body) (bad kept : Option Refusal) (r : Refusal)
+    → kept ≡ Some (unwrap_or bad r) → IsReading old c n (record { bodies = bodies; bad = bad })
     → FaultOf c n r → r.kind ≢ kinds.Subroutine → IsReading new c (n + 1) (record { bodies = bodies; bad = kept })
 fault_read old new c n bodies bad kept r kept_is before f other = subst (λ (o : Option Refusal). IsReading new c (n + 1) (record { bodies = bodies; bad = o })) (sym kept_is) (record {
   no_subroutine = λ number place less faulty. by number place faulty (below_or_last n number less);
@@ -108,7 +110,8 @@ fault_read old new c n bodies bad kept r kept_is before f other = subst (λ (o :
     bad_code (inl is) = absurd (other (ap (λ (s : Refusal). s.kind) is.0))
     bad_code (inr is) = is
 
-    found : (bad : Option Refusal) → MatchOption bad (AreBodiesBelow old c n bodies) (InMethod kinds.BadCode (IsFaulty c kinds.BadCode)) → InMethod kinds.BadCode (IsFaulty c kinds.BadCode) (unwrap_or bad r)
+    found : (bad : Option Refusal) → MatchOption bad (AreBodiesBelow old c n bodies) (InMethod kinds.BadCode (IsFaulty c kinds.BadCode))
+        → InMethod kinds.BadCode (IsFaulty c kinds.BadCode) (unwrap_or bad r)
     found None are = let is = bad_code (fault_cases c n r f) in record {
       number = n;
       place = r.place;

@@ -39,7 +39,8 @@ no_code_cause c bodies are =
 abbrev later : ClassFile → List Cause
 later c = interface_causes c ++ code_causes c
 
-pub no_cause_checked : (c : ClassFile) (bodies : List Body) → is_left_alone c ≡ false → NoCause (class_causes c) → NoCause (interface_causes c) → AreCheckedBodies c bodies → NoCause (analysis_causes c)
+pub no_cause_checked : (c : ClassFile) (bodies : List Body) → is_left_alone c ≡ false → NoCause (class_causes c) → NoCause (interface_causes c)
+    → AreCheckedBodies c bodies → NoCause (analysis_causes c)
 no_cause_checked c bodies changes none no_interface are =
     none_in_both (class_causes c) (unless (is_left_alone c) (later c)) none
     (subst (λ (t : Bool). NoCause (unless t (later c))) (sym changes) (none_in_both (interface_causes c) (code_causes c) no_interface (no_code_cause c bodies are)))

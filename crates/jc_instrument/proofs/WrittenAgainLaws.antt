@@ -132,7 +132,8 @@ module _ (old new : PoolValue) (extends : Extends old new) (code : List ℕ) whe
           → texts_of new (codes "Code") ((if t then attribute a.name code else a) ∷ map (with_code old code) l)
           ≡ map (λ b. code) (map (λ x. x.body) (if t then a ∷ filter (has_name old (codes "Code")) l else filter (has_name old (codes "Code")) l))
       by true is same rest =
-          ap (λ (s : Bool). map (λ x. x.body) (if s then attribute a.name code ∷ filter (has_name new (codes "Code")) (map (with_code old code) l) else filter (has_name new (codes "Code")) (map (with_code old code) l)))
+          ap (λ (s : Bool). map (λ x. x.body) (if s then attribute a.name code ∷ filter (has_name new (codes "Code")) (map (with_code old code) l)
+              else filter (has_name new (codes "Code")) (map (with_code old code) l)))
           (same ∙ is) ∙ ap (λ (r : List (List ℕ)). code ∷ r) rest
       by false is same rest =
           ap (λ (s : Bool). map (λ x. x.body) (if s then a ∷ filter (has_name new (codes "Code")) (map (with_code old code) l) else filter (has_name new (codes "Code")) (map (with_code old code) l)))

@@ -124,7 +124,8 @@ entry_on old new b s g k = record {
 entry_args : (owner name desc o n d : List ℕ) (flags count : ℕ) → o ≡ owner → n ≡ name → d ≡ desc → entry_seen o n d flags count ≡ entry_seen owner name desc flags count
 entry_args owner name desc o n d flags count p q r = λ i. entry_seen (p i) (q i) (r i) flags count
 
-pub entry_kept : (names : Names) (b : Body) (s : State) (o n d : List ℕ) → o ≡ b.owner → n ≡ b.name → d ≡ b.desc → type_state names s ≡ entry_seen o n d b.flags b.max_locals → IsNumberedState (length names) s
+pub entry_kept : (names : Names) (b : Body) (s : State) (o n d : List ℕ) → o ≡ b.owner → n ≡ b.name → d ≡ b.desc
+    → type_state names s ≡ entry_seen o n d b.flags b.max_locals → IsNumberedState (length names) s
     → IsState b.code b.max_locals b.max_stack s → IsKeptEntry names b s
 entry_kept names b s o n d p q r is numbered made = record { is = is ∙ entry_args b.owner b.name b.desc o n d b.flags b.max_locals p q r; numbered = numbered; well_made = made }
 
@@ -135,12 +136,14 @@ pub few_walked : (old new : Names) (b : Body) (keeps : Bool) (count : ℕ) (stat
 few_walked old new b keeps count states made w = let few = few_insns b made in let in_code = w.walk.first.within in omega (arith, few, in_code)
 
 -- the states of a body with rows are kept
-pub kept_by_rows : (old new : Names) (b : Body) (keeps : Bool) (count : ℕ) (states kept : List State) (handlers : List Handler) → (b.handlers ≢ [] → keeps ≡ true) → kept ≡ states → handlers ≡ b.handlers
+pub kept_by_rows : (old new : Names) (b : Body) (keeps : Bool) (count : ℕ) (states kept : List State) (handlers : List Handler)
+    → (b.handlers ≢ [] → keeps ≡ true) → kept ≡ states → handlers ≡ b.handlers
     → IsWalkFrom old new b keeps count states → handlers ≢ [] → length kept ≡ count
 kept_by_rows old new b keeps count states kept handlers rows same framed w some = ap (λ (l : List State). length l) same ∙ w.walk.kept (rows (λ none. some (framed ∙ none)))
 
 -- the place was looked for in what the body and the walk have
-pub same_guard : (b : Body) (states kept : List State) (frames : List FrameAt) (handlers : List Handler) (slots count place : ℕ) → kept ≡ states → frames ≡ b.frames → handlers ≡ b.handlers → slots ≡ b.max_locals
+pub same_guard : (b : Body) (states kept : List State) (frames : List FrameAt) (handlers : List Handler) (slots count place : ℕ) → kept ≡ states
+    → frames ≡ b.frames → handlers ≡ b.handlers → slots ≡ b.max_locals
     → IsFirstOrBound (IsUnguarded kept frames handlers slots) count place → IsFirstOrBound (IsUnguarded states b.frames b.handlers b.max_locals) count place
 same_guard b states kept frames handlers slots count place p q r t first =
     subst (λ (ks : List State). IsFirstOrBound (IsUnguarded ks b.frames b.handlers b.max_locals) count place) p
@@ -149,7 +152,8 @@ same_guard b states kept frames handlers slots count place p q r t first =
     (subst (λ (n : ℕ). IsFirstOrBound (IsUnguarded kept frames handlers n) count place) t first)))
 
 pub clash_answered_at : (old new : Names) (b : Body) (keeps : Bool) (count : ℕ) (states : List State) (place : ℕ) → IsWellMade b → IsNowhere (IsMissing b) → AreNumberedFrames (length old) b.frames
-    → IsWalkFrom old new b keeps count states → (b.handlers ≢ [] → keeps ≡ true) → IsFirstOrBound (IsUnguarded states b.frames b.handlers b.max_locals) count place → place < length b.code → FirstClash new b place
+    → IsWalkFrom old new b keeps count states → (b.handlers ≢ [] → keeps ≡ true)
+        → IsFirstOrBound (IsUnguarded states b.frames b.handlers b.max_locals) count place → place < length b.code → FirstClash new b place
 clash_answered_at old new b keeps count states place made missing numbered w rows first lt =
     clash_found w.base new b keeps count states place made missing w.grown (frames_numbered (length old) (length w.base) b.frames (grown_count old w.base w.before) numbered) w.walk rows first lt
 

@@ -68,7 +68,8 @@ pub insn_is : (b : Body) (i : ℕ) (insn : Insn) → i < length b.code → insn 
 insn_is b i insn lt is = slice_get_read b.code (length b.code) i insn refl lt is
 
 -- the state that an instruction leaves, by the body whose effects were read
-left_is : (old new : Names) (b c : Body) (i : ℕ) (s left : State) (o : Option State) → c ≡ b → LeavesState old new c i s o → o ≡ Some left → after_of b i (type_state old s) ≡ Some (type_state new left)
+left_is : (old new : Names) (b c : Body) (i : ℕ) (s left : State) (o : Option State) → c ≡ b → LeavesState old new c i s o → o ≡ Some left
+    → after_of b i (type_state old s) ≡ Some (type_state new left)
 left_is old new b c i s left o same leaves is =
     sym (ap (option_map (type_state new)) (sym is) ∙ leaves ∙ ap (λ (d : Body). after_of d i (type_state old s)) same)
 
@@ -78,8 +79,10 @@ left_fits b code frames i left insn fits coded framed lt at is =
     ap (λ (o : Option Insn). list_all (fits_frame b.frames left) (branches o i)) (insn_is b i insn lt (at ∙ ap (λ (l : List Insn). get_or l i insn) coded))
     ∙ sym (is ∙ ap (λ (l : List FrameAt). list_all (fits_frame l left) (branches (Some insn) i)) framed)
 
-pub stop_made : (old new : Names) (b c : Body) (code : List Insn) (frames : List FrameAt) (i : ℕ) (s left : State) (o : Option State) (insn : Insn) (fits : Bool) → c ≡ b → code ≡ b.code → frames ≡ b.frames
-    → i < length b.code → insn ≡ get_or code i insn → LeavesState old new c i s o → o ≡ Some left → fits ≡ list_all (fits_frame frames left) (branches (Some insn) i) → fits ≡ false → StopsAt old new b i s
+pub stop_made : (old new : Names) (b c : Body) (code : List Insn) (frames : List FrameAt) (i : ℕ) (s left : State) (o : Option State) (insn : Insn)
+    (fits : Bool) → c ≡ b → code ≡ b.code → frames ≡ b.frames
+    → i < length b.code → insn ≡ get_or code i insn → LeavesState old new c i s o → o ≡ Some left
+        → fits ≡ list_all (fits_frame frames left) (branches (Some insn) i) → fits ≡ false → StopsAt old new b i s
 stop_made old new b c code frames i s left o insn fits same coded framed lt at leaves some is misses =
     inr (left, left_is old new b c i s left o same leaves some, left_fits b code frames i left insn fits coded framed lt at is ∙ misses)
 
@@ -88,7 +91,8 @@ none_made old new b c i s o same leaves none = inl (sym (ap (option_map (type_st
 
 -- what a frame or a state that falls into the place is
 kept_made : (old new : Names) (b : Body) (at : ℕ) (other : State) → IsWellMade b → AreNumberedFrames (length old) b.frames → Grows old new → IsNumberedState (length new) other
-    → IsState b.code b.max_locals b.max_stack other → (o : Option State) → frame_in b.frames at ≡ o → IsNumberedState (length new) (unwrap_or o other) × IsState b.code b.max_locals b.max_stack (unwrap_or o other)
+    → IsState b.code b.max_locals b.max_stack other → (o : Option State) → frame_in b.frames at ≡ o
+        → IsNumberedState (length new) (unwrap_or o other) × IsState b.code b.max_locals b.max_stack (unwrap_or o other)
 kept_made old new b at other made frames g numbered whole None e = (numbered, whole)
 kept_made old new b at other made frames g numbered whole (Some f) e = (
   state_numbered (length old) (length new) f (grown_count old new g) (frame_numbered (length old) b.frames frames at f e),
@@ -96,7 +100,8 @@ kept_made old new b at other made frames g numbered whole (Some f) e = (
 )
 
 -- the state before the next one is well made
-pub step_made : (old new : Names) (b c : Body) (code : List Insn) (frames behind : List FrameAt) (i : ℕ) (s left next : State) (o : Option State) (insn : Insn) (fits : Bool) → IsWellMade b → AreNumberedFrames (length old) b.frames
+pub step_made : (old new : Names) (b c : Body) (code : List Insn) (frames behind : List FrameAt) (i : ℕ) (s left next : State) (o : Option State)
+    (insn : Insn) (fits : Bool) → IsWellMade b → AreNumberedFrames (length old) b.frames
     → Grows old new → c ≡ b → code ≡ b.code → frames ≡ b.frames → behind ≡ b.frames → i < length b.code → insn ≡ get_or code i insn → LeavesState old new c i s o → o ≡ Some left
     → fits ≡ list_all (fits_frame frames left) (branches (Some insn) i) → fits ≡ true → next ≡ unwrap_or (frame_in behind (i + 1)) left
     → IfSome o (λ t. IsStateOf (length new) c t) → IfSome o (λ t. IsWhole c s → IsWhole c t) → IsState b.code b.max_locals b.max_stack s → IsStep old new b i s next
@@ -116,7 +121,8 @@ step_made old new b c code frames behind i s left next o insn fits made numbered
 
 -- ---- the first one
 
-pub first_made : (old : Names) (b : Body) (keeps : Bool) (frames : List FrameAt) (entry s : State) (o : Option State) (states : List State) → IsWellMade b → AreNumberedFrames (length old) b.frames → IsKeptEntry old b entry → frames ≡ b.frames
+pub first_made : (old : Names) (b : Body) (keeps : Bool) (frames : List FrameAt) (entry s : State) (o : Option State) (states : List State)
+    → IsWellMade b → AreNumberedFrames (length old) b.frames → IsKeptEntry old b entry → frames ≡ b.frames
     → Begins frames entry o → o ≡ Some s → states ≡ [] → IsWalking old old b keeps states 0 s
 first_made old b keeps frames entry s o states made numbered kept framed begins some none =
     let there : Begins b.frames entry (Some s) = subst (Begins b.frames entry) some (subst (λ (l : List FrameAt). Begins l entry o) framed begins) in
@@ -127,6 +133,7 @@ first_made old b keeps frames entry s o states made numbered kept framed begins 
     (subst (IsNumberedState (length old)) (sym there.1) both.0)
     there)
 
-pub first_not : (old : Names) (b : Body) (keeps : Bool) (frames : List FrameAt) (entry : State) (o : Option State) (states : List State) → IsKeptEntry old b entry → frames ≡ b.frames → Begins frames entry o → o ≡ None → states ≡ [] → IsWalk old old b keeps 0 states
+pub first_not : (old : Names) (b : Body) (keeps : Bool) (frames : List FrameAt) (entry : State) (o : Option State) (states : List State)
+    → IsKeptEntry old b entry → frames ≡ b.frames → Begins frames entry o → o ≡ None → states ≡ [] → IsWalk old old b keeps 0 states
 first_not old b keeps frames entry o states kept framed begins none empty =
     subst (IsWalk old old b keeps 0) (sym empty) (walk_begins_not old b keeps entry kept.is (subst (Begins b.frames entry) none (subst (λ (l : List FrameAt). Begins l entry o) framed begins)))

@@ -75,7 +75,8 @@ entry_decided names b i = both (equal_decided i 0) (neither (there_decided (Some
 
 branch_decided : (names : Names) (b : Body) (i : ℕ) → Decides (branch_clash names b i) (BranchClash names b i)
 branch_decided names b i = instead
-    (any_decided (λ j. not (fits_there (after_at names b i) (state_of names b j))) (λ j. FitsThere (after_at names b i) (state_of names b j) → ⊥) (λ j. neither (there_decided (after_at names b i) (state_of names b j))) (branches (insn_at b i) i))
+    (any_decided (λ j. not (fits_there (after_at names b i) (state_of names b j))) (λ j. FitsThere (after_at names b i) (state_of names b j) → ⊥)
+        (λ j. neither (there_decided (after_at names b i) (state_of names b j))) (branches (insn_at b i) i))
     (λ w. (w.0, (leads_decided b i w.0).0 w.1, w.2))
     (λ w. (w.0, (leads_decided b i w.0).1 w.1, w.2))
 
@@ -180,7 +181,8 @@ Says names b (frame_clash i) = FirstClash names b i
 
 pub verdict_says : (names : Names) (b : Body) → Says names b (verdict_of names b)
 unfolding verdict_of
-verdict_says names b = by (first_below (is_missing b) (length b.code)) (first_below (is_clash names b) (length b.code)) (first_below_is (is_missing b) (length b.code)) (first_below_is (is_clash names b) (length b.code))
+verdict_says names b = by (first_below (is_missing b) (length b.code)) (first_below (is_clash names b) (length b.code))
+    (first_below_is (is_missing b) (length b.code)) (first_below_is (is_clash names b) (length b.code))
   where
     by : (o p : Option ℕ) → Found (is_missing b) 0 (length b.code) o → Found (is_clash names b) 0 (length b.code) p → Says names b (missing_or (clash_or_passes p) o)
     by (Some i) p f g = least_missing b i f

@@ -145,7 +145,8 @@ module _ (image : ℕ → ℕ) where
       ∙ ap (λ (l : List VerificationType). set l (length front) probes) (clear_nothing (length front) (front ++ top ∷ replicate room top) (λ j e. last_single values (top ∷ replicate room top) j e))
       ∙ set_end front (replicate room top) top probes
       ∙ sym (
-      ap (λ (l : List VerificationType). insert l (length front) probes) (map-append (renamed image) front (replicate room top) ∙ ap₂ (λ (a b : List VerificationType). a ++ b) (spread_still values all) (tops_still room))
+      ap (λ (l : List VerificationType). insert l (length front) probes)
+          (map-append (renamed image) front (replicate room top) ∙ ap₂ (λ (a b : List VerificationType). a ++ b) (spread_still values all) (tops_still room))
       ∙ insert_end front (replicate room top) probes)
 
 pub entry_shifts : EntryShifts

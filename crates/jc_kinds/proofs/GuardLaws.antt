@@ -35,7 +35,8 @@ row_behind frames h bound behind = record {
 }
 
 -- the row's handler doesn't
-pub uncaught_row : (frames : List FrameAt) (h : Handler) (bound : ℕ) → h.start < h.end → h.start < bound → frame_catches (frame_in frames h.target) ≡ false → IsFirstOrBound (IsUncaught frames (h ∷ [])) bound h.start
+pub uncaught_row : (frames : List FrameAt) (h : Handler) (bound : ℕ) → h.start < h.end → h.start < bound → frame_catches (frame_in frames h.target)
+    ≡ false → IsFirstOrBound (IsUncaught frames (h ∷ [])) bound h.start
 uncaught_row frames h bound some lt unfit = record {
   within = omega (arith, lt);
   free = λ i less u. let same : h ≡ u.handler = contains_one h u.handler u.row in let s = u.guarded.start in let e = ap (λ (x : Handler). x.start) same in omega (arith, less, s, e);
@@ -43,7 +44,8 @@ uncaught_row frames h bound some lt unfit = record {
 }
 
 -- the row guards nothing below the bound
-pub row_outside : (column : List Kind) (h : Handler) (want : Kind) (bound last : ℕ) → (last ≡ h.end) ⊎ (last ≡ bound) → last ≤ h.end → last ≤ bound → last ≤ h.start → IsFirstOrBound (IsUnfitInRow column h want) bound bound
+pub row_outside : (column : List Kind) (h : Handler) (want : Kind) (bound last : ℕ) → (last ≡ h.end) ⊎ (last ≡ bound) → last ≤ h.end → last ≤ bound
+    → last ≤ h.start → IsFirstOrBound (IsUnfitInRow column h want) bound bound
 row_outside column h want bound last which le le' none = record {
   within = omega arith;
   free = λ i lt u. let s = u.guarded.start in let e = u.guarded.end in ⊎_elim (λ q. omega (arith, q, s, e, none)) (λ q. omega (arith, q, s, lt, none)) which;
@@ -81,7 +83,8 @@ abbrev pub row_at : List Handler → ℕ → Handler
 row_at hs i = get_or hs i no_row
 
 pub next_uncaught : (frames : List FrameAt) (hs : List Handler) (i bound middle result : ℕ) → i < length hs
-    → IsFirstOrBound (IsUncaught frames (take i hs)) bound middle → IsFirstOrBound (IsUncaught frames (row_at hs i ∷ [])) middle result → IsFirstOrBound (IsUncaught frames (take (i + 1) hs)) bound result
+    → IsFirstOrBound (IsUncaught frames (take i hs)) bound middle → IsFirstOrBound (IsUncaught frames (row_at hs i ∷ [])) middle result
+        → IsFirstOrBound (IsUncaught frames (take (i + 1) hs)) bound result
 next_uncaught frames hs i bound middle result lt old new =
     let h = row_at hs i in
     subst (λ (l : List Handler). IsFirstOrBound (IsUncaught frames l) bound result) (sym (take_more hs i no_row lt))
@@ -97,7 +100,8 @@ next_uncaught frames hs i bound middle result lt old new =
     (either_first bound middle result old new))
 
 pub next_unfit : (column : List Kind) (frames : List FrameAt) (slot : ℕ) (hs : List Handler) (i bound middle result : ℕ) → i < length hs
-    → IsFirstOrBound (IsUnfitInColumn column frames slot (take i hs)) bound middle → IsFirstOrBound (IsUnfitInRow column (row_at hs i) (wanted_at slot (frame_in frames (row_at hs i).target))) middle result
+    → IsFirstOrBound (IsUnfitInColumn column frames slot (take i hs)) bound middle
+        → IsFirstOrBound (IsUnfitInRow column (row_at hs i) (wanted_at slot (frame_in frames (row_at hs i).target))) middle result
     → IsFirstOrBound (IsUnfitInColumn column frames slot (take (i + 1) hs)) bound result
 next_unfit column frames slot hs i bound middle result lt old new =
     let h = row_at hs i in
@@ -126,7 +130,8 @@ no_rows_unfit column frames slot bound = none_first bound (λ i u. none_in u.han
 
 -- ---- one local variable more
 
-pub no_slots : (states : List State) (frames : List FrameAt) (hs : List Handler) (bound result : ℕ) → IsFirstOrBound (IsUncaught frames hs) bound result → IsFirstOrBound (IsUnguarded states frames hs 0) bound result
+pub no_slots : (states : List State) (frames : List FrameAt) (hs : List Handler) (bound result : ℕ)
+    → IsFirstOrBound (IsUncaught frames hs) bound result → IsFirstOrBound (IsUnguarded states frames hs 0) bound result
 no_slots states frames hs bound result first = instead_first bound result (λ i lt u. inl u) (λ i lt e. ⊎_elim (λ u. u) (λ u. let none = u.1 in absurd (omega (arith, none))) e) first
 
 pub next_slot : (states : List State) (frames : List FrameAt) (hs : List Handler) (slot bound middle result : ℕ) → IsFirstOrBound (IsUnguarded states frames hs slot) bound middle

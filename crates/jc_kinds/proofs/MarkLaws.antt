@@ -29,7 +29,8 @@ marks_one marks marks' place test lt is tests = record {
         ∙ ap (λ (b : Bool). is_marked marks j || b) (sym (tests j ∙ ne_eqb j place other))
 
 -- more places are marked
-pub marks_more : (marks now new : List Bool) (before more test : ℕ → Bool) → MarksWhere marks now before → MarksWhere now new more → ((j : ℕ) → test j ≡ (before j || more j)) → MarksWhere marks new test
+pub marks_more : (marks now new : List Bool) (before more test : ℕ → Bool) → MarksWhere marks now before → MarksWhere now new more
+    → ((j : ℕ) → test j ≡ (before j || more j)) → MarksWhere marks new test
 marks_more marks now new before more test old on tests = record {
   size = on.size ∙ old.size;
   each = λ j lt. on.each j (let s = old.size in omega (arith, lt, s))

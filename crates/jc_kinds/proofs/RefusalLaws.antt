@@ -90,8 +90,10 @@ answered_so Fact Other names b so (Ok x) a = (a.0, so x a.1)
 answered_so Fact Other names b so (Err e) a = a
 
 -- whatever is found, where nothing is said of it
-pub answered_found : {X : Type 0} (Fact : X → Type 0) (names : Names) (b : Body) (x : X) (r : Result X (Fail Refusal)) → r ≡ Ok x → IsAnswer names b Fact r → IsAnswer names b (λ (u : Unit {0}). ⊤) (Ok tt)
+pub answered_found : {X : Type 0} (Fact : X → Type 0) (names : Names) (b : Body) (x : X) (r : Result X (Fail Refusal)) → r ≡ Ok x
+    → IsAnswer names b Fact r → IsAnswer names b (λ (u : Unit {0}). ⊤) (Ok tt)
 answered_found Fact names b x r is a = ((subst (IsAnswer names b Fact) is a).0, tt)
 
-pub answered_refused : {X : Type 0} (Fact : X → Type 0) (names : Names) (b : Body) (e : Fail Refusal) (r : Result X (Fail Refusal)) → r ≡ Err e → IsAnswer names b Fact r → IsAnswer names b (λ (u : Unit {0}). ⊤) (Err e)
+pub answered_refused : {X : Type 0} (Fact : X → Type 0) (names : Names) (b : Body) (e : Fail Refusal) (r : Result X (Fail Refusal)) → r ≡ Err e
+    → IsAnswer names b Fact r → IsAnswer names b (λ (u : Unit {0}). ⊤) (Err e)
 answered_refused Fact names b e r is a = subst (IsAnswer names b Fact) is a

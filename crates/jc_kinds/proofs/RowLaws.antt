@@ -67,7 +67,8 @@ kept_more rows kept i reached h up lt is old further =
       };
       below = All-push (λ (x : Handler). x.end ≤ h.end) kept h (λ k d inside. let le = old.below k d inside in omega (arith, le, further)) (omega arith);
       reaching = λ j less. (h, Contains-push kept h, less);
-      among = λ g c. ⊎_elim (λ m. Contains-append_left (take i rows) (h ∷ []) g (old.among g m)) (λ e. subst (Contains (take i rows ++ h ∷ [])) e (Contains-push (take i rows) h)) (Contains-push_cases kept h g c);
+      among = λ g c. ⊎_elim (λ m. Contains-append_left (take i rows) (h ∷ []) g (old.among g m))
+          (λ e. subst (Contains (take i rows ++ h ∷ [])) e (Contains-push (take i rows) h)) (Contains-push_cases kept h g c);
       guarding = λ g j c guarded. ⊎_elim
           (λ m. let by = old.guarding g j m guarded in record { handler = by.handler; row = Contains-append_left kept (h ∷ []) by.handler by.row; guarded = by.guarded })
           (λ e. record { handler = h; row = Contains-push kept h; guarded = subst (λ (x : Handler). IsGuarded x j) (sym e) guarded })

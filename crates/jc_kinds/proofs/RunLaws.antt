@@ -20,7 +20,8 @@ longer loose column i e same h = record {
   other = λ lt q. h.other lt (q ∙ same);
 }
 
-pub single : (loose : Bool) (column : List Kind) (i : ℕ) → i < length column → (i + 1 < length column → key_of loose (kind_at column i) ≢ key_of loose (kind_at column (i + 1))) → IsEnd loose column i (i + 1)
+pub single : (loose : Bool) (column : List Kind) (i : ℕ) → i < length column
+    → (i + 1 < length column → key_of loose (kind_at column i) ≢ key_of loose (kind_at column (i + 1))) → IsEnd loose column i (i + 1)
 single loose column i within differ = record {
   above = omega arith;
   within = omega (arith, within);
@@ -28,7 +29,8 @@ single loose column i within differ = record {
   other = λ lt q. differ lt (sym q);
 }
 
-pub one_more : (loose : Bool) (column : List Kind) (i e : ℕ) (ends ends' : List ℕ) → i < length column → AreEnds loose column (i + 1) ends → IsEnd loose column i e → ends' ≡ set ends i e → AreEnds loose column i ends'
+pub one_more : (loose : Bool) (column : List Kind) (i e : ℕ) (ends ends' : List ℕ) → i < length column → AreEnds loose column (i + 1) ends
+    → IsEnd loose column i e → ends' ≡ set ends i e → AreEnds loose column i ends'
 one_more loose column i e ends ends' within all here is = record {
   size = ap length is ∙ length-set ends i e ∙ all.size;
   each = λ k le lt. let lti : i < length ends = omega (arith, all.size, within) in

@@ -71,7 +71,8 @@ frame_is names (f ∷ frames) i s e = by (frame_at (map (type_state_at names) fr
     by rest more true is e = (f, first_in f frames, eqb-true f.at i is, same_Some (type_state names f.state) s e)
     by rest more false is e = let m = more e in (m.0, later_in f frames m.0 m.1, m.2, m.3)
 
-pub frame_state : (first : ℕ) (code : List Insn) (locals stack : ℕ) (frames : List FrameAt) (f : FrameAt) (k : ℕ) → AreFramesFrom first code locals stack frames → k < length frames → get_or frames k f ≡ f → IsState code locals stack f.state
+pub frame_state : (first : ℕ) (code : List Insn) (locals stack : ℕ) (frames : List FrameAt) (f : FrameAt) (k : ℕ)
+    → AreFramesFrom first code locals stack frames → k < length frames → get_or frames k f ≡ f → IsState code locals stack f.state
 frame_state first code locals stack [] f k are lt e = absurd (omega (arith, lt))
 frame_state first code locals stack (g ∷ frames) f zero are lt e = subst (λ (x : FrameAt). IsState code locals stack x.state) e are.2
 frame_state first code locals stack (g ∷ frames) f (suc k) are lt e = frame_state (g.at + 1) code locals stack frames f k are.3 (omega (arith, lt)) e
@@ -110,7 +111,8 @@ module _ (names : Names) (b : Body) (w : IsWellMadeOfAnySize b) (free : (i : ℕ
       by None is e = more s e
       by (Some t) is e = frame_fine i s (is ∙ e)
 
-  after_fine : (i : ℕ) (o : Option TypeState) (falls : Bool) (t : TypeState) → ((s : TypeState) → o ≡ Some s → Fine b s) → (if falls then option_and_then (after_of b i) o else None) ≡ Some t → Fine b t
+  after_fine : (i : ℕ) (o : Option TypeState) (falls : Bool) (t : TypeState) → ((s : TypeState) → o ≡ Some s → Fine b s)
+      → (if falls then option_and_then (after_of b i) o else None) ≡ Some t → Fine b t
   after_fine i o false t before e = absurd (none-some _ e)
   after_fine i None true t before e = absurd (none-some _ e)
   after_fine i (Some s) true t before e =

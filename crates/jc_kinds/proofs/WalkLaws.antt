@@ -142,7 +142,8 @@ module _ (old before after : Names) (b : Body) (i : ℕ) (s : State) (made : IsW
   frame_later j f e = frame_is old b j f e ∙ ap Some (sym (seen_grown old after f grown (frame_numbered (length old) b.frames frames j f e)))
 
   -- where control goes on the state after the instruction fits
-  leads_there : (left : State) (j : ℕ) → after_at old b i ≡ Some (type_state after left) → LeadsTo b i j → fits_frame b.frames left j ≡ true → FitsThere (Some (type_state after left)) (state_of old b j)
+  leads_there : (left : State) (j : ℕ) → after_at old b i ≡ Some (type_state after left) → LeadsTo b i j → fits_frame b.frames left j ≡ true
+      → FitsThere (Some (type_state after left)) (state_of old b j)
   leads_there left j is leads fits = by (frame_in b.frames j) refl fits leads
     where
       by : (o : Option State) → frame_in b.frames j ≡ o → fits_there left o ≡ true → LeadsTo b i j → FitsThere (Some (type_state after left)) (state_of old b j)
@@ -236,8 +237,10 @@ kept_more : (keeps : Bool) (states more : List State) (i : ℕ) (s : State) → 
 kept_more true states more i s count is k = ap length is ∙ length_push states s ∙ ap (λ (n : ℕ). n + 1) (count refl)
 kept_more false states more i s count is k = absurd (true≢false (sym k))
 
-pub walk_on : (old before after : Names) (b : Body) (keeps : Bool) (states more : List State) (i : ℕ) (s next : State) → IsWellMade b → IsNowhere (IsMissing b) → AreNumberedFrames (length old) b.frames
-    → i < length b.code → IsWalking old before b keeps states i s → Grows before after → IsStep before after b i s next → more ≡ states ++ kept_of keeps s → IsWalking old after b keeps more (i + 1) next
+pub walk_on : (old before after : Names) (b : Body) (keeps : Bool) (states more : List State) (i : ℕ) (s next : State) → IsWellMade b
+    → IsNowhere (IsMissing b) → AreNumberedFrames (length old) b.frames
+    → i < length b.code → IsWalking old before b keeps states i s → Grows before after → IsStep before after b i s next → more ≡ states
+        ++ kept_of keeps s → IsWalking old after b keeps more (i + 1) next
 walk_on old before after b keeps states more i s next made missing frames lt w g st is =
     let grown = grows_both old before after w.grown g in
     let here = w.here lt in record {
@@ -265,7 +268,8 @@ walk_stops old before after b keeps states i s made missing frames lt w g stop =
   kept = w.kept;
 }
 
-pub walk_ends : (old now : Names) (b : Body) (keeps : Bool) (states : List State) (i count : ℕ) (s : State) → i ≡ count → count ≡ length b.code → IsWalking old now b keeps states i s → IsWalk old now b keeps count states
+pub walk_ends : (old now : Names) (b : Body) (keeps : Bool) (states : List State) (i count : ℕ) (s : State) → i ≡ count → count ≡ length b.code
+    → IsWalking old now b keeps states i s → IsWalk old now b keeps count states
 walk_ends old now b keeps states i count s all same w = record {
   first = record {
     within = omega (arith, same);

@@ -68,7 +68,8 @@ module _ (b : Body) (first : ℕ) (states : List State) (array : ℕ) (names : L
   abbrev e : Emitted
   e = emission b first states array
 
-  pub are_widened : AreWidened (emission b first states array) (map (widened_frame (wide_place (emission b first states array).code)) (merged (emission b first states array).frames (emission b first states array).wide_frames))
+  pub are_widened : AreWidened (emission b first states array)
+      (map (widened_frame (wide_place (emission b first states array).code)) (merged (emission b first states array).frames (emission b first states array).wide_frames))
   are_widened =
       let told = emitted b first states array names well fit named in record {
         rising =
@@ -125,7 +126,9 @@ module _ (b : Body) (first : ℕ) (states : List State) (array : ℕ) (names : L
   abbrev placed : Bool → ℕ → ℕ
   placed wide = laid_place wide (code_in b first)
 
-  rows_laid : (wide : Bool) → map (moved_row (placed wide) (placed wide)) (map (moved_row (lead_of b first false) (land_of b first false)) b.handlers) ≡ map (moved_row (lead_of b first wide) (land_of b first wide)) b.handlers
+  rows_laid : (wide : Bool)
+      → map (moved_row (placed wide) (placed wide)) (map (moved_row (lead_of b first false) (land_of b first false)) b.handlers)
+      ≡ map (moved_row (lead_of b first wide) (land_of b first wide)) b.handlers
   rows_laid wide =
       rows_twice (laid_place wide (code_in b first)) (lead_of b first false) (land_of b first false) b.handlers
       ∙ ap₂ (λ lead land. map (moved_row lead land) b.handlers) (leads_in wide) (lands_in wide)
@@ -135,7 +138,8 @@ module _ (b : Body) (first : ℕ) (states : List State) (array : ℕ) (names : L
       lines_twice (laid_place wide (code_in b first)) (land_of b first false) b.lines
       ∙ ap (λ land. map (moved_line land) b.lines) (lands_in wide)
 
-  vars_laid : (wide : Bool) (vars : List VarAt) → map (placed_var (laid_place wide (code_in b first))) (map (moved_var b.arg_slots (land_of b first false)) vars) ≡ map (moved_var b.arg_slots (land_of b first wide)) vars
+  vars_laid : (wide : Bool) (vars : List VarAt) → map (placed_var (laid_place wide (code_in b first)))
+      (map (moved_var b.arg_slots (land_of b first false)) vars) ≡ map (moved_var b.arg_slots (land_of b first wide)) vars
   vars_laid wide vars =
       vars_twice b.arg_slots (laid_place wide (code_in b first)) (land_of b first false) vars
       ∙ ap (λ land. map (moved_var b.arg_slots land) vars) (lands_in wide)

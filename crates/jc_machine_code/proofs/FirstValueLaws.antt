@@ -42,7 +42,8 @@ name_null n name [] k = refl
 name_null n name (b ∷ rest) k = name_step n name b rest k (nat_eq b 59) (name_null n (name ++ b ∷ []) rest k)
 
 array_step : (n b : ℕ) (rest : List ℕ) (k : ℤ) (x y z : Bool) → FirstNull (types_from (before (suc (suc n))) rest) k
-    → FirstNull ((if x || (y || z) then [] else in_arrays (suc n) (base_type b) ∷ []) ++ types_from (if x then before (suc (suc n)) else if y then naming (suc n) [] else if z then behind else before 0) rest) k
+    → FirstNull ((if x || (y || z) then [] else in_arrays (suc n) (base_type b) ∷ [])
+        ++ types_from (if x then before (suc (suc n)) else if y then naming (suc n) [] else if z then behind else before 0) rest) k
 array_step n b rest k true y z h = h
 array_step n b rest k false true z h = name_null (suc n) [] rest k
 array_step n b rest k false false true h = behind_null rest k
@@ -104,7 +105,8 @@ none_bounded : (n : ℤ) → n ≡ pos 0 → Bounded n
 none_bounded n e = subst Bounded (sym e) (le_z_yes tt, le_z_yes tt)
 
 base_bounded : (b66 b67 b68 b70 b73 b83 : Bool) (n : ℤ)
-    → IsFirstOf (Some (if b66 then Byte else if b67 then Char else if b68 then Double else if b70 then Float else if b73 then Int else if false then Long else if b83 then Short else Boolean)) n → Bounded n
+    → IsFirstOf (Some (if b66 then Byte else if b67 then Char else if b68 then Double else if b70 then Float else if b73 then Int else if false
+        then Long else if b83 then Short else Boolean)) n → Bounded n
 base_bounded true b67 b68 b70 b73 b83 n h = between (negsuc 127) (pos 127) n (le_z_yes tt) (le_z_yes tt) h
 base_bounded false true b68 b70 b73 b83 n h = between (pos 0) (pos 65535) n (le_z_yes tt) (le_z_yes tt) h
 base_bounded false false true b70 b73 b83 n h = none_bounded n h

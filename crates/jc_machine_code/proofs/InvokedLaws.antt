@@ -92,7 +92,8 @@ module _ (program : Program) where
   declared_fine : (op : ℕ) (at : Location) (class : ℕ) (name desc : List ℕ) (o : Option ℕ) → Fine (declared_field op at class name desc o)
   declared_fine op at class name desc None = tt
   declared_fine op at class name desc (Some field) =
-      either (may_name_field at class name) (field_operation op (record { class = class; field = field }) (field_type_in desc)) outside (type_fine op (record { class = class; field = field }) (field_type_in desc)) tt
+      either (may_name_field at class name) (field_operation op (record { class = class; field = field }) (field_type_in desc)) outside
+          (type_fine op (record { class = class; field = field }) (field_type_in desc)) tt
 
   linked_fine : (op : ℕ) (at : Location) (name desc : List ℕ) (o : Option ℕ) → Fine (linked_field op at program name desc o)
   linked_fine op at name desc None = tt
@@ -193,7 +194,8 @@ module _ (program : Program) where
   each_fine at (insns.Table low default arms) = refl
   each_fine at (insns.Lookup default arms) = refl
 
-  calls_fine : (insn : Insn) (o : Operation) (callee : Entry) (parameters : List FieldType) (max_locals : ℕ) → FineInsn insn o → o ≡ invokes callee parameters max_locals → Invoked program callee parameters max_locals
+  calls_fine : (insn : Insn) (o : Operation) (callee : Entry) (parameters : List FieldType) (max_locals : ℕ) → FineInsn insn o
+      → o ≡ invokes callee parameters max_locals → Invoked program callee parameters max_locals
   calls_fine (insns.Table low default arms) o callee parameters max_locals f e = absurd (cc)
   calls_fine (insns.Lookup default arms) o callee parameters max_locals f e = absurd (cc)
   calls_fine insn o callee parameters max_locals f e = subst Fine e f
@@ -208,7 +210,8 @@ module _ (program : Program) where
   located_calls None callee parameters max_locals e = absurd (cc)
   located_calls (Some i) callee parameters max_locals e = invoked i.at i.insn callee parameters max_locals e
 
-  pub invoked_at : (method : Entry) (place : ℕ) (callee : Entry) (parameters : List FieldType) (max_locals : ℕ) → operation_at program (located program method place) ≡ invokes callee parameters max_locals
+  pub invoked_at : (method : Entry) (place : ℕ) (callee : Entry) (parameters : List FieldType) (max_locals : ℕ)
+      → operation_at program (located program method place) ≡ invokes callee parameters max_locals
       → Invoked program callee parameters max_locals
   invoked_at method place = located_calls (located program method place)
 

@@ -117,4 +117,6 @@ module _ (arms : List Arm) (k : ℤ) (low high middle : ℕ) (a : Arm) (up : IsA
       this i x same e = let one : x ≡ a = same_Some x a (sym e ∙ ap (slice_get arms) same ∙ at) in subst (λ (z : Arm). z.key <ℤ k) (sym one) h
 
 pub nowhere : (default : ℕ) (arms : List Arm) (k : ℤ) (low high : ℕ) → high ≤ low → Between arms k low high → lookup_target default arms k ≡ default
-nowhere default arms k low high h between = missing default arms k (λ i x e. ⊎_elim (λ (g : i < low). inl (between.below i x g e)) (λ (g : low ≤ i). inr (between.above i x (omega (arith, h, g)) e)) (cases_lt i low))
+nowhere default arms k low high h between =
+    missing default arms k
+    (λ i x e. ⊎_elim (λ (g : i < low). inl (between.below i x g e)) (λ (g : low ≤ i). inr (between.above i x (omega (arith, h, g)) e)) (cases_lt i low))

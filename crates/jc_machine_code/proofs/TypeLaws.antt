@@ -23,7 +23,8 @@ abbrev pub IsKindOf : ℕ → ValueType → Option ComputationalType → Type 0
 IsKindOf i v kind = (type : FieldType) → Says v type → option_map computational kind ≡ computational_type type
 
 -- the types that the values say, one by one
-says_at : (values : List ValueType) (types : List FieldType) (i : ℕ) (v : ValueType) (type : FieldType) → AllSay values types → slice_get values i ≡ Some v → slice_get types i ≡ Some type → Says v type
+says_at : (values : List ValueType) (types : List FieldType) (i : ℕ) (v : ValueType) (type : FieldType) → AllSay values types
+    → slice_get values i ≡ Some v → slice_get types i ≡ Some type → Says v type
 says_at values types i v type all there here = record {
   type_is = same_Some (type_of v) type (
       sym (slice_get-map type_of values i ∙ ap (option_map type_of) there) ∙ ap (λ (l : List FieldType). slice_get l i) all.types_are ∙ here);

@@ -69,11 +69,14 @@ rest_is m (negsuc a) = refl
 
 wrap_32 : (z : ℤ) → Wraps 31 z (int_wrap w32 z)
 unfolding int_wrap
-wrap_32 z = wraps_from 31 z _ _ (rest_differs 4294967295 z) (subst (λ r. Wraps 31 r (int_wrap w32 z)) (rest_is 4294967295 z) (cast_32 (unsigned_abs (int_rem_euclid z (pos 4294967296))) (rest_within 4294967295 z)))
+wrap_32 z = wraps_from 31 z _ _ (rest_differs 4294967295 z)
+    (subst (λ r. Wraps 31 r (int_wrap w32 z)) (rest_is 4294967295 z) (cast_32 (unsigned_abs (int_rem_euclid z (pos 4294967296))) (rest_within 4294967295 z)))
 
 wrap_64 : (z : ℤ) → Wraps 63 z (int_wrap w64 z)
 unfolding int_wrap
-wrap_64 z = wraps_from 63 z _ _ (rest_differs 18446744073709551615 z) (subst (λ r. Wraps 63 r (int_wrap w64 z)) (rest_is 18446744073709551615 z) (cast_64 (unsigned_abs (int_rem_euclid z (pos 18446744073709551616))) (rest_within 18446744073709551615 z)))
+wrap_64 z = wraps_from 63 z _ _ (rest_differs 18446744073709551615 z)
+    (subst (λ r. Wraps 63 r (int_wrap w64 z)) (rest_is 18446744073709551615 z)
+      (cast_64 (unsigned_abs (int_rem_euclid z (pos 18446744073709551616))) (rest_within 18446744073709551615 z)))
 
 fits_32 : (z : ℤ) → FitsInt z → SFits w32 z
 fits_32 (pos n) h = record { sfits = h }
@@ -127,7 +130,9 @@ quotient_32 (negsuc n) h = wraps_from 31 (negsuc n) (pos (4294967296 - suc n)) _
 
 quotient_64 : (q : ℤ) → unsigned_abs q ≤ 9223372036854775808 → Wraps 63 q (cast_signed w64 (cast_unsigned w64 q))
 quotient_64 (pos n) h = cast_64 n (omega (arith, h))
-quotient_64 (negsuc n) h = wraps_from 63 (negsuc n) (pos (18446744073709551616 - suc n)) _ (record { above = 1; below = 0; same = omega (arith, ints, h) }) (cast_64 (18446744073709551616 - suc n) (omega (arith, h)))
+quotient_64 (negsuc n) h =
+    wraps_from 63 (negsuc n) (pos (18446744073709551616 - suc n)) _ (record { above = 1; below = 0; same = omega (arith, ints, h) })
+    (cast_64 (18446744073709551616 - suc n) (omega (arith, h)))
 
 size_32 : (x : ℤ) → FitsInt x → unsigned_abs x ≤ 2147483648
 size_32 (pos n) h = omega (arith, h)
@@ -234,10 +239,12 @@ shifted_64 (pos n) c h = record { above = 0; below = 0; same = refl }
 shifted_64 (negsuc n) c h = times_below (18446744073709551616 - suc n) n c 18446744073709551616 (omega (arith, h))
 
 left_32 : (x : ℤ) (c : ℕ) → FitsInt x → Wraps 31 (x *ℤ pos c) (cast_signed w32 ((cast_unsigned w32 x * c) % 4294967296))
-left_32 x c h = wraps_from 31 _ (pos (cast_unsigned w32 x * c)) _ (shifted_32 x c h) (wraps_from 31 _ _ _ (rest_differs 4294967295 (pos (cast_unsigned w32 x * c))) (cast_32 _ (mod-lt (cast_unsigned w32 x * c) (omega arith))))
+left_32 x c h = wraps_from 31 _ (pos (cast_unsigned w32 x * c)) _ (shifted_32 x c h)
+    (wraps_from 31 _ _ _ (rest_differs 4294967295 (pos (cast_unsigned w32 x * c))) (cast_32 _ (mod-lt (cast_unsigned w32 x * c) (omega arith))))
 
 left_64 : (x : ℤ) (c : ℕ) → FitsLong x → Wraps 63 (x *ℤ pos c) (cast_signed w64 ((cast_unsigned w64 x * c) % 18446744073709551616))
-left_64 x c h = wraps_from 63 _ (pos (cast_unsigned w64 x * c)) _ (shifted_64 x c h) (wraps_from 63 _ _ _ (rest_differs 18446744073709551615 (pos (cast_unsigned w64 x * c))) (cast_64 _ (mod-lt (cast_unsigned w64 x * c) (omega arith))))
+left_64 x c h = wraps_from 63 _ (pos (cast_unsigned w64 x * c)) _ (shifted_64 x c h)
+    (wraps_from 63 _ _ _ (rest_differs 18446744073709551615 (pos (cast_unsigned w64 x * c))) (cast_64 _ (mod-lt (cast_unsigned w64 x * c) (omega arith))))
 
 rounds_down : (x : ℤ) (k : ℕ) → RoundsDown x (2 ^ k) (int_shr x k)
 rounds_down (pos a) k = let m = 2 ^ k in let e = div-add-mod' a m in let l : a % m < m = mod-lt a (pow_pos k) in record { at_most = omega (arith, ints, e); close = omega (arith, ints, e, l) }
@@ -282,7 +289,9 @@ longs_shift x y stack p q = record {
 -- ---- narrowing
 
 cut : (k m : ℕ) (x : ℤ) → FitsInt x → k * suc m ≡ 4294967296 → AreCongruent (suc m) x (pos (cast_unsigned w32 x % suc m))
-cut k m x p e = differ_then (suc m) x (pos (cast_unsigned w32 x)) _ (differ_in (suc m) k _ _ (subst (λ t. AreCongruent t x (pos (cast_unsigned w32 x))) (sym e) (unsigned_32 x p))) (rest_differs m (pos (cast_unsigned w32 x)))
+cut k m x p e = differ_then (suc m) x
+    (pos (cast_unsigned w32 x)) _ (differ_in (suc m) k _ _ (subst (λ t. AreCongruent t x (pos (cast_unsigned w32 x))) (sym e) (unsigned_32 x p)))
+    (rest_differs m (pos (cast_unsigned w32 x)))
 
 pub narrows : (x : ℤ) → FitsInt x → Narrows x
 narrows x p = record {
@@ -299,7 +308,8 @@ converts x y stack p q = let n = narrows x p in record {
   i2c = (_, refl, n.char);
   i2s = (_, refl, n.short);
   i2l = refl;
-  l2i = (_, refl, wraps_from 31 y (pos (cast_unsigned w64 y)) _ (differ_in 4294967296 4294967296 _ _ (unsigned_64 y q)) (wraps_from 31 _ _ _ (rest_differs 4294967295 (pos (cast_unsigned w64 y))) (cast_32 _ (mod-lt (cast_unsigned w64 y) (omega arith)))));
+  l2i = (_, refl, wraps_from 31 y (pos (cast_unsigned w64 y)) _ (differ_in 4294967296 4294967296 _ _ (unsigned_64 y q))
+      (wraps_from 31 _ _ _ (rest_differs 4294967295 (pos (cast_unsigned w64 y))) (cast_32 _ (mod-lt (cast_unsigned w64 y) (omega arith)))));
 }
 
 -- ---- comparisons

@@ -103,9 +103,11 @@ values_fit [] (n ∷ numbers) e = absurd (false_true e)
 values_fit (type ∷ types) [] e = absurd (false_true e)
 values_fit (type ∷ types) (n ∷ numbers) e =
     let p = both (is_argument type n) (are_arguments types numbers) e in
-    slots_append (spread_value (number_value type n)) (spread_values (argument_values types numbers)) (spread_one (held_of type)) (spread (map held_of types)) (value_fits type n p.0) (values_fit types numbers p.1)
+    slots_append (spread_value (number_value type n)) (spread_values (argument_values types numbers)) (spread_one (held_of type))
+        (spread (map held_of types)) (value_fits type n p.0) (values_fit types numbers p.1)
 
-locals_fit : (most : ℕ) (types : List FieldType) (numbers : List ℤ) → are_arguments types numbers ≡ true → AreInSlots (locals_for most (argument_values types numbers)) (in_locals most (map held_of types))
+locals_fit : (most : ℕ) (types : List FieldType) (numbers : List ℤ) → are_arguments types numbers ≡ true
+    → AreInSlots (locals_for most (argument_values types numbers)) (in_locals most (map held_of types))
 locals_fit most types numbers e =
     let a = spread_values (argument_values types numbers) in
     let x = spread (map held_of types) in
@@ -233,7 +235,8 @@ statics_fit (c ∷ classes) = (record { count = map_length first_value c.statics
 -- ---- threads
 
 pub no_body : Body
-no_body = record { method = 0; owner = []; name = []; desc = []; flags = 0; arg_slots = 0; max_stack = 0; max_locals = 0; code = []; handlers = []; lines = []; vars = []; kind_vars = []; frames = []; uses = [] }
+no_body = record { method = 0; owner = []; name = []; desc = []; flags = 0; arg_slots = 0; max_stack = 0; max_locals = 0; code = []; handlers = [];
+    lines = []; vars = []; kind_vars = []; frames = []; uses = [] }
 
 -- what an entry is
 record IsEntry (program : Program) (thread : ThreadLine) (entry : Entry) : Type 0 where
@@ -289,9 +292,11 @@ begins_no_init program method numbers c b k =
     (subst (λ o. named_init o ≡ false) (sym k.body_is) k.no_init)
 
 -- the values are of the kinds of the state in which the method begins
-begins_in_slots : (program : Program) (method : Entry) (numbers : List ℤ) (c : Linked) (b : Body) → Begun program method numbers c b → AreInSlots (first_frame method b numbers).locals (first_state b).locals
+begins_in_slots : (program : Program) (method : Entry) (numbers : List ℤ) (c : Linked) (b : Body) → Begun program method numbers c b
+    → AreInSlots (first_frame method b numbers).locals (first_state b).locals
 begins_in_slots program method numbers c b k =
-    subst (λ s. AreInSlots (locals_for b.max_locals (argument_values (method_type_in b.desc).parameters numbers)) (in_locals b.max_locals ((cond s [] (this_of b.owner b.name ∷ [])) ++ map held_of (method_type_in b.desc).parameters))) (sym k.static)
+    subst (λ s. AreInSlots (locals_for b.max_locals (argument_values (method_type_in b.desc).parameters numbers))
+        (in_locals b.max_locals ((cond s [] (this_of b.owner b.name ∷ [])) ++ map held_of (method_type_in b.desc).parameters))) (sym k.static)
     (locals_fit b.max_locals (method_type_in b.desc).parameters numbers k.arguments)
 
 frame_there : (program : Program) (method : Entry) (b : Body) (numbers : List ℤ) → AreThereIn program [] (first_frame method b numbers)
@@ -301,17 +306,20 @@ frame_there program method b numbers = let values = argument_values (method_type
   stack = tt;
 }
 
-frame_fits : (program : Program) (method : Entry) (numbers : List ℤ) (c : Linked) (b : Body) → Begun program method numbers c b → is_enterable c b ≡ true → FitsTop program (first_frame method b numbers)
+frame_fits : (program : Program) (method : Entry) (numbers : List ℤ) (c : Linked) (b : Body) → Begun program method numbers c b
+    → is_enterable c b ≡ true → FitsTop program (first_frame method b numbers)
 frame_fits program method numbers c b k e =
     let s = there_is (first_state b) (state_of program.names b 0) k.whole.checked.entry in
     record {
       state = s.0;
-      stands = record { linked = c; class_is = k.class_is; body = b; body_is = k.body_is; plain = (both (is_plain c b) (not (is_synchronized b)) e).0; within = k.whole.well_made.of_any_size.code.some; state_is = s.1 };
+      stands = record { linked = c; class_is = k.class_is; body = b; body_is = k.body_is;
+          plain = (both (is_plain c b) (not (is_synchronized b)) e).0; within = k.whole.well_made.of_any_size.code.some; state_is = s.1 };
       locals = slots_fit (first_frame method b numbers).locals (first_state b).locals s.0.locals (begins_in_slots program method numbers c b k) s.2.locals;
       stack = nothing_fits s.0.stack s.2.stack;
     }
 
-running_fits : (program : Program) (method : Entry) (numbers : List ℤ) (c : Linked) (b : Body) → Begun program method numbers c b → is_enterable c b ≡ true → FitsRunning program [] (first_frame method b numbers) []
+running_fits : (program : Program) (method : Entry) (numbers : List ℤ) (c : Linked) (b : Body) → Begun program method numbers c b
+    → is_enterable c b ≡ true → FitsRunning program [] (first_frame method b numbers) []
 running_fits program method numbers c b k e =
     let n = counted_one program (first_frame method b numbers) (begins_no_init program method numbers c b k) in
     record {
@@ -338,7 +346,8 @@ thread_fits program thread entry p e =
     (subst (λ o. FitsThread program [] (elim o [ None ↦ stuck entry 0 | Some b ↦ thread_in entry thread.args i.linked b ])) (sym i.body_is)
     (thread_if program entry thread.args i.linked i.body (is_enterable i.linked i.body) refl k))
 
-threads_fit : (program : Program) (threads : List ThreadLine) (entries : List Entry) → IsProgram program → AreEntries program threads entries → AllByRecursion (FitsThread program []) (first_threads program threads entries)
+threads_fit : (program : Program) (threads : List ThreadLine) (entries : List Entry) → IsProgram program → AreEntries program threads entries
+    → AllByRecursion (FitsThread program []) (first_threads program threads entries)
 threads_fit program [] [] p e = tt
 threads_fit program [] (entry ∷ entries) p e = absurd e
 threads_fit program (thread ∷ threads) [] p e = absurd e

@@ -34,7 +34,9 @@ class_file_joined front name class =
     rw (begins, rest, class) refl
 
 -- one more class file
-pub class_file_put : (front name : List ℕ) (old new : List (String Global)) (path : String Global) → is_class_name name ≡ true → string_bytes path ≡ front ++ name → new ≡ old ++ path ∷ [] → AllPass (is_class_file front) (map string_bytes old) → AllPass (is_class_file front) (map string_bytes new)
+pub class_file_put : (front name : List ℕ) (old new : List (String Global)) (path : String Global) → is_class_name name ≡ true
+    → string_bytes path ≡ front ++ name → new ≡ old ++ path ∷ [] → AllPass (is_class_file front) (map string_bytes old)
+    → AllPass (is_class_file front) (map string_bytes new)
 class_file_put front name old new path class joined put h =
     let P : List ℕ → Type 0 = λ bytes. is_class_file front bytes ≡ true in
     let here : P (string_bytes path) = subst P (sym joined) (class_file_joined front name class) in
@@ -49,7 +51,8 @@ unmapped P f (y ∷ ys) h = All-cons (λ y. P (f y)) y ys (All-head P (f y) (map
 pub mapped_dedup : (P : List ℕ → Type 0) (paths : List (String Global)) → All P (map string_bytes paths) → All P (map string_bytes (dedup string_eq paths))
 mapped_dedup P paths h = All-map P string_bytes (dedup string_eq paths) (All-dedup string_eq (λ s. P (string_bytes s)) paths (unmapped P string_bytes paths h))
 
-below_bytes : (x : String Global) (paths : List (String Global)) → AllByRecursion (λ y. string_cmp x y ≡ Less) paths → AllByRecursion (λ bytes. slice_cmp nat_cmp (string_bytes x) bytes ≡ Less) (map string_bytes paths)
+below_bytes : (x : String Global) (paths : List (String Global)) → AllByRecursion (λ y. string_cmp x y ≡ Less) paths
+    → AllByRecursion (λ bytes. slice_cmp nat_cmp (string_bytes x) bytes ≡ Less) (map string_bytes paths)
 below_bytes x [] h = tt
 below_bytes x (y ∷ ys) h = (h.0, below_bytes x ys h.1)
 
@@ -68,7 +71,8 @@ both : (a b : Bool) → T a → T b → T (a && b)
 both true b p q = q
 both false b p q = p
 
-below_entries : (x : String Global) (es : List (String Global × Vec ℕ Global)) → AllByRecursion (λ y. string_cmp x y ≡ Less) (keys_of es) → T (below_all (slice_cmp nat_cmp) (string_bytes x) (map entry_of es))
+below_entries : (x : String Global) (es : List (String Global × Vec ℕ Global)) → AllByRecursion (λ y. string_cmp x y ≡ Less) (keys_of es)
+    → T (below_all (slice_cmp nat_cmp) (string_bytes x) (map entry_of es))
 below_entries x [] h = tt
 below_entries x (e ∷ es) h = both _ _ (subst (λ r. T (is_lt r)) (sym h.0) tt) (below_entries x es h.1)
 
@@ -91,14 +95,16 @@ pub keys_held : (m : Kept) → IsOrdered string_cmp m → map string_bytes (tree
 keys_held m ordered = sym (ap (map (λ (e : List ℕ × List ℕ). e.0)) (entries_of_rising (map entry_of m.entries) (rising m.entries ordered)) ∙ firsts m.entries)
 
 -- a listing that has come to its end
-pub listed : (p : List ℕ → Bool) (m : Kept) (done : List (List ℕ)) (left : List (String Global)) → IsOrdered string_cmp m → left ≡ [] → done ++ filter p (map string_bytes left) ≡ filter p (map string_bytes (tree.keys m)) → done ≡ filter p (keys (held m))
+pub listed : (p : List ℕ → Bool) (m : Kept) (done : List (List ℕ)) (left : List (String Global)) → IsOrdered string_cmp m → left ≡ [] → done
+    ++ filter p (map string_bytes left) ≡ filter p (map string_bytes (tree.keys m)) → done ≡ filter p (keys (held m))
 listed p m done left ordered none all = sym (append-nil done) ∙ sym (ap (λ l. done ++ filter p (map string_bytes l)) none) ∙ all ∙ ap (filter p) (keys_held m ordered)
 
 pub listed_in_order : (p : List ℕ → Bool) (m : Kept) (done : List (List ℕ)) → IsOrdered string_cmp m → done ≡ filter p (keys (held m)) → IsStrictlySortedBy (slice_cmp nat_cmp) done
 listed_in_order p m done ordered all =
     subst (IsStrictlySortedBy (slice_cmp nat_cmp)) (sym (all ∙ sym (ap (filter p) (keys_held m ordered)))) (IsStrictlySortedBy-filter (slice_cmp nat_cmp) p _ (bytes_in_order (tree.keys m) ordered))
 
-pub listing_given : (files : FileMap) (folder front : List ℕ) (paths : List (List ℕ)) → front ≡ front_of folder → paths ≡ filter (is_class_file front) (keys files) → IsStrictlySortedBy (slice_cmp nat_cmp) paths → IsListing (Some files) folder paths
+pub listing_given : (files : FileMap) (folder front : List ℕ) (paths : List (List ℕ)) → front ≡ front_of folder
+    → paths ≡ filter (is_class_file front) (keys files) → IsStrictlySortedBy (slice_cmp nat_cmp) paths → IsListing (Some files) folder paths
 listing_given files folder front paths is told sorted =
     let here : paths ≡ filter (is_class_file (front_of folder)) (keys files) = told ∙ ap (λ f. filter (is_class_file f) (keys files)) is in
     record {

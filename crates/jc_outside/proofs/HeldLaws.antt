@@ -38,7 +38,8 @@ found_cond false v o = refl
 module _ (path : List ℕ) where
   find_found : (es : List (String Global × Vec ℕ Global)) → find (slice_cmp nat_cmp) path (map entry_of es) ≡ found (lookup (is_at (λ k. slice_cmp nat_cmp path (string_bytes k))) es)
   find_found [] = refl
-  find_found (e ∷ es) = ap (λ (o : Option (List ℕ)). cond (is_at (λ k. slice_cmp nat_cmp path (string_bytes k)) e.0) (Some e.1.items) o) (find_found es) ∙ sym (found_cond (is_at (λ k. slice_cmp nat_cmp path (string_bytes k)) e.0) e.1 (lookup (is_at (λ k. slice_cmp nat_cmp path (string_bytes k))) es))
+  find_found (e ∷ es) = ap (λ (o : Option (List ℕ)). cond (is_at (λ k. slice_cmp nat_cmp path (string_bytes k)) e.0) (Some e.1.items) o)
+      (find_found es) ∙ sym (found_cond (is_at (λ k. slice_cmp nat_cmp path (string_bytes k)) e.0) e.1 (lookup (is_at (λ k. slice_cmp nat_cmp path (string_bytes k))) es))
 
   pub get_held : (m : Kept) → get (held m) path ≡ found (get_by_text m path)
   get_held m = get-from_entries nat_list_cmp_total (map entry_of m.entries) path ∙ find_found m.entries
@@ -64,7 +65,8 @@ held_updated path m n v updates = same_map nat_list_cmp_total exact_bytes _ _ (�
     ∙ ap (cond (bytes_eq path q) (Some v.items)) (sym (get_held q m)) ∙ sym (get_inserted (held m) path v.items q))
 
 -- the file at a path was emptied, or none is there
-pub held_emptied : (path : List ℕ) (m n : Kept) (v old : Vec ℕ Global) → UpdatesBy string_cmp (λ k. slice_cmp nat_cmp path (string_bytes k)) m n (Some v) → v.items ≡ [] → Some old ≡ get_by_text m path → held n ≡ emptied (held m) path
+pub held_emptied : (path : List ℕ) (m n : Kept) (v old : Vec ℕ Global) → UpdatesBy string_cmp (λ k. slice_cmp nat_cmp path (string_bytes k)) m n
+    (Some v) → v.items ≡ [] → Some old ≡ get_by_text m path → held n ≡ emptied (held m) path
 held_emptied path m n v old updates none there =
     held_updated path m n v updates ∙ ap (insert (held m) path) none
     ∙ ap (λ b. cond b (insert (held m) path []) (held m)) (sym (ap is_some (get_held path m ∙ ap found (sym there))))
@@ -93,6 +95,7 @@ emptied_leaves m n path bytes e = by (get m path) refl
         })
 
 -- a front of the bytes was to be written
-pub write_failed : {E : Type 0} (r : Result (Unit {0}) E) (m n : FileMap) (path part bytes : List ℕ) → Begins part bytes → OnOk r (n ≡ insert m path part) → OnErr r (n ≡ emptied m path) → LeavesPart bytes path m n
+pub write_failed : {E : Type 0} (r : Result (Unit {0}) E) (m n : FileMap) (path part bytes : List ℕ) → Begins part bytes
+    → OnOk r (n ≡ insert m path part) → OnErr r (n ≡ emptied m path) → LeavesPart bytes path m n
 write_failed (Ok u) m n path part bytes front done stopped = part_written m n path part bytes done front
 write_failed (Err e) m n path part bytes front done stopped = emptied_leaves m n path bytes stopped

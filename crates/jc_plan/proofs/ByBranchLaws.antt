@@ -46,7 +46,8 @@ goes_within code i insn is h g =
 out_is : (b : Body) (first i k : ℕ) (insn : Insn) (x : Branch) → slice_get b.code i ≡ Some insn → slice_get (branches_of i insn) k ≡ Some x
     → no_probe (option_and_then (λ out. slice_get out k) (slice_get (plan_of b first).out i)) ≡ out_probe b first x
 out_is b first i k insn x h g =
-    let there : slice_get (map (out_probe b first) (branches_of i insn)) k ≡ Some (out_probe b first x) = slice_get-map (out_probe b first) (branches_of i insn) k ∙ ap (option_map (out_probe b first)) g in
+    let there : slice_get (map (out_probe b first) (branches_of i insn)) k ≡ Some (out_probe b first x) =
+            slice_get-map (out_probe b first) (branches_of i insn) k ∙ ap (option_map (out_probe b first)) g in
     ap (λ o. no_probe (option_and_then (λ out. slice_get out k) o)) (out_read b first i insn h) ∙ ap no_probe there
 
 pub branch_planned : (b : Body) (first i k : ℕ) (insn : Insn) (x : Branch) → IsCode b.code → slice_get b.code i ≡ Some insn → slice_get (branches_of i insn) k ≡ Some x → IsOf insn i x
@@ -58,7 +59,8 @@ branch_planned b first i k insn x is h g (a_jump to one f e) = subst (λ z. plan
 branch_planned b first i k insn x is h g (an_arm n to f c d e) = subst (λ z. planned (plan_of b first) z k ≡ probe_of b first z) e (out_is b first i k insn (arm i n to) h (g ∙ ap Some (sym e)))
 branch_planned b first i k insn x is h g (an_exit f e) = subst (λ z. planned (plan_of b first) z k ≡ probe_of b first z) e (out_is b first i k insn (exit i) h (g ∙ ap Some (sym e)))
 
-pub each_planned : (b : Body) (first i k : ℕ) (insn : Insn) (x : Branch) → IsCode b.code → slice_get b.code i ≡ Some insn → slice_get (branches_of i insn) k ≡ Some x → planned (plan_of b first) x k ≡ probe_of b first x
+pub each_planned : (b : Body) (first i k : ℕ) (insn : Insn) (x : Branch) → IsCode b.code → slice_get b.code i ≡ Some insn
+    → slice_get (branches_of i insn) k ≡ Some x → planned (plan_of b first) x k ≡ probe_of b first x
 each_planned b first i k insn x is h g = branch_planned b first i k insn x is h g (is_of insn i x (stands_in (branches_of i insn) k x g))
 
 -- ---- an analysed class

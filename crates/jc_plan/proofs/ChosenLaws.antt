@@ -47,7 +47,8 @@ arm_listed : (default : ℕ) (arms : List Arm) (k : ℤ) → Contains (default �
 arm_listed default [] k = first_in default []
 arm_listed default (a ∷ arms) k = by (int_le a.key k && int_le k a.key) (arm_listed default arms k)
   where
-    by : (b : Bool) → Contains (default ∷ map (λ (b : Arm). b.to) arms) (lookup_target default arms k) → Contains (default ∷ a.to ∷ map (λ (b : Arm). b.to) arms) (cond b a.to (lookup_target default arms k))
+    by : (b : Bool) → Contains (default ∷ map (λ (b : Arm). b.to) arms) (lookup_target default arms k)
+        → Contains (default ∷ a.to ∷ map (λ (b : Arm). b.to) arms) (cond b a.to (lookup_target default arms k))
     by true c = later_in default (a.to ∷ map (λ (b : Arm). b.to) arms) a.to (first_in a.to (map (λ (b : Arm). b.to) arms))
     by false c =
         ⊎_elim
@@ -122,7 +123,8 @@ chosen_in insn i outcome x e = by (flow_of insn) refl outcome e
     by flows.Jumps flow one_way e = subst (Lists insn i flows.Jumps) (same_Some (jump i (jump_target insn)) x e) (jumps (inr flow) (jumps_one insn flow))
     by flows.Switches flow (key k) e =
         subst (Lists insn i flows.Switches) (same_Some (arm_to i (targets_of insn) (key_target insn k)) x e)
-        (subst (λ (n : ℕ). Contains (map_from (arm i) 0 (first_seen (targets_of insn))) (arm i n (key_target insn k))) (zero-add (position_or_len (nat_eq (key_target insn k)) (first_seen (targets_of insn))))
+        (subst (λ (n : ℕ). Contains (map_from (arm i) 0 (first_seen (targets_of insn))) (arm i n (key_target insn k)))
+            (zero-add (position_or_len (nat_eq (key_target insn k)) (first_seen (targets_of insn))))
         (arm_in i 0 (first_seen (targets_of insn)) (key_target insn k) (first_seen_all (targets_of insn) (key_target insn k) (key_listed insn flow k))))
     by flows.Returns flow one_way e = subst (Lists insn i flows.Returns) (same_Some (exit i) x e) (first_in (exit i) [])
     by flows.Throws flow one_way e = subst (Lists insn i flows.Throws) (same_Some (exit i) x e) (first_in (exit i) [])

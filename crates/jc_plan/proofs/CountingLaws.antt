@@ -67,7 +67,8 @@ module _ (b : Body) (rows : List Handler) (listed : List Branch) (same_rows : ro
             let one_first : one_if (nat_eq 0 i) ≡ one_if (nat_eq i 0) = ap one_if (nat_eq_equiv.symm 0 i) in
             let jumps : count_by (enters i) listed ≡ count_by (leads_to i) b.code = ap (count_by (enters i)) same_branches ∙ all_entered i b.code in
             let starts : count_by (λ (h : Handler). nat_eq h.start i) rows ≡ count_by (λ (h : Handler). nat_eq h.start i) b.handlers = ap (count_by (λ (h : Handler). nat_eq h.start i)) same_rows in
-            let targets : count_by (λ (h : Handler). nat_eq h.target i) rows ≡ count_by (λ (h : Handler). nat_eq h.target i) b.handlers = ap (count_by (λ (h : Handler). nat_eq h.target i)) same_rows in
+            let targets : count_by (λ (h : Handler). nat_eq h.target i) rows ≡ count_by (λ (h : Handler). nat_eq h.target i) b.handlers =
+                    ap (count_by (λ (h : Handler). nat_eq h.target i)) same_rows in
             get_or_default_zero all i d (let l : i < length all = omega (arith, size) in l)
             ∙ (let e : get_or all i 0 ≡ entries b i = omega (arith, nothing i, one_first, jumps, starts, targets, first i, second i, third i) in e)
 
@@ -81,7 +82,8 @@ module _ (code : List Insn) (n : ℕ) (insn : Insn) (lt : n < length code) (is :
   joined : before ++ branches_of n insn ≡ join_from branches_of 0 (take (n + 1) code)
   joined = joins_one branches_of code n insn before (before ++ branches_of n insn) lt is refl refl
 
-  pub entered_next : (i : ℕ) → count_by (enters i) (join_from branches_of 0 (take (n + 1) code)) ≡ count_by (enters i) (join_from branches_of 0 (take n code)) + count_by (enters i) (branches_of n insn)
+  pub entered_next : (i : ℕ) → count_by (enters i) (join_from branches_of 0 (take (n + 1) code)) ≡ count_by (enters i)
+      (join_from branches_of 0 (take n code)) + count_by (enters i) (branches_of n insn)
   entered_next i = sym (ap (count_by (enters i)) joined) ∙ count_join (enters i) before (branches_of n insn)
 
   pub entered_few : (i : ℕ) → count_by (enters i) (join_from branches_of 0 (take n code)) + length (branches_of n insn) ≤ length (branches code)

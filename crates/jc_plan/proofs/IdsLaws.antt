@@ -52,13 +52,16 @@ module _ (b : Body) where
   abbrev counted : Position → Branch → Bool
   counted p x = is_probed b x && is_before (position_of x) p
 
-  later_more : (x y : Branch) → Contains (branches b.code) x → is_probed b x ≡ true → is_before (position_of x) (position_of y) ≡ true → probes_before b (position_of x) < probes_before b (position_of y)
+  later_more : (x y : Branch) → Contains (branches b.code) x → is_probed b x ≡ true → is_before (position_of x) (position_of y) ≡ true
+      → probes_before b (position_of x) < probes_before b (position_of y)
   later_more x y c probed h =
       count_lt (counted (position_of x)) (counted (position_of y)) (branches b.code) x
       (λ z k. let both = and_parts (is_probed b z) (is_before (position_of z) (position_of x)) k in
       and_from (is_probed b z) (is_before (position_of z) (position_of y)) both.0 (before_before (position_of z) (position_of x) (position_of y) both.1 h))
       c
-      (false_from_ne_true (counted (position_of x) x) (λ k. both_ways (is_before (position_of x) (position_of x)) (not_before_itself (position_of x)) (and_parts (is_probed b x) (is_before (position_of x) (position_of x)) k).1))
+      (false_from_ne_true (counted (position_of x) x)
+          (λ k. both_ways (is_before (position_of x) (position_of x)) (not_before_itself (position_of x))
+            (and_parts (is_probed b x) (is_before (position_of x) (position_of x)) k).1))
       (and_from (is_probed b x) (is_before (position_of x) (position_of y)) probed h)
 
   -- the ids rise with the positions
@@ -66,7 +69,8 @@ module _ (b : Body) where
   ids_rise first x y c probed h = omega (arith, later_more x y c probed h)
 
   -- one id, one position
-  pub one_position : (first : ℕ) (x y : Branch) → Contains (branches b.code) x → Contains (branches b.code) y → is_probed b x ≡ true → is_probed b y ≡ true → id_of b first x ≡ id_of b first y → position_of x ≡ position_of y
+  pub one_position : (first : ℕ) (x y : Branch) → Contains (branches b.code) x → Contains (branches b.code) y → is_probed b x ≡ true
+      → is_probed b y ≡ true → id_of b first x ≡ id_of b first y → position_of x ≡ position_of y
   one_position first x y c d probed other e =
       ⊎_elim (λ same. same)
       (λ apart.
@@ -77,5 +81,7 @@ module _ (b : Body) where
   pub ids_within : (first : ℕ) (x : Branch) → Contains (branches b.code) x → is_probed b x ≡ true → (first ≤ id_of b first x) × (id_of b first x < first + probe_count b)
   ids_within first x c probed =
       let below = count_lt (counted (position_of x)) (is_probed b) (branches b.code) x (λ z k. (and_parts (is_probed b z) (is_before (position_of z) (position_of x)) k).0) c
-      (false_from_ne_true (counted (position_of x) x) (λ k. both_ways (is_before (position_of x) (position_of x)) (not_before_itself (position_of x)) (and_parts (is_probed b x) (is_before (position_of x) (position_of x)) k).1)) probed in
+      (false_from_ne_true (counted (position_of x) x)
+          (λ k. both_ways (is_before (position_of x) (position_of x)) (not_before_itself (position_of x))
+            (and_parts (is_probed b x) (is_before (position_of x) (position_of x)) k).1)) probed in
       (omega arith, omega (arith, below))

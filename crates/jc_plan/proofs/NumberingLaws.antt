@@ -168,8 +168,11 @@ module _ (b : Body) where
       and_false (is_probed_way b (Falls to)) (is_before (record { at = to; number = 0 }) (record { at = i + 1; number = 0 }))
       (false_from_ne_true (is_before (record { at = to; number = 0 }) (record { at = i + 1; number = 0 }))
       (λ h. ⊎_elim (λ a. omega (arith, a)) (λ c. omega (arith, c.1)) (before_to (record { at = to; number = 0 }) (record { at = i + 1; number = 0 }) h).is))
-  next_by i (Jumps to) at number is goes = and_true (is_probed_way b (Jumps to)) (is_before (record { at = at; number = 1 + number }) (record { at = i + 1; number = 0 })) (last_comes at (i + 1) i number is refl)
-  next_by i (Switches to) at number is goes = and_true (is_probed_way b (Switches to)) (is_before (record { at = at; number = 1 + number }) (record { at = i + 1; number = 0 })) (last_comes at (i + 1) i number is refl)
+  next_by i (Jumps to) at number is goes =
+      and_true (is_probed_way b (Jumps to)) (is_before (record { at = at; number = 1 + number }) (record { at = i + 1; number = 0 }))
+      (last_comes at (i + 1) i number is refl)
+  next_by i (Switches to) at number is goes = and_true (is_probed_way b (Switches to))
+      (is_before (record { at = at; number = 1 + number }) (record { at = i + 1; number = 0 })) (last_comes at (i + 1) i number is refl)
   next_by i Exits at number is goes = last_comes at (i + 1) i number is refl
 
   module _ (i : ℕ) where

@@ -80,7 +80,8 @@ jumps_one insn e = subst (λ (f : Flow). HasTargets f (targets_of insn)) e (has_
 pub data IsOf (insn : Insn) (i : ℕ) (x : Branch) : Type 0 where
   a_sequence : goes_on (flow_of insn) ≡ true → sequence i ≡ x → IsOf insn i x
   a_jump : (to : ℕ) → targets_of insn ≡ to ∷ [] → ((flow_of insn ≡ flows.Branches) ⊎ (flow_of insn ≡ flows.Jumps)) → jump i to ≡ x → IsOf insn i x
-  an_arm : (number to : ℕ) → flow_of insn ≡ flows.Switches → Contains (targets_of insn) to → Contains (map_from (arm i) 0 (first_seen (targets_of insn))) (arm i number to) → arm i number to ≡ x → IsOf insn i x
+  an_arm : (number to : ℕ) → flow_of insn ≡ flows.Switches → Contains (targets_of insn) to
+      → Contains (map_from (arm i) 0 (first_seen (targets_of insn))) (arm i number to) → arm i number to ≡ x → IsOf insn i x
   an_exit : ((flow_of insn ≡ flows.Returns) ⊎ (flow_of insn ≡ flows.Throws)) → exit i ≡ x → IsOf insn i x
 
 jump_listed : (i : ℕ) (ts : List ℕ) (x : Branch) → Contains (map (jump i) ts) x → (to : ℕ) × Contains ts to × (jump i to ≡ x)
@@ -234,7 +235,8 @@ way_in code x t s there = by s.is
 -- how many entries are aimed where an edge without a probe leads
 data Entered (b : Body) (x : Branch) (t : ℕ) : Type 0 where
   only_fallen : t ≡ x.at + 1 → sequence x.at ≡ x → entries b t ≡ 0 → Entered b x t
-  only_jumped : (insn : Insn) → slice_get b.code x.at ≡ Some insn → leads_to t insn ≡ true → entries b t < 2 → (is_fallen_into b.code t ≡ true → ⊥) → (x.way ≡ Jumps t) ⊎ (x.way ≡ Switches t) → Entered b x t
+  only_jumped : (insn : Insn) → slice_get b.code x.at ≡ Some insn → leads_to t insn ≡ true → entries b t < 2 → (is_fallen_into b.code t ≡ true → ⊥)
+      → (x.way ≡ Jumps t) ⊎ (x.way ≡ Switches t) → Entered b x t
 
 leads_counted : (b : Body) (x : Branch) (t : ℕ) (insn : Insn) → slice_get b.code x.at ≡ Some insn → leads_to t insn ≡ true → 1 ≤ entries b t
 leads_counted b x t insn h l = omega (arith, count_place (leads_to t) b.code x.at insn h l)
@@ -311,7 +313,8 @@ same_jump code x y t s r at wx wy = by s.is (subst (λ k. IsOf r.insn k y) (sym 
     by (an_arm n to f c d e) (an_exit g h) = absurd (no_place t (ap (λ z. place_of z.way) h ∙ ly))
 
 -- two instructions that jump to one place are two entries
-two_jump : (b : Body) (x y : Branch) (t : ℕ) (insn other : Insn) → slice_get b.code x.at ≡ Some insn → slice_get b.code y.at ≡ Some other → leads_to t insn ≡ true → leads_to t other ≡ true → entries b t < 2 → x.at ≡ y.at
+two_jump : (b : Body) (x y : Branch) (t : ℕ) (insn other : Insn) → slice_get b.code x.at ≡ Some insn → slice_get b.code y.at ≡ Some other
+    → leads_to t insn ≡ true → leads_to t other ≡ true → entries b t < 2 → x.at ≡ y.at
 two_jump b x y t insn other h g l m few =
     ⊎_elim
     (λ same. same)

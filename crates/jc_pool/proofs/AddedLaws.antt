@@ -116,7 +116,8 @@ module _ {X : Type 0} (found : PoolValue → ℕ → Option X) (what : X) (old :
 pub one_utf8 : (old new other : PoolValue) (text : List ℕ) (place at : ℕ) → HasUtf8 old text new place → HasUtf8 old text other at → AreOne new other place at
 one_utf8 old new other text place at p q = one_alone utf8_of text old (entry.Utf8 text) new other place at p q
 
-one_naming_put : (old : PoolValue) (text : List ℕ) (naming : ℕ → Entry) (new other : PoolValue) (place at : ℕ) → PutsNaming old text naming new place → PutsNaming old text naming other at → AreOne new other place at
+one_naming_put : (old : PoolValue) (text : List ℕ) (naming : ℕ → Entry) (new other : PoolValue) (place at : ℕ) → PutsNaming old text naming new place
+    → PutsNaming old text naming other at → AreOne new other place at
 one_naming_put old text naming new other place at p q =
     let named = one_utf8 old p.0 q.0 text p.1 q.1 p.2 q.2 in
     one_put p.0 q.0 new other (naming p.1) (naming q.1) place at named.pool (ap naming named.place_is) p.3 q.3
@@ -214,7 +215,8 @@ slot_keeps_first old slot name place fresh first = record { there = naming_kept 
         let n = has_name naming.Class (old ++ slot ∷ []) earlier name there in
         let inside : earlier < length old = (let within = class_within old place name first.there in omega (arith, less, within)) in
         elim (cases_lt n.0 (length old)) [
-          | inl below ↦ first.first earlier less (is_named naming.Class old earlier n.0 name (sym (entry_stays old (slot ∷ []) earlier inside) ∙ n.1) (sym (utf8_stays old (slot ∷ []) n.0 below) ∙ n.2))
+          | inl below ↦ first.first earlier less
+              (is_named naming.Class old earlier n.0 name (sym (entry_stays old (slot ∷ []) earlier inside) ∙ n.1) (sym (utf8_stays old (slot ∷ []) n.0 below) ∙ n.2))
           | inr past ↦ behind n.0 past n.2
         ]
 

@@ -38,7 +38,8 @@ module _ (old new : PoolValue) (more : Extends old new) (m : Member) where
   unfolding ref_of
   ref_kept tag class sig is = by (class_name_of old class) (signature_of old sig) refl refl is
     where
-      by : (r : Option (List ℕ)) (q : Option Signature) → class_name_of old class ≡ r → signature_of old sig ≡ q → ref_by tag r q ≡ Some m → ref_by tag (class_name_of new class) (signature_of new sig) ≡ Some m
+      by : (r : Option (List ℕ)) (q : Option Signature) → class_name_of old class ≡ r → signature_of old sig ≡ q → ref_by tag r q ≡ Some m
+          → ref_by tag (class_name_of new class) (signature_of new sig) ≡ Some m
       by None q named signed is = absurd (none-some m is)
       by (Some name) None named signed is = absurd (none-some m is)
       by (Some name) (Some s) named signed is =
@@ -87,7 +88,8 @@ signature_put_there old s new place put =
 pub signature_there : (old : PoolValue) (s : Signature) (new : PoolValue) (place : ℕ) → HasSignature old s new place → signature_of new place ≡ Some s
 signature_there old s new place has = added_there signature_of s old (PutsSignature old s) new place (signature_put_there old s new place) has
 
-pub ref_read : (pool : PoolValue) (m : Member) (tag class sig : ℕ) → tag ≡ m.tag → class_name_of pool class ≡ Some m.class → signature_of pool sig ≡ Some (signature m) → ref_of pool tag class sig ≡ Some m
+pub ref_read : (pool : PoolValue) (m : Member) (tag class sig : ℕ) → tag ≡ m.tag → class_name_of pool class ≡ Some m.class
+    → signature_of pool sig ≡ Some (signature m) → ref_of pool tag class sig ≡ Some m
 unfolding ref_of
 ref_read pool m tag class sig tagged named signed = (λ i. named i >>= λ name. signed i >>= λ s. member_by (tagged i) name s)
 
@@ -136,7 +138,9 @@ pub put_within : (old classed signed : PoolValue) (m : Member) (class sig : ℕ)
 put_within old classed signed m class sig e is has_class has_sig =
     subst (λ (f : Entry). NamesWithin (length signed) (Some f)) (sym is)
     (member_within m.tag class sig (length signed)
-    (class_within signed class m.class (naming_kept naming.Class classed signed m.class class (signature_extends classed signed (signature m) sig has_sig) (naming_there naming.Class old classed m.class class has_class)))
+    (class_within signed class m.class
+        (naming_kept naming.Class classed signed m.class class (signature_extends classed signed (signature m) sig has_sig)
+          (naming_there naming.Class old classed m.class class has_class)))
     (signature_within signed sig (signature m) (signature_there classed (signature m) signed sig has_sig)))
 
 -- ---- there is one such pool
@@ -178,8 +182,10 @@ same_member a b = (a.tag == b.tag) && (bytes_eq a.class b.class && same_texts (s
 
 member_decided : (a b : Member) → Decides (same_member a b) (a ≡ b)
 member_decided a b =
-    let texts = and_decided (bytes_eq a.class b.class) (same_texts (signature a) (signature b)) (a.class ≡ b.class) (signature a ≡ signature b) (bytes_eq-Decides a.class b.class) (texts_decided (signature a) (signature b)) in
-    let told = and_decided (a.tag == b.tag) (bytes_eq a.class b.class && same_texts (signature a) (signature b)) (a.tag ≡ b.tag) ((a.class ≡ b.class) × (signature a ≡ signature b)) (Decides-eqb a.tag b.tag) texts in (
+    let texts = and_decided (bytes_eq a.class b.class) (same_texts (signature a) (signature b)) (a.class ≡ b.class) (signature a ≡ signature b)
+            (bytes_eq-Decides a.class b.class) (texts_decided (signature a) (signature b)) in
+    let told = and_decided (a.tag == b.tag) (bytes_eq a.class b.class && same_texts (signature a) (signature b)) (a.tag ≡ b.tag)
+            ((a.class ≡ b.class) × (signature a ≡ signature b)) (Decides-eqb a.tag b.tag) texts in (
       λ is. (let same = told.0 is in λ i. record { tag = same.0 i; class = same.1.0 i; name = (same.1.1 i).name; desc = (same.1.1 i).desc }),
       λ same. told.1 (ap (λ (m : Member). m.tag) same, (ap (λ (m : Member). m.class) same, ap signature same)),
     )

@@ -47,7 +47,8 @@ text_indexed pool new old index text place first same put notes none is = record
   tables =
       subst (λ (l : List ℕ). AreTables new (text_place index.texts.entries (λ x. x.items)) l (key_place index.keys.entries)) (sym same.firsts)
       (subst (λ l. AreTables new (text_place index.texts.entries (λ x. x.items)) old.firsts.items (key_place l)) (sym same.keys)
-      (text_tables pool new (text_place old.texts.entries (λ x. x.items)) (text_place index.texts.entries (λ x. x.items)) old.firsts.items (key_place old.keys.entries) text place first put notes none is.tables));
+      (text_tables pool new (text_place old.texts.entries (λ x. x.items)) (text_place index.texts.entries (λ x. x.items)) old.firsts.items
+          (key_place old.keys.entries) text place first put notes none is.tables));
   members = λ within.
       subst (λ (l : List ℕ). AreMembersOf new l (key_place index.members.keys.entries)) (sym same.firsts)
       (subst (λ l. AreMembersOf new old.firsts.items (key_place l)) (sym same.members)
@@ -163,7 +164,8 @@ naming_refused X Y kind pool name (Some at) (fails.Said full) first none counts 
       omega (arith, counts.0, counts.1),
     )
 
-pub naming_pool : (kind : Naming) (pool named new : PoolValue) (name : List ℕ) (at place : ℕ) → IsShortText name → length named < 65535 → HasUtf8 pool name named at → IsPut named new (entry_naming kind at) place
+pub naming_pool : (kind : Naming) (pool named new : PoolValue) (name : List ℕ) (at place : ℕ) → IsShortText name → length named < 65535
+    → HasUtf8 pool name named at → IsPut named new (entry_naming kind at) place
     → IsPool pool → IsPool new
 naming_pool kind pool named new name at place short few has put is =
     let narrow = naming_narrow kind at in

@@ -225,7 +225,8 @@ unfolding utf8_at
 again_utf8 info rest text is =
     ap utf8_at (ap (λ (l : List ℕ). l ++ rest) is.parts ∙ append_assoc is.size text rest)
     ∙ ap (λ (r : Option (ℕ × List ℕ)). r >>= λ size. first size.0 (take size.0) size.1 >>= λ text. and_left (entry.Utf8 text.0) text.1) (number_again 2 is.size (text ++ rest) (length text) is.spells)
-    ∙ ap (λ (r : Option (List ℕ × List ℕ)). r >>= λ text. and_left (entry.Utf8 text.0) text.1) (first_again (length text) (take (length text)) text rest text refl (take_at text rest (length text) refl))
+    ∙ ap (λ (r : Option (List ℕ × List ℕ)). r >>= λ text. and_left (entry.Utf8 text.0) text.1)
+        (first_again (length text) (take (length text)) text rest text refl (take_at text rest (length text) refl))
 
 again_handle : (info rest : List ℕ) (kind reference : ℕ) → IsHandle info kind reference → handle_at (info ++ rest) ≡ Some (entry.MethodHandle kind reference, rest)
 unfolding handle_at

@@ -41,7 +41,8 @@ pub record TextsRead (found : ℕ → Option (List ℕ)) (n : ℕ) (firsts : Lis
   pub stand : (place : ℕ) (text : List ℕ) → place < n → found place ≡ Some text → IsFirst found text (standing_for firsts place)
   pub others : (place : ℕ) → found place ≡ None → standing_for firsts place ≡ place
 
-noted_texts : (found : ℕ → Option (List ℕ)) (end first : ℕ) (old new : List ℕ → Option ℕ) (r : Option (List ℕ)) → found end ≡ r → NotesText old new r end first → AreFirsts end found old → AreFirsts (end + 1) found new
+noted_texts : (found : ℕ → Option (List ℕ)) (end first : ℕ) (old new : List ℕ → Option ℕ) (r : Option (List ℕ)) → found end ≡ r
+    → NotesText old new r end first → AreFirsts end found old → AreFirsts (end + 1) found new
 noted_texts found end first old new None at notes firsts = same_table found (end + 1) old new notes.1 (nothing_more found end old at firsts)
 noted_texts found end first old new (Some text) at notes firsts = noted found end old new text first at notes firsts
 
@@ -53,7 +54,8 @@ place_noted found end first old new (Some text) at notes firsts = (
   λ none. absurd (none-some text (sym none ∙ at)),
 )
 
-pub more_texts : (found : ℕ → Option (List ℕ)) (n m place first : ℕ) (firsts more : List ℕ) (old new : List ℕ → Option ℕ) (r : Option (List ℕ)) → found n ≡ r → place ≡ n → m ≡ n + 1 → more ≡ firsts ++ first ∷ []
+pub more_texts : (found : ℕ → Option (List ℕ)) (n m place first : ℕ) (firsts more : List ℕ) (old new : List ℕ → Option ℕ) (r : Option (List ℕ))
+    → found n ≡ r → place ≡ n → m ≡ n + 1 → more ≡ firsts ++ first ∷ []
     → NotesText old new r place first → TextsRead found n firsts old → TextsRead found m more new
 more_texts found n m place first firsts more old new r at here next put notes so_far =
     subst (λ (k : ℕ). TextsRead found k more new) (sym next) (subst (λ (l : List ℕ). TextsRead found (n + 1) l new) (sym put) (record {
@@ -81,7 +83,8 @@ more_texts found n m place first firsts more old new r at here next put notes so
 
 -- ---- keys
 
-pub more_keys : (found : ℕ → Option Key) (n m place : ℕ) (old new : Key → Option ℕ) (r : Option Key) → found n ≡ r → place ≡ n → m ≡ n + 1 → NotesEntry old new r place → AreFirsts n found old → AreFirsts m found new
+pub more_keys : (found : ℕ → Option Key) (n m place : ℕ) (old new : Key → Option ℕ) (r : Option Key) → found n ≡ r → place ≡ n → m ≡ n + 1
+    → NotesEntry old new r place → AreFirsts n found old → AreFirsts m found new
 more_keys found n m place old new None at here next notes firsts = subst (λ (k : ℕ). AreFirsts k found new) (sym next) (same_table found (n + 1) old new notes (nothing_more found n old at firsts))
 more_keys found n m place old new (Some k) at here next notes firsts =
     subst (λ (k : ℕ). AreFirsts k found new) (sym next) (noted found n old new k notes.0 at (subst (λ (p : ℕ). Notes old new k p notes.0) here notes.1) firsts)

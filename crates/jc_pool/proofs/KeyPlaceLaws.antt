@@ -85,7 +85,8 @@ has_name naming.String pool place text is =
     let n = text_named string_in pool (entry_of pool place) text is in
     (n.1, n.2 ∙ ap Some (string_is n.0 n.1 n.3), n.4)
 
-pub is_named : (kind : Naming) (pool : PoolValue) (place name : ℕ) (text : List ℕ) → entry_of pool place ≡ Some (entry_naming kind name) → utf8_of pool name ≡ Some text → naming_of kind pool place ≡ Some text
+pub is_named : (kind : Naming) (pool : PoolValue) (place name : ℕ) (text : List ℕ) → entry_of pool place ≡ Some (entry_naming kind name)
+    → utf8_of pool name ≡ Some text → naming_of kind pool place ≡ Some text
 unfolding class_name_of string_of
 is_named naming.Class pool place name text is named = ap (λ (e : Option Entry). e >>= λ e. class_in e >>= λ name. utf8_of pool name) is ∙ named
 is_named naming.String pool place name text is named = ap (λ (e : Option Entry). e >>= λ e. string_in e >>= λ name. utf8_of pool name) is ∙ named
@@ -97,7 +98,8 @@ naming_past naming.String pool place behind = past (λ e. string_in e >>= λ nam
 
 -- ---- keys
 
-key_named : (kind : Naming) (firsts : List ℕ) (e : Option Entry) (at : ℕ) → (e >>= key_in firsts) ≡ Some (key_naming kind at) → (name : ℕ) × (e ≡ Some (entry_naming kind name)) × (standing_for firsts name ≡ at)
+key_named : (kind : Naming) (firsts : List ℕ) (e : Option Entry) (at : ℕ) → (e >>= key_in firsts) ≡ Some (key_naming kind at) → (name : ℕ)
+    × (e ≡ Some (entry_naming kind name)) × (standing_for firsts name ≡ at)
 key_named kind firsts None at is = absurd (none-some (key_naming kind at) is)
 key_named naming.Class firsts (Some (entry.Class name)) at is = (name, refl, cc)
 key_named naming.String firsts (Some (entry.String name)) at is = (name, refl, cc)
@@ -109,7 +111,8 @@ has_key : (kind : Naming) (firsts : List ℕ) (pool : PoolValue) (place at : ℕ
 unfolding key_at
 has_key kind firsts pool place at is = key_named kind firsts (entry_of pool place) at is
 
-is_keyed : (kind : Naming) (firsts : List ℕ) (pool : PoolValue) (place name : ℕ) → entry_of pool place ≡ Some (entry_naming kind name) → key_at firsts pool place ≡ Some (key_naming kind (standing_for firsts name))
+is_keyed : (kind : Naming) (firsts : List ℕ) (pool : PoolValue) (place name : ℕ) → entry_of pool place ≡ Some (entry_naming kind name)
+    → key_at firsts pool place ≡ Some (key_naming kind (standing_for firsts name))
 unfolding key_at
 is_keyed naming.Class firsts pool place name is = ap (λ (e : Option Entry). e >>= key_in firsts) is
 is_keyed naming.String firsts pool place name is = ap (λ (e : Option Entry). e >>= key_in firsts) is
@@ -148,7 +151,8 @@ module _ (pool : PoolValue) (firsts : List ℕ) (text : List ℕ) (at : ℕ) (st
 
 -- ---- numbers
 
-integer_keyed : (firsts : List ℕ) (e : Entry) (value : ℤ) → (integer_in e ≡ Some value → key_in firsts e ≡ Some (key.Integer value)) × (key_in firsts e ≡ Some (key.Integer value) → integer_in e ≡ Some value)
+integer_keyed : (firsts : List ℕ) (e : Entry) (value : ℤ) → (integer_in e ≡ Some value → key_in firsts e ≡ Some (key.Integer value))
+    × (key_in firsts e ≡ Some (key.Integer value) → integer_in e ≡ Some value)
 integer_keyed firsts (entry.Integer n) value = (λ is. ap (λ (z : ℤ). Some (key.Integer z)) (some_is n value is), λ is. cc)
 integer_keyed firsts e value = (λ is. absurd (none-some value is), λ is. absurd cc)
 
@@ -272,14 +276,16 @@ pub text_nowhere : (pool : PoolValue) (index : Index) (text : List ℕ) (r : Opt
     → IsNowhere (utf8_of pool) text
 text_nowhere pool index text r is read at = is_nowhere (utf8_of pool) (length pool) text (text_place index.texts.entries (λ x. x.items) text) (utf8_past pool) (sym read ∙ at) (is.tables.texts text)
 
-pub key_found : (pool : PoolValue) (index : Index) (k : Key) (place : ℕ) (r : Option ℕ) → IsIndexOf pool index → r ≡ key_place index.keys.entries k → r ≡ Some place → IsFirst (key_at index.firsts.items pool) k place
+pub key_found : (pool : PoolValue) (index : Index) (k : Key) (place : ℕ) (r : Option ℕ) → IsIndexOf pool index → r ≡ key_place index.keys.entries k
+    → r ≡ Some place → IsFirst (key_at index.firsts.items pool) k place
 key_found pool index k place r is read at = is_first (key_at index.firsts.items pool) (length pool) k place (key_place index.keys.entries k) (sym read ∙ at) (is.tables.keys k)
 
 pub key_nowhere : (pool : PoolValue) (index : Index) (k : Key) (r : Option ℕ) → IsIndexOf pool index → r ≡ key_place index.keys.entries k → r ≡ None → IsNowhere (key_at index.firsts.items pool) k
 key_nowhere pool index k r is read at =
     is_nowhere (key_at index.firsts.items pool) (length pool) k (key_place index.keys.entries k) (key_past index.firsts.items pool) (sym read ∙ at) (is.tables.keys k)
 
-pub naming_found : (kind : Naming) (pool : PoolValue) (index : Index) (text : List ℕ) (named r : Option ℕ) (place : ℕ) → IsIndexOf pool index → named ≡ text_place index.texts.entries (λ x. x.items) text
+pub naming_found : (kind : Naming) (pool : PoolValue) (index : Index) (text : List ℕ) (named r : Option ℕ) (place : ℕ) → IsIndexOf pool index
+    → named ≡ text_place index.texts.entries (λ x. x.items) text
     → r ≡ naming_place index.keys.entries kind named → r ≡ Some place → IsFirst (naming_of kind pool) text place
 naming_found kind pool index text None r place is read found at = absurd (none-some place (sym found ∙ at))
 naming_found kind pool index text (Some name) r place is read found at =

@@ -60,7 +60,8 @@ entry_names pool m (entry.InvokeDynamic bootstrap sig) tagged is = absurd (no_dy
 entry_names pool m e tagged is = absurd (none-some m is)
 
 -- and an entry that names such places is the member
-parts_read : (pool : PoolValue) (m : Member) (tag class sig : ℕ) (named : NamedPlaces) → record { tag = tag; class = class; name_and_type = sig } ≡ named → NamesParts pool m named → ref_of pool tag class sig ≡ Some m
+parts_read : (pool : PoolValue) (m : Member) (tag class sig : ℕ) (named : NamedPlaces) → record { tag = tag; class = class; name_and_type = sig }
+    ≡ named → NamesParts pool m named → ref_of pool tag class sig ≡ Some m
 parts_read pool m tag class sig named same parts =
     let own : NamesParts pool m (record { tag = tag; class = class; name_and_type = sig }) = subst (NamesParts pool m) (sym same) parts in
     ref_read pool m tag class sig own.tag own.class own.signed
@@ -72,7 +73,8 @@ entry_is pool m (entry.InterfaceMethodref class sig) named is parts = parts_read
 entry_is pool m e named is parts = absurd (none-some named is)
 
 -- the same at a place
-slot_names : (pool : PoolValue) (m : Member) (slot : Option Entry) → IsMemberTag m.tag → (slot >>= member_in pool) ≡ Some m → (named : NamedPlaces) × (slot_places slot ≡ Some named) × NamesParts pool m named
+slot_names : (pool : PoolValue) (m : Member) (slot : Option Entry) → IsMemberTag m.tag → (slot >>= member_in pool) ≡ Some m → (named : NamedPlaces)
+    × (slot_places slot ≡ Some named) × NamesParts pool m named
 slot_names pool m None tagged is = absurd (none-some m is)
 slot_names pool m (Some e) tagged is = entry_names pool m e tagged is
 
@@ -80,7 +82,8 @@ slot_is : (pool : PoolValue) (m : Member) (slot : Option Entry) (named : NamedPl
 slot_is pool m None named is parts = absurd (none-some named is)
 slot_is pool m (Some e) named is parts = entry_is pool m e named is parts
 
-member_names : (pool : PoolValue) (m : Member) (place : ℕ) → IsMemberTag m.tag → member_of pool place ≡ Some m → (named : NamedPlaces) × (slot_places (entry_of pool place) ≡ Some named) × NamesParts pool m named
+member_names : (pool : PoolValue) (m : Member) (place : ℕ) → IsMemberTag m.tag → member_of pool place ≡ Some m → (named : NamedPlaces)
+    × (slot_places (entry_of pool place) ≡ Some named) × NamesParts pool m named
 unfolding member_of
 member_names pool m place tagged is = slot_names pool m (entry_of pool place) tagged is
 
@@ -153,12 +156,14 @@ module _ (pool : PoolValue) (texts : List ℕ → Option ℕ) (firsts : List ℕ
 
 -- ---- what the index answers
 
-pub first_as_member : (pool : PoolValue) (m : Member) (firsts : List ℕ) (k : Key) (r : Option ℕ) → AreAsOne (member_of pool) m (member_key_at firsts pool) k → IfSome r (IsFirst (member_key_at firsts pool) k)
+pub first_as_member : (pool : PoolValue) (m : Member) (firsts : List ℕ) (k : Key) (r : Option ℕ)
+    → AreAsOne (member_of pool) m (member_key_at firsts pool) k → IfSome r (IsFirst (member_key_at firsts pool) k)
     → IfSome r (IsFirst (member_of pool) m)
 first_as_member pool m firsts k None as_one first = tt
 first_as_member pool m firsts k (Some place) as_one first = first_as_one (member_of pool) m (member_key_at firsts pool) k as_one place first
 
-pub none_as_member : (pool : PoolValue) (m : Member) (firsts : List ℕ) (k : Key) (r : Option ℕ) → AreAsOne (member_of pool) m (member_key_at firsts pool) k → IfNone r (IsNowhere (member_key_at firsts pool) k)
+pub none_as_member : (pool : PoolValue) (m : Member) (firsts : List ℕ) (k : Key) (r : Option ℕ)
+    → AreAsOne (member_of pool) m (member_key_at firsts pool) k → IfNone r (IsNowhere (member_key_at firsts pool) k)
     → IfNone r (IsNowhere (member_of pool) m)
 none_as_member pool m firsts k None as_one none = nowhere_as_one (member_of pool) m (member_key_at firsts pool) k as_one none
 none_as_member pool m firsts k (Some place) as_one none = tt

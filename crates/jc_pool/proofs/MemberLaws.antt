@@ -48,7 +48,8 @@ record TextPut (pool : PoolValue) (texts : List ℕ → Option ℕ) (firsts : Li
   size : length named ≡ length pool + absent (texts text)
   tables : AreTables named (with_text texts (Some (text, at))) firsts keys
 
-text_put_at : (pool : PoolValue) (texts : List ℕ → Option ℕ) (firsts : List ℕ) (keys : Key → Option ℕ) (text : List ℕ) → AreTables pool texts firsts keys → (r : Option ℕ) → texts text ≡ r → TextPut pool texts firsts keys text
+text_put_at : (pool : PoolValue) (texts : List ℕ → Option ℕ) (firsts : List ℕ) (keys : Key → Option ℕ) (text : List ℕ)
+    → AreTables pool texts firsts keys → (r : Option ℕ) → texts text ≡ r → TextPut pool texts firsts keys text
 text_put_at pool texts firsts keys text are (Some place) known = record {
   named = pool;
   at = place;
@@ -67,7 +68,8 @@ text_put_at pool texts firsts keys text are None none =
       at = length pool;
       has = inr (nowhere, put);
       size = rw none (grown_length pool (entry.Utf8 text));
-      tables = text_tables pool (pool ++ Some (entry.Utf8 text) ∷ []) texts (with_text texts (Some (text, length pool))) firsts keys text (length pool) (length pool) put (noted_one texts text (length pool) none) nowhere are;
+      tables = text_tables pool (pool ++ Some (entry.Utf8 text) ∷ []) texts (with_text texts (Some (text, length pool))) firsts keys text
+          (length pool) (length pool) put (noted_one texts text (length pool) none) nowhere are;
     }
 
 text_put : (pool : PoolValue) (texts : List ℕ → Option ℕ) (firsts : List ℕ) (keys : Key → Option ℕ) (text : List ℕ) → AreTables pool texts firsts keys → TextPut pool texts firsts keys text
@@ -128,7 +130,8 @@ member_textless tag class sig = elim (cases_Bool (tag == 9)) [
 ]
 
 -- the place of a name with its descriptor is that of the index
-same_signature : (keys other : Key → Option ℕ) → ((a b : ℕ) → keys (key.Signature a b) ≡ other (key.Signature a b)) → (name desc : Option ℕ) → signature_place keys name desc ≡ signature_place other name desc
+same_signature : (keys other : Key → Option ℕ) → ((a b : ℕ) → keys (key.Signature a b) ≡ other (key.Signature a b)) → (name desc : Option ℕ)
+    → signature_place keys name desc ≡ signature_place other name desc
 same_signature keys other same (Some a) (Some b) = same a b
 same_signature keys other same (Some a) None = refl
 same_signature keys other same None desc = refl
@@ -144,12 +147,14 @@ member_lacks pool index m missing count put name desc found same is named descri
     ∙ sym (place_is ∙ (λ i. signature_place (key_place index.keys.entries) (named i) (described i))) in
     let signed = signature_had is.classed texts index.firsts.items is.keys (signature m) is.tables found there in
     let last : Entry = entry_of_member m.tag is.place signed.1 in
-    let lacks : missing_signature found same name desc ≡ missing_signature found (bytes_eq m.desc m.name) (texts m.name) (texts m.desc) = (λ i. missing_signature found (same_is i) (named i) (described i)) in (
+    let lacks : missing_signature found same name desc ≡ missing_signature found (bytes_eq m.desc m.name) (texts m.name) (texts m.desc) =
+            (λ i. missing_signature found (same_is i) (named i) (described i)) in (
       signed.0 ++ slots_of last,
       length signed.0,
       (is.classed, is.place, is.has, signed.0, signed.1, signed.2, put_at_end signed.0 last),
       grown_length signed.0 last
-          ∙ total (width last) (length signed.0) (length is.classed) (missing_signature found (bytes_eq m.desc m.name) (texts m.name) (texts m.desc)) (missing_signature found same name desc) (length pool) missing
+          ∙ total (width last) (length signed.0) (length is.classed) (missing_signature found (bytes_eq m.desc m.name) (texts m.name) (texts m.desc))
+              (missing_signature found same name desc) (length pool) missing
           (member_narrow m.tag is.place signed.1) signed.3 is.size lacks
           ∙ ap (λ (n : ℕ). length pool + n) (sym counts),
     )
@@ -193,7 +198,8 @@ class_put pool named index class at missing put none named_there are size =
       has = inr (none, (named, at, named_there, last));
       size = grown_length named (entry.Class at) ∙ size;
       keys = noted.more;
-      tables = entry_tables named (named ++ Some (entry.Class at) ∷ []) (with_text (text_place index.texts.entries (λ x. x.items)) put) index.firsts.items (key_place index.keys.entries) noted.more (entry.Class at) (length named)
+      tables = entry_tables named (named ++ Some (entry.Class at) ∷ []) (with_text (text_place index.texts.entries (λ x. x.items)) put)
+          index.firsts.items (key_place index.keys.entries) noted.more (entry.Class at) (length named)
           refl last noted.notes are;
       signatures = noted.others;
     }
@@ -222,14 +228,17 @@ class_new pool index class named r is read found none unnamed =
     let nowhere = text_nowhere pool index class named is read unnamed in
     let put = put_at_end pool (entry.Utf8 class) in
     let size = grown_length pool (entry.Utf8 class) in
-    class_put pool (pool ++ Some (entry.Utf8 class) ∷ []) index class (length pool) 2 (Some (class, length pool)) (naming_missing naming.Class pool index class named r is read found none) (inr (nowhere, put))
-    (text_tables pool (pool ++ Some (entry.Utf8 class) ∷ []) (text_place index.texts.entries (λ x. x.items)) (with_text (text_place index.texts.entries (λ x. x.items)) (Some (class, length pool))) index.firsts.items
+    class_put pool (pool ++ Some (entry.Utf8 class) ∷ []) index class (length pool) 2 (Some (class, length pool))
+        (naming_missing naming.Class pool index class named r is read found none) (inr (nowhere, put))
+    (text_tables pool (pool ++ Some (entry.Utf8 class) ∷ []) (text_place index.texts.entries (λ x. x.items))
+        (with_text (text_place index.texts.entries (λ x. x.items)) (Some (class, length pool))) index.firsts.items
     (key_place index.keys.entries) class (length pool) (length pool) put (noted_one (text_place index.texts.entries (λ x. x.items)) class (length pool) (sym read ∙ unnamed)) nowhere is.tables)
     (omega (arith, size))
 
 -- ---- refusals
 
-pub member_refused : (X Y : Type 0) (pool : PoolValue) (m : Member) (missing : ℕ) (fail : Fail PoolFull) → IsNowhere (member_of pool) m → Lacks pool m missing → CountsTo {X = X} (Err fail) (length pool + missing)
+pub member_refused : (X Y : Type 0) (pool : PoolValue) (m : Member) (missing : ℕ) (fail : Fail PoolFull) → IsNowhere (member_of pool) m
+    → Lacks pool m missing → CountsTo {X = X} (Err fail) (length pool + missing)
     → RefusesFull {X = Y} (HasMember pool m) (Err fail)
 member_refused X Y pool m missing fails.Memory none lacks counts = tt
 member_refused X Y pool m missing (fails.Said full) none lacks counts = (lacks.0, lacks.1, inr (none, lacks.2), lacks.3 ∙ sym counts.0, omega (arith, counts.0, counts.1))

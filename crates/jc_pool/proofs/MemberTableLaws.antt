@@ -131,7 +131,8 @@ module _ (pool : PoolValue) (firsts : List ℕ) (n : ℕ) where
     within = λ place less. absurd (omega (arith, zero, less));
   }
 
-  pub one_more_read : (old new : Key → Option ℕ) → NamesWithin (length pool) (entry_of pool n) → NotesEntry old new (member_key_at firsts pool n) n → MembersRead pool firsts n old → MembersRead pool firsts (n + 1) new
+  pub one_more_read : (old new : Key → Option ℕ) → NamesWithin (length pool) (entry_of pool n) → NotesEntry old new (member_key_at firsts pool n) n
+      → MembersRead pool firsts n old → MembersRead pool firsts (n + 1) new
   one_more_read old new here notes read = record {
     first = more_keys (member_key_at firsts pool) n (n + 1) n old new (member_key_at firsts pool n) refl refl refl notes read.first;
     within = λ place less. elim (cases_lt place n) [

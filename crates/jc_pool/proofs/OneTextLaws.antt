@@ -82,7 +82,8 @@ one_by_size true g h first other = first
 one_by_size false g h first other = other
 
 -- the entry in front of places that were spelled behind it
-head_is : (wide : Bool) (e : Entry) (m n : ℕ) (ys : List (Option Entry)) (a : List ℕ) → ((by_size wide (behind (Some e ∷ None ∷ []) (places m)) (behind (Some e ∷ []) (places n))).Text a ys) → (rest : List (Option Entry)) × (ys ≡ Some e ∷ rest)
+head_is : (wide : Bool) (e : Entry) (m n : ℕ) (ys : List (Option Entry)) (a : List ℕ)
+    → ((by_size wide (behind (Some e ∷ None ∷ []) (places m)) (behind (Some e ∷ []) (places n))).Text a ys) → (rest : List (Option Entry)) × (ys ≡ Some e ∷ rest)
 head_is true e m n ys a text = (None ∷ text.0, text.5.1)
 head_is false e m n ys a text = (text.0, text.5.1)
 

@@ -25,7 +25,8 @@ by_size wide n e = put_behind (if wide then Some e.0 ∷ None ∷ [] else Some e
 abbrev behind_entry : ℕ → Entry × List ℕ → Parsed (List (Option Entry))
 behind_entry n e = by_size (is_wide e.0) n e
 
-at_last : (left : List ℕ) (r : Option (Entry × List ℕ)) → (parsed_or left (decoder.◌>>=◌ r narrow_only) >>= λ e. Good (Some e.0 ∷ []) e.1) ≡ (parsed_or left (decoder.◌>>=◌ r (fits_in 1)) >>= behind_entry 1)
+at_last : (left : List ℕ) (r : Option (Entry × List ℕ)) → (parsed_or left (decoder.◌>>=◌ r narrow_only) >>= λ e. Good (Some e.0 ∷ []) e.1)
+    ≡ (parsed_or left (decoder.◌>>=◌ r (fits_in 1)) >>= behind_entry 1)
 at_last left None = refl
 at_last left (Some e) = elim (cases_Bool (is_wide e.0)) [
   | inl wide ↦ rw wide refl
@@ -126,7 +127,8 @@ pub fills_more : (whole : Parsed (List (Option Entry))) (count : ℕ) (old : Rea
     → n ≡ count - length slots → 0 < n → IsSmall e → width e ≤ n → item (fitting_at n) now.left ≡ Good e next.left → SameEnd now next → now.place ≤ next.place
     → Filling whole count old slots now → Filling whole count old (slots ++ slots_of e) next
 fills_more whole count old slots now next e n left room small fits read end later f = record {
-  reads = subst (λ (k : ℕ). put_behind (slots ++ slots_of e) (places_at k next.left) ≡ whole) size (goes_on whole slots n now.left next.left e room read (subst (λ (k : ℕ). put_behind slots (places_at k now.left) ≡ whole) (sym left) f.reads));
+  reads = subst (λ (k : ℕ). put_behind (slots ++ slots_of e) (places_at k next.left) ≡ whole) size
+      (goes_on whole slots n now.left next.left e room read (subst (λ (k : ℕ). put_behind slots (places_at k now.left) ≡ whole) (sym left) f.reads));
   within = omega (arith, length-append slots (slots_of e), length_slots e, fits, left);
   begins = more_begun slots e small f.begins;
   end = end ∙ f.end;

@@ -61,7 +61,8 @@ one_spelling bytes us vs p q = same us vs p.small q.small (sym p.parts ∙ q.par
     same [] (v ∷ vs) small fits is = absurd (some_none (sym (unit_again v (flat_map unit_bytes vs) fits.0) ∙ ap unit_at (sym is)))
     same (u ∷ us) [] small fits is = absurd (some_none (sym (unit_again u (flat_map unit_bytes us) small.0) ∙ ap unit_at is))
     same (u ∷ us) (v ∷ vs) small fits is =
-        let first = some_is (u, flat_map unit_bytes us) (v, flat_map unit_bytes vs) (sym (unit_again u (flat_map unit_bytes us) small.0) ∙ ap unit_at is ∙ unit_again v (flat_map unit_bytes vs) fits.0) in
+        let first = some_is (u, flat_map unit_bytes us) (v, flat_map unit_bytes vs)
+                (sym (unit_again u (flat_map unit_bytes us) small.0) ∙ ap unit_at is ∙ unit_again v (flat_map unit_bytes vs) fits.0) in
         let rest = same us vs small.1 fits.1 (ap (λ (read : ℕ × List ℕ). read.1) first) in
         λ i. (first i).0 ∷ rest i
 

@@ -232,7 +232,8 @@ module _ (verdict : Bool) (reading : Reading) (letters : List ℕ) (b : ℕ) (af
   by_no_value r is n others e unfit = no_value verdict b is after n others unfit (subst (λ ns. Decide verdict Nothing (b ∷ after) ns) e (at_reading Nothing r))
 
   pub by_value : reading ≡ Nothing → IsBase b → (n : ℤ) (others : List ℤ) → numbers ≡ n ∷ others → is_argument (base_type b) n ≡ true → Decide verdict reading after others
-  by_value r is n others e fits = subst (λ x. Decide verdict x after others) (sym r) (value verdict b is after n others fits (subst (λ ns. Decide verdict Nothing (b ∷ after) ns) e (at_reading Nothing r)))
+  by_value r is n others e fits = subst (λ x. Decide verdict x after others) (sym r)
+      (value verdict b is after n others fits (subst (λ ns. Decide verdict Nothing (b ∷ after) ns) e (at_reading Nothing r)))
 
 pub by_end : (verdict : Bool) (reading : Reading) (letters : List ℕ) (numbers : List ℤ) → length letters ≡ 0 → Decide verdict reading letters numbers → (length numbers == 0) ≡ verdict
 by_end verdict reading [] numbers e d = at_end verdict [] numbers reading d

@@ -35,7 +35,8 @@ more_are bytes read None spelled none = behind
     behind : (us : List ℕ) → SpellsUnits bytes us → ⊥
     behind [] s = let lt = unit_takes read.0 read.1 in omega (arith, lt, ap length (sym spelled.1 ∙ s.parts))
     behind (u ∷ us) s =
-        let again = same_Some read (u, flat_map unit_bytes us) (sym (ap unit_at spelled.1 ∙ unit_again read.0 read.1 spelled.0) ∙ ap unit_at s.parts ∙ unit_again u (flat_map unit_bytes us) s.small.0) in
+        let again = same_Some read (u, flat_map unit_bytes us) (sym (ap unit_at spelled.1 ∙ unit_again read.0 read.1 spelled.0) ∙ ap unit_at s.parts
+                ∙ unit_again u (flat_map unit_bytes us) s.small.0) in
         none us (record { small = s.small.1; parts = ap (λ (r : ℕ × List ℕ). r.1) again })
 
 units_are : (n : ℕ) (bytes : List ℕ) → length bytes ≤ n → AreUnitsOf bytes (units_of n bytes)
@@ -93,7 +94,8 @@ text_told bytes chars text = by (units_of (length bytes) bytes) (units_are (leng
 
     by_units : (units : List ℕ) (t : Bool) → has_unpaired_surrogate units ≡ t → SpellsUnits bytes units → cond t None (Some (encode_utf8_all (utf16_lossy_chars units))) ≡ Some (encode_utf8_all chars)
     by_units units true e s = some_is None (only_text (λ text. text) bytes units s (utf16_by true units) None refl (tt, sym e) chars text)
-    by_units units false e s = some_is (Some (encode_utf8_all (utf16_lossy_chars units))) (only_text (λ text. text) bytes units s (utf16_by false units) (Some (encode_utf8_all (utf16_lossy_chars units))) refl (refl, sym e) chars text)
+    by_units units false e s = some_is (Some (encode_utf8_all (utf16_lossy_chars units)))
+        (only_text (λ text. text) bytes units s (utf16_by false units) (Some (encode_utf8_all (utf16_lossy_chars units))) refl (refl, sym e) chars text)
 
     by : (o : Option (List ℕ)) → AreUnitsOf bytes o → option_and_then text_of_units o ≡ Some (encode_utf8_all chars)
     by None none = absurd (no_text (λ (units : List ℕ). units) None bytes refl none chars text)

@@ -69,7 +69,8 @@ split_at_place byte text i inside here after =
     (split_found byte text (take i text) (drop (i + 1) text)).1 (record { parts = parts; last = others })
   where
     others : All (IsOther byte) (drop (i + 1) text)
-    others = All-from_get_or (IsOther byte) (drop (i + 1) text) 0 (λ k less. subst (IsOther byte) (sym (get_or-drop (i + 1) text k 0)) (after (i + 1 + k) (omega arith) (omega (arith, length-drop (i + 1) text))))
+    others = All-from_get_or (IsOther byte) (drop (i + 1) text) 0
+        (λ k less. subst (IsOther byte) (sym (get_or-drop (i + 1) text k 0)) (after (i + 1 + k) (omega arith) (omega (arith, length-drop (i + 1) text))))
 
 -- the byte is nowhere
 pub split_nowhere : (byte : ℕ) (text : List ℕ) → All (IsOther byte) text → split_at_last byte text ≡ None

@@ -90,7 +90,8 @@ in_threads cases threads = record { cases = cases; threads = Some threads }
 between : List Case → Begun
 between cases = record { cases = cases; threads = None }
 
-thread_read : (cases : List Case) (done : List ThreadLine) (line : Line) (t : ThreadLine) → thread_in line ≡ Some t → length done < 8 → with_line (in_threads cases done) line ≡ Some (in_threads cases (done ++ t ∷ []))
+thread_read : (cases : List Case) (done : List ThreadLine) (line : Line) (t : ThreadLine) → thread_in line ≡ Some t → length done < 8
+    → with_line (in_threads cases done) line ≡ Some (in_threads cases (done ++ t ∷ []))
 unfolding in_threads with_line
 thread_read cases done line t e lt =
     ap (λ o. in_case cases done line o) e
@@ -134,7 +135,8 @@ case_read cases lines case c lt =
     ∙ ap (λ o. folded o (c.closes ∷ [])) (threads_read cases [] c.threads case.threads c.threads_are (omega (arith, few, n)))
     ∙ closing_read cases case.threads c.closes case.schedule (ap (λ k. schedule_in k c.closes) (sym n) ∙ c.closes_is) (omega (arith, some, n))
 
-cases_read : (cases : List Case) (parts : List (List Line)) (more : List Case) → AreCaseTexts parts more → length cases + length parts ≤ 256 → folded (Some (between cases)) (joined parts) ≡ Some (between (cases ++ more))
+cases_read : (cases : List Case) (parts : List (List Line)) (more : List Case) → AreCaseTexts parts more → length cases + length parts ≤ 256
+    → folded (Some (between cases)) (joined parts) ≡ Some (between (cases ++ more))
 unfolding folded joined
 cases_read cases [] [] h le = ap (λ l. Some (between l)) (sym (append-nil cases))
 cases_read cases [] (case ∷ more) h le = absurd h
@@ -180,13 +182,15 @@ cases_length [] (c ∷ cases) h = absurd h
 cases_length (p ∷ parts) [] h = absurd h
 cases_length (p ∷ parts) (c ∷ cases) h = let e = cases_length parts cases h.1 in grind (arith, e)
 
-cases_push : (parts : List (List Line)) (cases : List Case) (lines : List Line) (case : Case) → AreCaseTexts parts cases → IsCaseText lines case → AreCaseTexts (parts ++ lines ∷ []) (cases ++ case ∷ [])
+cases_push : (parts : List (List Line)) (cases : List Case) (lines : List Line) (case : Case) → AreCaseTexts parts cases → IsCaseText lines case
+    → AreCaseTexts (parts ++ lines ∷ []) (cases ++ case ∷ [])
 cases_push [] [] lines case h c = (c, tt)
 cases_push [] (k ∷ cases) lines case h c = absurd h
 cases_push (p ∷ parts) [] lines case h c = absurd h
 cases_push (p ∷ parts) (k ∷ cases) lines case h c = (h.0, cases_push parts cases lines case h.1 c)
 
-threads_push : (lines : List Line) (threads : List ThreadLine) (line : Line) (t : ThreadLine) → AreThreadLines lines threads → thread_in line ≡ Some t → AreThreadLines (lines ++ line ∷ []) (threads ++ t ∷ [])
+threads_push : (lines : List Line) (threads : List ThreadLine) (line : Line) (t : ThreadLine) → AreThreadLines lines threads
+    → thread_in line ≡ Some t → AreThreadLines (lines ++ line ∷ []) (threads ++ t ∷ [])
 threads_push [] [] line t h e = (e, tt)
 threads_push [] (k ∷ threads) line t h e = absurd h
 threads_push (l ∷ lines) [] line t h e = absurd h
@@ -233,10 +237,12 @@ with_thread_read lines cases threads line t b r f e =
       whole = ap (λ l. l ++ line ∷ []) r.whole ∙ append_assoc (joined r.parts) r.open_lines (line ∷ []);
       cases = r.cases;
       few = r.few;
-      rest = record { opens = o.opens; others = o.others ++ line ∷ []; parts = ap (λ l. l ++ line ∷ []) o.parts; opens_is = o.opens_is; threads_are = threads_push o.others threads line t o.threads_are f; few = omega (arith, lt, n); room = o.room };
+      rest = record { opens = o.opens; others = o.others ++ line ∷ []; parts = ap (λ l. l ++ line ∷ []) o.parts; opens_is = o.opens_is; threads_are =
+          threads_push o.others threads line t o.threads_are f; few = omega (arith, lt, n); room = o.room };
     })
 
-closed : (cases : List Case) (threads : List ThreadLine) (line : Line) (s : Schedule) (count : ℕ) (open_lines : List Line) → Opened count open_lines threads → schedule_in (length threads) line ≡ Some s → 1 ≤ length threads
+closed : (cases : List Case) (threads : List ThreadLine) (line : Line) (s : Schedule) (count : ℕ) (open_lines : List Line)
+    → Opened count open_lines threads → schedule_in (length threads) line ≡ Some s → 1 ≤ length threads
     → IsCaseText (open_lines ++ line ∷ []) (record { threads = threads; schedule = s })
 closed cases threads line s count open_lines o f le =
     let n = threads_length o.others threads o.threads_are in
@@ -253,7 +259,8 @@ closed cases threads line s count open_lines o f le =
       closes_is = ap (λ k. schedule_in k line) n ∙ f;
     }
 
-with_schedule_read : (lines : List Line) (cases : List Case) (threads : List ThreadLine) (line : Line) (s : Option Schedule) (b : Begun) → Reads lines (in_threads cases threads) → schedule_in (length threads) line ≡ s
+with_schedule_read : (lines : List Line) (cases : List Case) (threads : List ThreadLine) (line : Line) (s : Option Schedule) (b : Begun)
+    → Reads lines (in_threads cases threads) → schedule_in (length threads) line ≡ s
     → with_schedule cases threads s ≡ Some b → Reads (lines ++ line ∷ []) b
 unfolding in_threads OpenedAs
 with_schedule_read lines cases threads line None b r f e = absurd (none_some e)
@@ -266,7 +273,8 @@ with_schedule_read lines cases threads line (Some s) b r f e =
     subst (λ x. Reads (lines ++ line ∷ []) x) q.1 (record {
       parts = r.parts ++ (r.open_lines ++ line ∷ []) ∷ [];
       open_lines = [];
-      whole = ap (λ l. l ++ line ∷ []) r.whole ∙ append_assoc (joined r.parts) r.open_lines (line ∷ []) ∙ sym (joined_push r.parts (r.open_lines ++ line ∷ [])) ∙ sym (append-nil (joined (r.parts ++ (r.open_lines ++ line ∷ []) ∷ [])));
+      whole = ap (λ l. l ++ line ∷ []) r.whole ∙ append_assoc (joined r.parts) r.open_lines (line ∷ [])
+          ∙ sym (joined_push r.parts (r.open_lines ++ line ∷ [])) ∙ sym (append-nil (joined (r.parts ++ (r.open_lines ++ line ∷ []) ∷ [])));
       cases = cases_push r.parts cases (r.open_lines ++ line ∷ []) (record { threads = threads; schedule = s }) r.cases (closed cases threads line s (length r.parts) r.open_lines o f le);
       few = omega (arith, room, n);
       rest = refl;
@@ -364,7 +372,8 @@ whole_case count open_lines threads o =
       },
     )
 
-begins_with : (lines : List Line) (parts : List (List Line)) (cases : List Case) (open_lines more : List Line) (case : Case) → lines ≡ joined parts ++ open_lines → AreCaseTexts parts cases → length parts < 256
+begins_with : (lines : List Line) (parts : List (List Line)) (cases : List Case) (open_lines more : List Line) (case : Case) → lines ≡ joined parts
+    ++ open_lines → AreCaseTexts parts cases → length parts < 256
     → IsCaseText (open_lines ++ more) case → BeginAPlan lines
 unfolding joined
 begins_with lines parts cases open_lines more case w h lt c = let n = length-append parts ((open_lines ++ more) ∷ []) in (
@@ -437,7 +446,8 @@ plan_of lines cases r le = let n = cases_length r.parts cases r.cases in record 
   cases = r.cases;
 }
 
-no_plan_ends : (lines : List Line) (cases : List Case) (threads : Option (List ThreadLine)) (plan : RunPlan) → folded (Some (between [])) lines ≡ Some (record { cases = cases; threads = threads }) → ArePlanLines lines plan
+no_plan_ends : (lines : List Line) (cases : List Case) (threads : Option (List ThreadLine)) (plan : RunPlan)
+    → folded (Some (between [])) lines ≡ Some (record { cases = cases; threads = threads }) → ArePlanLines lines plan
     → (threads ≡ None) × (1 ≤ length cases)
 unfolding between
 no_plan_ends lines cases threads plan e p =
@@ -473,7 +483,8 @@ middle_next : (text : List ℕ) (before : List Line) (b : Begun) (number : ℕ) 
 unfolding Right folded
 middle_next text before b number words line lines true f g m None e again = absurd (none_some (sym e))
 middle_next text before b number words line lines true f g m (Some c) e again = again before c (record {
-  whole = m.whole ∙ ap (λ l. before ++ l) (ap (λ w. line_before number w (numbered_from (number + 1) lines)) f ∙ ap (λ u. cond u (numbered_from (number + 1) lines) (record { number = number; words = words } ∷ numbered_from (number + 1) lines)) g);
+  whole = m.whole ∙ ap (λ l. before ++ l) (ap (λ w. line_before number w (numbered_from (number + 1) lines)) f
+      ∙ ap (λ u. cond u (numbered_from (number + 1) lines) (record { number = number; words = words } ∷ numbered_from (number + 1) lines)) g);
   read = m.read ∙ e;
   count = let n = m.count in omega (arith, n);
 })
@@ -481,13 +492,15 @@ middle_next text before b number words line lines false f g m None e again = inl
   before = before;
   line = record { number = number; words = words };
   behind = numbered_from (number + 1) lines;
-  parts = m.whole ∙ ap (λ l. before ++ l) (ap (λ w. line_before number w (numbered_from (number + 1) lines)) f ∙ ap (λ u. cond u (numbered_from (number + 1) lines) (record { number = number; words = words } ∷ numbered_from (number + 1) lines)) g);
+  parts = m.whole ∙ ap (λ l. before ++ l) (ap (λ w. line_before number w (numbered_from (number + 1) lines)) f
+      ∙ ap (λ u. cond u (numbered_from (number + 1) lines) (record { number = number; words = words } ∷ numbered_from (number + 1) lines)) g);
   number_is = refl;
   begun = begins before b.cases b.threads (all_read before b m.read);
   unfit = no_plan_stuck before b (record { number = number; words = words }) m.read e;
 })
 middle_next text before b number words line lines false f g m (Some c) e again = again (before ++ record { number = number; words = words } ∷ []) c (record {
-  whole = m.whole ∙ ap (λ l. before ++ l) (ap (λ w. line_before number w (numbered_from (number + 1) lines)) f ∙ ap (λ u. cond u (numbered_from (number + 1) lines) (record { number = number; words = words } ∷ numbered_from (number + 1) lines)) g)
+  whole = m.whole ∙ ap (λ l. before ++ l) (ap (λ w. line_before number w (numbered_from (number + 1) lines)) f
+      ∙ ap (λ u. cond u (numbered_from (number + 1) lines) (record { number = number; words = words } ∷ numbered_from (number + 1) lines)) g)
       ∙ sym (append_assoc before (record { number = number; words = words } ∷ []) (numbered_from (number + 1) lines));
   read = folded_append (Some (between [])) before (record { number = number; words = words } ∷ []) ∙ ap (λ o. folded o (record { number = number; words = words } ∷ [])) m.read ∙ e;
   count = let n = m.count in omega (arith, n);
@@ -500,7 +513,8 @@ reading_right text before b number [] m =
     let count : length (lines_of text) + 1 ≡ number = omega (arith, n) in
     subst (λ k. Right text (ended_in k b.cases b.threads)) count (ends_right text b.cases b.threads (ap (λ l. folded (Some (between [])) l) (m.whole ∙ append-nil before) ∙ m.read))
 reading_right text before b number (line ∷ lines) m =
-    middle_next text before b number (words_of line) line lines (is_skipped (words_of line)) refl refl m (with_words b number (words_of line)) refl (λ after c n. reading_right text after c (number + 1) lines n)
+    middle_next text before b number (words_of line) line lines (is_skipped (words_of line)) refl refl m (with_words b number (words_of line)) refl
+        (λ after c n. reading_right text after c (number + 1) lines n)
 
 read_right : (text : List ℕ) → Right text (plan_read text)
 unfolding between folded

@@ -33,10 +33,12 @@ pub opening_gives : (r : Result Begun (Fail Unfit)) (b : Begun) (number : ℕ) (
 unfolding with_line
 opening_gives r b number words more word e f none g = subst (Gives r) (sym (by b.threads none) ∙ sym (line_taken b number words more word e f)) g
   where
-    by : (threads : Option (List ThreadLine)) → threads ≡ None → with_line (record { cases = b.cases; threads = threads }) (record { number = number; words = word ∷ more }) ≡ opening b.cases (word ∷ more)
+    by : (threads : Option (List ThreadLine)) → threads ≡ None → with_line (record { cases = b.cases; threads = threads })
+        (record { number = number; words = word ∷ more }) ≡ opening b.cases (word ∷ more)
     by threads n = ap (λ o. with_line (record { cases = b.cases; threads = o }) (record { number = number; words = word ∷ more })) n
 
-pub case_gives : (r : Result Begun (Fail Unfit)) (b : Begun) (threads : List ThreadLine) (number : ℕ) (words more : List (List ℕ)) (word : List ℕ) → words ≡ word ∷ more → is_comment word ≡ false → b.threads ≡ Some threads
+pub case_gives : (r : Result Begun (Fail Unfit)) (b : Begun) (threads : List ThreadLine) (number : ℕ) (words more : List (List ℕ)) (word : List ℕ)
+    → words ≡ word ∷ more → is_comment word ≡ false → b.threads ≡ Some threads
     → Gives r (in_case b.cases threads (record { number = number; words = word ∷ more }) (thread_by number (word ∷ more))) → Gives r (with_words b number words)
 unfolding with_line
 case_gives r b threads number words more word e f some g = subst (Gives r) (sym (by b.threads some) ∙ sym (line_taken b number words more word e f)) g

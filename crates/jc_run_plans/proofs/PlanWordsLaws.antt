@@ -26,7 +26,9 @@ cut_here mark text i inside here before =
     ap (parts_of mark) parts ∙ slice_split_at (λ b. b == mark) (take i text) mark (drop (i + 1) text) others (eq-eqb mark mark refl)
   where
     others : All (λ b. (b == mark) ≡ false) (take i text)
-    others = All-from_get_or (λ b. (b == mark) ≡ false) (take i text) 0 (λ k less. let lt : k < i = let n = length-take-le i text (omega (arith, inside)) in omega (arith, less, n) in rw get_or-take (differs (get_or text k 0) mark (before k lt)))
+    others = All-from_get_or (λ b. (b == mark) ≡ false) (take i text) 0
+        (λ k less. let lt : k < i = let n = length-take-le i text (omega (arith, inside)) in omega (arith, less, n) in
+          rw get_or-take (differs (get_or text k 0) mark (before k lt)))
 
 pub cut_nowhere : (mark : ℕ) (text : List ℕ) → All (λ b. b ≢ mark) text → parts_of mark text ≡ text ∷ []
 cut_nowhere mark text none = slice_split_none (λ b. b == mark) text (others text none)
@@ -82,7 +84,8 @@ here_false name i k e h = ap not (eq-eqb (get_or name k 0) 46 (ap (λ n. get_or 
 pub behind_last_dot : (name : List ℕ) (i : ℕ) → i < length name → get_or name i 0 ≡ 46 → ((k : ℕ) → i + 1 ≤ k → k < length name → get_or name k 0 ≢ 46)
     → suffix_len (λ b. not (is_dot b)) name ≡ length name - (i + 1)
 behind_last_dot name i inside here after =
-    suffix_len_is (λ b. not (is_dot b)) name (i + 1) 0 (omega (arith, inside)) (λ k le lt. ap not (differs (get_or name k 0) 46 (after k le lt))) (λ some. here_false name i (i + 1 - 1) (sub-one-add i) here)
+    suffix_len_is (λ b. not (is_dot b)) name (i + 1) 0 (omega (arith, inside)) (λ k le lt. ap not (differs (get_or name k 0) 46 (after k le lt)))
+        (λ some. here_false name i (i + 1 - 1) (sub-one-add i) here)
 
 pub in_front_of_last_dot : (name : List ℕ) (i : ℕ) → i < length name → suffix_len (λ b. not (is_dot b)) name ≡ length name - (i + 1) → take i name ≡ before_last is_dot name
 in_front_of_last_dot name i inside e = let z : i ≡ length name - suffix_len (λ b. not (is_dot b)) name - 1 = omega (arith, inside, e) in ap (λ n. take n name) z
@@ -94,4 +97,5 @@ pub no_dot : (name : List ℕ) → All (λ b. b ≢ 46) name → before_last is_
 no_dot name none = let z : length name - length name - 1 ≡ 0 = omega arith in ap (λ n. take (length name - n - 1) name) (all_pass name none) ∙ ap (λ n. take n name) z
   where
     all_pass : (bytes : List ℕ) → All (λ b. b ≢ 46) bytes → suffix_len (λ b. not (is_dot b)) bytes ≡ length bytes
-    all_pass bytes h = suffix_len_is (λ b. not (is_dot b)) bytes 0 0 (omega arith) (λ k le lt. ap not (differs (get_or bytes k 0) 46 (All-get_or (λ b. b ≢ 46) bytes k 0 lt h))) (λ some. absurd (omega (arith, some))) ∙ omega arith
+    all_pass bytes h = suffix_len_is (λ b. not (is_dot b)) bytes 0 0 (omega arith)
+        (λ k le lt. ap not (differs (get_or bytes k 0) 46 (All-get_or (λ b. b ≢ 46) bytes k 0 lt h))) (λ some. absurd (omega (arith, some))) ∙ omega arith

@@ -53,10 +53,12 @@ memory_ends landed command w f = inr (inr (record { is = refl; far = inl (refl, 
 module _ (landed : Landed) (made writes : List Written) (same : made ≡ writes) (old mid : Outside) (f g : Counts) where
   -- the writes were made
   pub wrote_all : (g ≡ f) × CameTo landed (writing_all (map write_seen made)) old mid (gives tt) → Ends landed (making_all (map write_seen writes)) old mid f g status.Done
-  wrote_all does = subst (λ (ws : List Written). Ends landed (making_all (map write_seen ws)) old mid f g status.Done) same (ends_done landed (making_all (map write_seen made)) old f mid g all.0 all.1)
+  wrote_all does = subst (λ (ws : List Written). Ends landed (making_all (map write_seen ws)) old mid f g status.Done) same
+      (ends_done landed (making_all (map write_seen made)) old f mid g all.0 all.1)
     where
       all : (g ≡ f) × CameTo landed (making_all (map write_seen made)) old mid (stops done)
-      all = ran_last landed (making_all (map write_seen made)) old old f f (writing_all (map write_seen made)) (reached_start landed (making_all (map write_seen made)) old f) (λ (stop : Stop). stop_seen stop) mid g (Ok (tt {0})) does
+      all = ran_last landed (making_all (map write_seen made)) old old f f (writing_all (map write_seen made))
+          (reached_start landed (making_all (map write_seen made)) old f) (λ (stop : Stop). stop_seen stop) mid g (Ok (tt {0})) does
 
   -- a write failed
   pub wrote_some : (new : Outside) (f' : Counts) (stop : Option End) (s : Status) → Stops landed (writing_all (map write_seen made)) old mid f g stop → Reports stop mid new g f' s
@@ -75,7 +77,8 @@ module _ (landed : Landed) (inputs : List Word) (Answers : List (List ℕ) → A
   completed (Err stop) s does completes = ends_before landed (preparing inputs Answers) making_all old f mid new g f' (stop_seen stop) s does completes
 
 -- the same of equal paths
-pub ends_same : (landed : Landed) (Answers : List Word → List Word → List (List ℕ) → Answer → Type 0) (ts ts' ps ps' : List Word) → ts ≡ ts' → ps ≡ ps' → (old new : Outside) (f f' : Counts) (s : Status)
+pub ends_same : (landed : Landed) (Answers : List Word → List Word → List (List ℕ) → Answer → Type 0) (ts ts' ps ps' : List Word) → ts ≡ ts'
+    → ps ≡ ps' → (old new : Outside) (f f' : Counts) (s : Status)
     → Ends landed (answered ps (Answers ts ps)) old new f f' s → Ends landed (answered ps' (Answers ts' ps')) old new f f' s
 ends_same landed Answers ts ts' ps ps' same_ts same_ps old new f f' s ends =
     subst (λ (l : List Word). Ends landed (answered l (Answers ts' l)) old new f f' s) same_ps

@@ -90,11 +90,14 @@ module _ (landed : Landed) where
     has_work : (command : Called) → IsBounded command → HasOne landed (work_of command)
     has_work (instrument dest files) bounded =
         has_on_files files (instrument_answers dest) (λ paths. instrument_has_one (map (in_folder dest) paths) paths (length-map paths (in_folder dest)))
-    has_work (run plan destfile workers files) bounded = has_behind plan (running plan destfile files) (λ text file. has_on_files files (run_answers plan destfile text) (λ paths. runs plan destfile paths text))
+    has_work (run plan destfile workers files) bounded = has_behind plan (running plan destfile files)
+        (λ text file. has_on_files files (run_answers plan destfile text) (λ paths. runs plan destfile paths text))
     has_work (merge destfile inputs) bounded = has_answered landed inputs (MergeAnswers destfile inputs) (merge_has_one destfile inputs)
     has_work (report csv name None files) bounded = has_on_files files (report_answers csv name None []) (λ paths. report_has_one csv name None paths)
     has_work (report csv name (Some exec) files) bounded =
-        has_behind exec (λ text. reporting csv name (Some exec) (text ∷ []) files) (λ text file. has_on_files files (report_answers csv name (Some exec) (text ∷ [])) (λ paths read are. report_has_one csv name (Some exec) paths (text ∷ read) (file, are)))
+        has_behind exec (λ text. reporting csv name (Some exec) (text ∷ []) files)
+            (λ text file. has_on_files files (report_answers csv name (Some exec) (text ∷ []))
+              (λ paths read are. report_has_one csv name (Some exec) paths (text ∷ read) (file, are)))
     has_work (exec_info inputs) bounded = has_answered landed inputs (InfoAnswers inputs) (info_has_one inputs)
     has_work (class_info files) bounded = has_on_files files ListAnswers list_has_one
     has_work (cover dest plan destfile csv workers name files) bounded =
@@ -149,7 +152,8 @@ work_ends (run plan destfile workers files) =
 work_ends (merge destfile inputs) = ends_answered IsCommandEnd inputs (MergeAnswers destfile inputs) tt (λ path. tt) (λ texts end is. of_refusal end (merge_refuses destfile inputs texts end is))
 work_ends (report csv name None files) = ends_on_files files (report_answers csv name None []) (report_refuses csv name None)
 work_ends (report csv name (Some exec) files) =
-    ends_behind exec (λ text. reporting csv name (Some exec) (text ∷ []) files) (λ text. ends_on_files files (report_answers csv name (Some exec) (text ∷ [])) (λ paths read. report_refuses csv name (Some exec) paths (text ∷ read)))
+    ends_behind exec (λ text. reporting csv name (Some exec) (text ∷ []) files)
+        (λ text. ends_on_files files (report_answers csv name (Some exec) (text ∷ [])) (λ paths read. report_refuses csv name (Some exec) paths (text ∷ read)))
 work_ends (exec_info inputs) = ends_answered IsCommandEnd inputs (InfoAnswers inputs) tt (λ path. tt) (λ texts end is. of_refusal end (info_refuses inputs texts end is))
 work_ends (class_info files) = ends_on_files files ListAnswers list_refuses
 work_ends (cover dest plan destfile csv workers name files) =
@@ -189,7 +193,8 @@ work_or_nothing (run plan destfile workers files) first =
     nothing_before (reading plan) (running plan destfile files) (none_reading plan) (λ text front over. nothing_on_files files (run_answers plan destfile text))
 work_or_nothing (merge destfile inputs) first = done_or_none inputs (MergeAnswers destfile inputs)
 work_or_nothing (report csv name None files) first = nothing_on_files files (report_answers csv name None [])
-work_or_nothing (report csv name (Some exec) files) first = nothing_before (reading exec) (λ text. reporting csv name (Some exec) (text ∷ []) files) (none_reading exec) (λ text front over. nothing_on_files files (report_answers csv name (Some exec) (text ∷ [])))
+work_or_nothing (report csv name (Some exec) files) first = nothing_before (reading exec) (λ text. reporting csv name (Some exec) (text ∷ []) files)
+    (none_reading exec) (λ text front over. nothing_on_files files (report_answers csv name (Some exec) (text ∷ [])))
 work_or_nothing (exec_info inputs) first = done_or_none inputs (InfoAnswers inputs)
 work_or_nothing (class_info files) first = nothing_on_files files ListAnswers
 work_or_nothing (cover dest plan destfile csv workers name files) first = absurd first
@@ -210,7 +215,8 @@ last_work (run plan destfile workers files) first =
     last_then (reading plan) (running plan destfile files) (none_reading plan) (reads_reading plan) (λ text front over. last_on_files files (run_answers plan destfile text))
 last_work (merge destfile inputs) first = last_answered inputs (MergeAnswers destfile inputs)
 last_work (report csv name None files) first = last_on_files files (report_answers csv name None [])
-last_work (report csv name (Some exec) files) first = last_then (reading exec) (λ text. reporting csv name (Some exec) (text ∷ []) files) (none_reading exec) (reads_reading exec) (λ text front over. last_on_files files (report_answers csv name (Some exec) (text ∷ [])))
+last_work (report csv name (Some exec) files) first = last_then (reading exec) (λ text. reporting csv name (Some exec) (text ∷ []) files)
+    (none_reading exec) (reads_reading exec) (λ text front over. last_on_files files (report_answers csv name (Some exec) (text ∷ [])))
 last_work (exec_info inputs) first = last_answered inputs (InfoAnswers inputs)
 last_work (class_info files) first = last_on_files files ListAnswers
 last_work (cover dest plan destfile csv workers name files) first = absurd first

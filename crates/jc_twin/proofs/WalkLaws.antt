@@ -46,7 +46,9 @@ module _ (b : Body) where
           let same : flow_of insn ≡ flow = same_Some (flow_of insn) flow f in
           let z : i ≡ 0 + i = sym (zero-add i) in
           let one : branches_of i insn ≡ exit i ∷ [] = ap (λ g. branches_by g i (targets_of insn)) same ∙ exit_by flow i (targets_of insn) ends in
-          lists_from branches_of 0 b.code (exit i) (record { place = i; item = insn; stands = stands; listed = subst (λ k. Contains (branches_of k insn) (exit i)) z (subst (λ l. Contains l (exit i)) (sym one) (first_in (exit i) [])) })
+          lists_from branches_of 0 b.code (exit i)
+              (record { place = i; item = insn; stands = stands; listed = subst (λ k. Contains (branches_of k insn) (exit i)) z
+                  (subst (λ l. Contains l (exit i)) (sym one) (first_in (exit i) [])) })
 
   thrown_is : (i : ℕ) (y : Branch) → Contains (thrown_edges b i) y → (exit i ≡ y) × (flow_at b.code i ≡ Some flows.Throws)
   thrown_is i y c = by (flow_at b.code i) refl c
@@ -144,7 +146,8 @@ module _ (b : Body) where
       (λ later.
       ⊎_elim
       (λ there. inr (came_caught row is.1 there))
-      (λ came. inr (came_more (λ x. Contains (taken b row.target rest) x) (λ x. Contains (thrown_edges b i ++ taken b row.target rest) x) (λ x took. Contains-append_right (thrown_edges b i) (taken b row.target rest) x took) t came))
+      (λ came. inr (came_more (λ x. Contains (taken b row.target rest) x) (λ x. Contains (thrown_edges b i ++ taken b row.target rest) x)
+          (λ x took. Contains-append_right (thrown_edges b i) (taken b row.target rest) x took) t came))
       (arrived t row.target rest is.4 later))
       (which_in i (stood row.target rest) t c)
 

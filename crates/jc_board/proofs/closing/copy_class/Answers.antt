@@ -29,6 +29,7 @@ loop-id-preserved c =
     let bit = shr_and_one c.word.result (id % 64) in
     let in_class : class < length into = omega (arith, ap length c.loop-id.invariant.counts, c.requires.into.0, length-map into length, length-map was length) in
     elim c.if-word-id-eq1.branch as (λ _. Copies words first class (id + 1) was now) [
-      | then-word-id-eq1 w ↦ copied_set words first class id was into now c.loop-id.invariant (w.into-is ∙ w.set.ensures) (is ∙ sym bit ∙ w.if-word-id-eq1.true) in_class (in_row (goal.at.loop-id-preserved c).In-loop-id)
+      | then-word-id-eq1 w ↦ copied_set words first class id was into now c.loop-id.invariant (w.into-is ∙ w.set.ensures)
+          (is ∙ sym bit ∙ w.if-word-id-eq1.true) in_class (in_row (goal.at.loop-id-preserved c).In-loop-id)
       | else-word-id-eq1 w ↦ copied_unset words first class id was into now c.loop-id.invariant w.into-is (λ b. w.if-word-id-eq1.false (bit ∙ sym is ∙ b))
     ]

@@ -6,4 +6,5 @@ use Rattle.jc_body.proofs.checks.first_leading_nowhere.Goals as goal
 
 -- src/checks.rt:23:1
 pub returns : goal.returns
-returns c = first_by_position (λ insn. LeadsWithin c.args.count insn → ⊥) _ _ _ c.position.ensures.ran (YieldsList-from_slice c.args.insns.now c.iter.ensures.rest) (λ y q k. search (rules, tests)) (λ y q k. search (rules, tests))
+returns c = first_by_position (λ insn. LeadsWithin c.args.count insn → ⊥) _ _ _ c.position.ensures.ran
+    (YieldsList-from_slice c.args.insns.now c.iter.ensures.rest) (λ y q k. search (rules, tests)) (λ y q k. search (rules, tests))

@@ -16,4 +16,5 @@ returns-in_err-store c =
 pub returns : goal.returns
 returns c =
     let union = subst (λ (ts : List (List ℕ)). IsUnionOf ts c.in_ok-store.store) c.deref.ensures.value c.in_ok-store.ensures.union in
-    merge_writes c.args.destfile (texts_of c.args.inputs.now) c.args.texts.items c.in_ok-store.store c.in_ok-bytes.bytes c.one_write.result union c.in_ok-bytes.ensures.text c.one_write.ensures.ok c.one_write.ensures.err
+    merge_writes c.args.destfile (texts_of c.args.inputs.now) c.args.texts.items c.in_ok-store.store c.in_ok-bytes.bytes c.one_write.result union
+        c.in_ok-bytes.ensures.text c.one_write.ensures.ok c.one_write.ensures.err

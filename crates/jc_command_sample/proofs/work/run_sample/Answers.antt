@@ -27,7 +27,8 @@ returns-in_err-counters g c =
     let have = subst (λ (p : RunPlan). HaveEntries (frameless program) p tt) c.in_ok-plan.ensures c.in_ok-check_entries.ensures in
     let p = err_from_is_err_and c.from_residual-in_err-counters.result c.from_residual-in_err-counters.ensures.1 in
     rw (p.1, p.2) (counting_ends n c.args.probes (frameless program) have (stop_seen c.in_err-counters.field-0.0)
-    (counted_so program c.in_ok-plan.plan n c.args.bytes.now c.in_ok-ran.ran.store (Err c.in_err-counters.field-0.0) c.in_ok-plan.ensures c.requires.bytes c.in_ok-ran.ensures.store c.in_err-counters.ensures))
+    (counted_so program c.in_ok-plan.plan n c.args.bytes.now c.in_ok-ran.ran.store (Err c.in_err-counters.field-0.0) c.in_ok-plan.ensures
+        c.requires.bytes c.in_ok-ran.ensures.store c.in_err-counters.ensures))
 
 pub returns : goal.returns
 returns g c =

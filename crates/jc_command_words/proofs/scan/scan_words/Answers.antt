@@ -14,7 +14,8 @@ returns-in-Dashes c =
     let at = words_from string_bytes words c.loop-i.i c.index-words-i.result c.as_str-word.result.now c.loop-i-test.true c.index-words-i.is c.as_str-word.ensures.value in
     let h = c.loop-i.invariant ∙ ap (λ d. prepend (map used_view c.loop-i.uses.items) (scan (option_map (λ s. s.now) c.loop-i.pending) d)) at in
     ap {B = Option Scan} (λ fs. Some (record { uses = map used_view c.loop-i.uses.items; dash = true; files = map string_bytes fs })) (slice_range-drop words (c.loop-i.i + 1))
-    ∙ step_dashes (map string_bytes words) (map string_bytes (drop (c.loop-i.i + 1) words)) (map used_view c.loop-i.uses.items) c.loop-i.pending c.as_str-word.result.now h c.in_default.is c.in-Dashes.ensures
+    ∙ step_dashes (map string_bytes words) (map string_bytes (drop (c.loop-i.i + 1) words)) (map used_view c.loop-i.uses.items) c.loop-i.pending
+        c.as_str-word.result.now h c.in_default.is c.in-Dashes.ensures
 
 pub returns-in-Other : goal.returns-in-Other
 returns-in-Other c =
@@ -23,7 +24,8 @@ returns-in-Other c =
     let h = c.loop-i.invariant ∙ ap (λ d. prepend (map used_view c.loop-i.uses.items) (scan (option_map (λ s. s.now) c.loop-i.pending) d)) at in
     ap {B = Option Scan} (λ fs. Some (record { uses = map used_view c.loop-i.uses.items; dash = false; files = map string_bytes fs })) (slice_range-drop words c.loop-i.i)
     ∙ ap {B = Option Scan} (λ fs. Some (record { uses = map used_view c.loop-i.uses.items; dash = false; files = fs })) at
-    ∙ step_other (map string_bytes words) (map string_bytes (drop (c.loop-i.i + 1) words)) (map used_view c.loop-i.uses.items) c.loop-i.pending c.as_str-word.result.now h c.in_default.is c.in-Other.ensures
+    ∙ step_other (map string_bytes words) (map string_bytes (drop (c.loop-i.i + 1) words)) (map used_view c.loop-i.uses.items) c.loop-i.pending
+        c.as_str-word.result.now h c.in_default.is c.in-Other.ensures
 
 pub loop-i-preserved : goal.loop-i-preserved
 loop-i-preserved c =
@@ -49,12 +51,14 @@ loop-i-preserved c =
 pub returns-in-Some-pending : goal.returns-in-Some-pending
 returns-in-Some-pending c =
     let words = c.args.words.now in
-    let h = c.loop-i.invariant ∙ ap (λ d. prepend (map used_view c.loop-i.uses.items) (scan (option_map (λ s. s.now) c.loop-i.pending) d)) (no_words_from string_bytes words c.loop-i.i c.loop-i-test.false) in
+    let h = c.loop-i.invariant ∙ ap (λ d. prepend (map used_view c.loop-i.uses.items) (scan (option_map (λ s. s.now) c.loop-i.pending) d))
+            (no_words_from string_bytes words c.loop-i.i c.loop-i-test.false) in
     end_pending (map string_bytes words) (map used_view c.loop-i.uses.items) c.loop-i.pending c.in-Some-pending.field-0 h c.in-Some-pending.is
 
 pub returns : goal.returns
 returns c =
     let words = c.args.words.now in
-    let h = c.loop-i.invariant ∙ ap (λ d. prepend (map used_view c.loop-i.uses.items) (scan (option_map (λ s. s.now) c.loop-i.pending) d)) (no_words_from string_bytes words c.loop-i.i c.loop-i-test.false) in
+    let h = c.loop-i.invariant ∙ ap (λ d. prepend (map used_view c.loop-i.uses.items) (scan (option_map (λ s. s.now) c.loop-i.pending) d))
+            (no_words_from string_bytes words c.loop-i.i c.loop-i-test.false) in
     ap {B = Option Scan} (λ fs. Some (record { uses = map used_view c.loop-i.uses.items; dash = false; files = map string_bytes fs })) (slice_range-drop words (length words) ∙ drop-length words)
     ∙ end_none (map string_bytes words) (map used_view c.loop-i.uses.items) c.loop-i.pending h c.in-None.is

@@ -26,7 +26,8 @@ taking-preserved c =
     let i = c.taking.frame-index in
     let f = c.frame-item.result in
     record {
-      taking = takes_more c.args.pool.now c.taking.pool c.take_classes_in.new.pool (named_by_all (map (type_state_at names) fs)) (named_by (type_state_at names f)) (named_by_all (map (type_state_at names) (drop (i + 1) fs)))
+      taking = takes_more c.args.pool.now c.taking.pool c.take_classes_in.new.pool (named_by_all (map (type_state_at names) fs))
+          (named_by (type_state_at names f)) (named_by_all (map (type_state_at names) (drop (i + 1) fs)))
           (named_by_all (map (type_state_at names) (drop i fs))) (frames_split names fs i f c.taking-test.true c.frame-item.is) c.in_ok-take_classes_in.ensures.classes c.taking.invariant.taking;
       taken = c.in_ok-take_classes_in.ensures.taken;
       extends = extends_both c.args.pool.now c.taking.pool c.take_classes_in.new.pool c.taking.invariant.extends c.in_ok-take_classes_in.ensures.extends;

@@ -36,8 +36,10 @@ returns-in_err-take_class_of-clause-refused c =
     let ks = c.args.kinds.now in
     let i = c.taking.kind-index in
     let p = err_from_is_err_and c.from_residual.result c.from_residual.ensures.1 in
-    rw (p.1, p.2) (refuses_here c.args.pool.now c.taking.pool c.take_class_of.new.pool (class_names (map (verification_type names) ks)) _ (class_names (map (verification_type names) (drop (i + 1) ks)))
-    (class_names (map (verification_type names) (drop i ks))) c.in_err-take_class_of.field-0.0 (kinds_split names ks i _ c.taking-test.true) c.in_err-take_class_of.ensures.refused c.taking.invariant.taking)
+    rw (p.1, p.2) (refuses_here c.args.pool.now c.taking.pool c.take_class_of.new.pool
+        (class_names (map (verification_type names) ks)) _ (class_names (map (verification_type names) (drop (i + 1) ks)))
+    (class_names (map (verification_type names) (drop i ks))) c.in_err-take_class_of.field-0.0 (kinds_split names ks i _ c.taking-test.true)
+        c.in_err-take_class_of.ensures.refused c.taking.invariant.taking)
 
 pub returns-in_err-take_class_of-clause-extends : goal.returns-in_err-take_class_of-clause-extends
 returns-in_err-take_class_of-clause-extends c = extends_both c.args.pool.now c.taking.pool c.take_class_of.new.pool c.taking.invariant.extends c.in_err-take_class_of.ensures.extends

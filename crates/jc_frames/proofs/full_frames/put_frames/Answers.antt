@@ -51,7 +51,8 @@ writing-preserved c =
     let Stand : Names → Type 0 = λ l. AllByRecursion (HasPlace c.writing.pool) l in
     let rest = named_by_all (map (type_state_at names) (drop (i + 1) fs)) in
     record {
-      text = λ p are. frames_more p names fs i c.writing.base (get_or starts f.at 0 + 1) f (c.args.into.now.items ++ full_texts p 0 (map (type_state_at names) fs)) c.writing.into.items c.put_frame.new.into.items
+      text = λ p are. frames_more p names fs i c.writing.base (get_or starts f.at 0 + 1) f
+          (c.args.into.now.items ++ full_texts p 0 (map (type_state_at names) fs)) c.writing.into.items c.put_frame.new.into.items
           c.writing-test.true c.frame-item.is (ap (λ (n : ℕ). n + 1) (sym (are.start f.at)))
           (c.in_ok-put_frame.ensures.text p (subst (λ (l : PoolValue). ArePlacesIn l starts p) (sym c.writing.invariant.kept) are)) (c.writing.invariant.text p are);
       rising = (subst (λ (l : List FrameAt). OffsetsRise starts c.writing.base l) (drop_is fs i f c.writing-test.true c.frame-item.is) c.writing.invariant.rising).1;

@@ -28,7 +28,8 @@ writing-preserved c =
     let Stand : Names → Type 0 = λ l. AllByRecursion (HasPlace c.writing.pool) l in
     let rest = class_names (map (verification_type names) (drop (i + 1) ks)) in
     record {
-      text = λ p are. kinds_more (type_text p) names ks i _ (c.args.into.now.items ++ flat_map (type_text p) (map (verification_type names) ks)) c.writing.into.items c.put_kind.new.into.items c.writing-test.true
+      text = λ p are. kinds_more (type_text p) names ks i _ (c.args.into.now.items ++ flat_map (type_text p) (map (verification_type names) ks))
+          c.writing.into.items c.put_kind.new.into.items c.writing-test.true
           (c.in_ok-put_kind.ensures.text p (subst (λ (l : PoolValue). ArePlacesIn l starts p) (sym c.writing.invariant.kept) are)) (c.writing.invariant.text p are);
       stand = subst (λ (l : PoolValue). AllByRecursion (HasPlace l) rest) (sym kept) (both_parts (HasPlace c.writing.pool) (class_name (verification_type names (get_or ks i kinds.Top))) rest
           (subst Stand (kinds_split names ks i kinds.Top c.writing-test.true) c.writing.invariant.stand)).1;

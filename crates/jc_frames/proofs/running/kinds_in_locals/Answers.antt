@@ -28,7 +28,8 @@ listing-preserved c =
         values = λ names. c.listing.invariant.values names ∙ ap (λ (b : Bool). listed_with names ks b (drop i xs)) w.if-skips.false
             ∙ listed_one names ks w.push.new.self.items xs i w.is_wide-skips.result c.listing-test.true pushed (w.is_wide-skips.ensures names);
         few = let e = ap (λ (l : List Kind). length l) pushed in omega (arith, e, length-append ks (x ∷ []), c.listing.invariant.few);
-        numbered = λ count all. one_at_end (IsNumbered count) ks w.push.new.self.items x pushed (c.listing.invariant.numbered count all) (All-get_or (IsNumbered count) xs i kinds.Top c.listing-test.true all);
+        numbered = λ count all. one_at_end (IsNumbered count) ks w.push.new.self.items x pushed (c.listing.invariant.numbered count all)
+            (All-get_or (IsNumbered count) xs i kinds.Top c.listing-test.true all);
         placed = λ count all. one_at_end (IsPlaced count) ks w.push.new.self.items x pushed (c.listing.invariant.placed count all) (All-get_or (IsPlaced count) xs i kinds.Top c.listing-test.true all);
       })
     ]
@@ -37,7 +38,8 @@ pub returns-clause-values : goal.returns-clause-values
 returns-clause-values c names =
     let xs = take c.end_of_values.result c.args.locals.now in
     sym (append-nil (map (verification_type names) c.listing.kinds.items))
-    ∙ ap (λ (l : List Kind). map (verification_type names) c.listing.kinds.items ++ values_from c.listing.skips (map (verification_type names) l)) (sym (drop_all c.listing.kind-index xs c.listing-test.false))
+    ∙ ap (λ (l : List Kind). map (verification_type names) c.listing.kinds.items ++ values_from c.listing.skips (map (verification_type names) l))
+        (sym (drop_all c.listing.kind-index xs c.listing-test.false))
     ∙ sym (c.listing.invariant.values names)
     ∙ ap (values_from false) (sym (c.end_of_values.ensures.trimmed names))
 

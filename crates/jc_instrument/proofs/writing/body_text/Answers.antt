@@ -25,7 +25,9 @@ take_classes-requires c =
     let ready = ready_grown c.args.names.now now r c.in_ok-frames.ensures.names c.requires in
     subst (AreNumberedFrames (length now)) (sym c.deref-2.ensures)
     (numbered_of r.laid.starts (length now) c.in_ok-frames.frames
-    (can_be_written now r ready c.in_ok-frames.frames plan.0 plan.1 (frames_of c.args.names.now now r plan.0 c.in_ok-frames.frames c.deref.result.now c.in_ok-frames.ensures.names c.requires c.deref.ensures (c.in_ok-frames.ensures.frames plan.0 plan.1))))
+    (can_be_written now r ready c.in_ok-frames.frames plan.0 plan.1
+        (frames_of c.args.names.now now r plan.0 c.in_ok-frames.frames c.deref.result.now c.in_ok-frames.ensures.names c.requires c.deref.ensures
+          (c.in_ok-frames.ensures.frames plan.0 plan.1))))
 
 pub code_text-requires-clause-rows : goal.code_text-requires-clause-rows
 code_text-requires-clause-rows c =
@@ -42,7 +44,9 @@ code_text-requires-clause-frames c =
     let plan = c.requires.plan in
     let ready = ready_grown c.args.names.now now r c.in_ok-frames.ensures.names c.requires in
     subst (CanBeWritten r.laid.starts (length now)) (sym c.deref-3.ensures)
-    (can_be_written now r ready c.in_ok-frames.frames plan.0 plan.1 (frames_of c.args.names.now now r plan.0 c.in_ok-frames.frames c.deref.result.now c.in_ok-frames.ensures.names c.requires c.deref.ensures (c.in_ok-frames.ensures.frames plan.0 plan.1)))
+    (can_be_written now r ready c.in_ok-frames.frames plan.0 plan.1
+        (frames_of c.args.names.now now r plan.0 c.in_ok-frames.frames c.deref.result.now c.in_ok-frames.ensures.names c.requires c.deref.ensures
+          (c.in_ok-frames.ensures.frames plan.0 plan.1)))
 
 pub code_text-requires-clause-classes : goal.code_text-requires-clause-classes
 code_text-requires-clause-classes c =
@@ -66,7 +70,8 @@ returns-in_err-take_classes-clause-refused c = λ others array w of.
     c.deref-2.ensures c.in_err-take_classes.ensures.refused in
     rw (p.1, p.2)
     (meant_refused c.args.names.now now others array c.args.ready w c.in_ok-frames.ensures.names c.requires of c.in_ok-frames.frames
-    (frames_of c.args.names.now now c.args.ready w.first c.in_ok-frames.frames c.deref.result.now c.in_ok-frames.ensures.names c.requires c.deref.ensures (c.in_ok-frames.ensures.frames w.first of.plan)) c.args.pool.now c.take_classes.new.pool e refused)
+    (frames_of c.args.names.now now c.args.ready w.first c.in_ok-frames.frames c.deref.result.now c.in_ok-frames.ensures.names c.requires
+        c.deref.ensures (c.in_ok-frames.ensures.frames w.first of.plan)) c.args.pool.now c.take_classes.new.pool e refused)
 
 pub returns-in_err-tables-clause-refused : goal.returns-in_err-tables-clause-refused
 returns-in_err-tables-clause-refused c = λ others array w of.
@@ -97,7 +102,8 @@ returns-clause-text c = λ others array w of.
     subst (λ (pool : PoolValue). IsWrittenBody c.args.pool.now c.args.places.now others (emitted_of array w) pool c.in_ok-code_text.field-0)
     (sym c.in_ok-code_text.ensures.kept)
     (body_written c.args.names.now now others array c.args.ready w c.in_ok-frames.ensures.names c.requires of c.in_ok-frames.frames
-    (frames_of c.args.names.now now c.args.ready w.first c.in_ok-frames.frames c.deref.result.now c.in_ok-frames.ensures.names c.requires c.deref.ensures (c.in_ok-frames.ensures.frames w.first of.plan)) c.args.pool.now taken c.args.places.now c.in_ok-tables.tables c.in_ok-code_text.field-0 takes
+    (frames_of c.args.names.now now c.args.ready w.first c.in_ok-frames.frames c.deref.result.now c.in_ok-frames.ensures.names c.requires
+        c.deref.ensures (c.in_ok-frames.ensures.frames w.first of.plan)) c.args.pool.now taken c.args.places.now c.in_ok-tables.tables c.in_ok-code_text.field-0 takes
     (c.in_ok-tables.ensures w.first of.plan) is)
 
 pub returns-clause-extends : goal.returns-clause-extends

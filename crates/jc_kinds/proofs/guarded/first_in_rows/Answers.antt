@@ -15,7 +15,8 @@ looking-preserved c =
     let ended : (row_at rows at).end ≤ unfit = search rules in
     record {
       within = next.ensures.within;
-      fit = rows_next c.args.column.now rows c.args.want c.args.bound at (row_at rows at) c.looking-test.true refl c.requires.rows c.looking.invariant.fit unfit c.first_unfit-unfit.ensures next.result ended
+      fit = rows_next c.args.column.now rows c.args.want c.args.bound at (row_at rows at) c.looking-test.true refl c.requires.rows
+          c.looking.invariant.fit unfit c.first_unfit-unfit.ensures next.result ended
           next.ensures.within next.ensures.ended;
     }
 

@@ -20,9 +20,12 @@ owning-preserved c =
     let inside : c.owning.second < length c.args.classes.now = omega arith in
     let here = slice_get_read c.args.classes.now (length c.args.classes.now) c.owning.second c.index-classes-second.result refl inside c.index-classes-second.is in
     elim c.match-class.branch [
-      | in-Some+in-None+in_ok-insert-in-None w ↦ rw w.owners-is (owned_more id_of c.args.classes.now (get nat_eq c.owning.owners) (get nat_eq w.insert.new.self) c.owning.second c.index-classes-second.result w.in-Some.init.id
+      | in-Some+in-None+in_ok-insert-in-None w ↦ rw w.owners-is
+          (owned_more id_of c.args.classes.now (get nat_eq c.owning.owners) (get nat_eq w.insert.new.self) c.owning.second c.index-classes-second.result w.in-Some.init.id
           c.owning.invariant here (ap (option_map (λ (p : ProbeInit). p.id)) w.in-Some.is) (sym w.in-None.ensures.value) (λ q. w.in_ok-insert-in-None.ensures.updates.0 q))
-      | in_default w ↦ rw w.owners-is (known_without id_of c.args.classes.now (IsOwner (get nat_eq c.owning.owners)) c.owning.second c.index-classes-second.result c.owning.invariant here (search rules))
+      | in_default w ↦ rw w.owners-is
+          (known_without id_of c.args.classes.now (IsOwner (get nat_eq c.owning.owners)) c.owning.second c.index-classes-second.result
+            c.owning.invariant here (search rules))
     ]
 
 pub returns : goal.returns

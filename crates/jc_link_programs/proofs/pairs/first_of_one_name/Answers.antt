@@ -24,7 +24,8 @@ naming-preserved c =
     let last = numbered_last c.naming.names c.number.new.self name c.in_ok-first.first c.in_ok-first.ensures.names c.in_ok-first.ensures.place le in
     let size = ap length last in
     let one = length-append c.naming.names (name ∷ []) in (
-      named_more name_of c.args.classes.now c.naming.names c.number.new.self c.naming.second c.index-classes-second.result name c.naming.invariant.0 n here (ap Some (sym c.deref.ensures)) (c.in_ok-first.ensures.names_after).distinct last,
+      named_more name_of c.args.classes.now c.naming.names c.number.new.self c.naming.second c.index-classes-second.result name c.naming.invariant.0
+          n here (ap Some (sym c.deref.ensures)) (c.in_ok-first.ensures.names_after).distinct last,
       omega (arith, size, one, n),
     )
 

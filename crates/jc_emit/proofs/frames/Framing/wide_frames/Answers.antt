@@ -5,4 +5,5 @@ use Rattle.jc_emit.proofs.frames.Framing.wide_frames.Goals as goal
 pub framing-preserved : goal.framing-preserved
 framing-preserved c = λ first is.
     let f = c.args.self.now in
-    piece_more (wide_frames_at f.body.now first f.states.now f.array) c.framing.at c.framing.frames.items c.put_wide_at.new.frames.items (c.framing.invariant first is) (c.in_ok-put_wide_at.ensures first is)
+    piece_more (wide_frames_at f.body.now first f.states.now f.array) c.framing.at c.framing.frames.items c.put_wide_at.new.frames.items
+        (c.framing.invariant first is) (c.in_ok-put_wide_at.ensures first is)

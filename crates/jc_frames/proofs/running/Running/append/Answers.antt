@@ -22,5 +22,6 @@ returns-clause-values c names =
     let said = c.in_ok-more.ensures.says names in
     let some = rw c.in-Some.is at said in
     ap (behind (held_values pool names c.args.self.now.values.items)) some
-    ∙ sym (ap (λ (l : List Value). Rattle.std.proofs.Common.Some (held_values pool names l)) (c.in_ok-extend_from_slice.ensures.items ∙ ap (λ (l : List Value). c.args.self.now.values.items ++ l) c.deref-2.ensures.value)
+    ∙ sym (ap (λ (l : List Value). Rattle.std.proofs.Common.Some (held_values pool names l))
+        (c.in_ok-extend_from_slice.ensures.items ∙ ap (λ (l : List Value). c.args.self.now.values.items ++ l) c.deref-2.ensures.value)
     ∙ ap Rattle.std.proofs.Common.Some (map-append (held_value pool names) c.args.self.now.values.items c.in-Some.more.items))

@@ -19,7 +19,9 @@ returns-then-may_name_method c = λ program at i linked site place index.
     sym (c.is_enterable.ensures (ap most_frame_slots index.linked ∙ index.most) ∙ ap (λ (l : Linked). is_enterable l b) index.linked) ∙ c.if-is_enterable.true in (
       (method_type_in b.desc).parameters,
       b.max_locals,
-      entered at c.args.callee linked (slice_get linked.bodies c.args.callee.method) b there enter (sym (c.may_name_method.ensures program at site place ∙ ap (may_name_method at c.args.callee.class) c.as_slice-then-is_enterable.ensures) ∙ c.if-may_name_method.true),
+      entered at c.args.callee linked (slice_get linked.bodies c.args.callee.method) b there enter
+          (sym (c.may_name_method.ensures program at site place ∙ ap (may_name_method at c.args.callee.class) c.as_slice-then-is_enterable.ensures)
+            ∙ c.if-may_name_method.true),
     )
 
 pub returns-else-is_enterable : goal.returns-else-is_enterable
@@ -31,6 +33,8 @@ returns-else-is_enterable c = λ program at i linked site place index.
     let enter : c.is_enterable.result ≡ is_enterable linked b =
     c.is_enterable.ensures (ap most_frame_slots index.linked ∙ index.most) ∙ ap (λ (l : Linked). is_enterable l b) index.linked in
     not_entered at c.args.callee linked (slice_get linked.bodies c.args.callee.method) b there (elim c.else-is_enterable.branch [
-      | else-is_enterable-via-then-is_enterable+else-may_name_method w ↦ inr (sym (w.may_name_method.ensures program at site place ∙ ap (may_name_method at c.args.callee.class) w.as_slice-then-is_enterable.ensures) ∙ w.if-may_name_method.false)
+      | else-is_enterable-via-then-is_enterable+else-may_name_method w ↦ inr
+          (sym (w.may_name_method.ensures program at site place ∙ ap (may_name_method at c.args.callee.class) w.as_slice-then-is_enterable.ensures)
+            ∙ w.if-may_name_method.false)
       | else-is_enterable-via-else-is_enterable w ↦ inl (sym enter ∙ w.if-is_enterable.false)
     ])
