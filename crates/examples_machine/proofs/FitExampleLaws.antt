@@ -3,8 +3,10 @@ use Rattle.std.proofs.Common.{length, ◌≡◌, ◌≢◌, inl, inr, ℕ, ◌�
 use Rattle.std.proofs.lemmas.List.{reverse-append}
 use Rattle.std.proofs.lemmas.List.Elements.{All-from_recursion}
 use Rattle.std.specs.List.{IsDistinct, AllByRecursion}
-use Rattle.std.proofs.lemmas.Bool.{eq-eqb}
+use Rattle.std.proofs.lemmas.Bool.{eq-eqb, and_parts}
+use Rattle.std.proofs.lemmas.Option.{same_Some}
 use Rattle.jc_bytes.specs.Descriptor.{Int, IsFieldType, Long, Boolean, Object, Array, IsNameByte, IsClassName, IsFieldDescriptor, IsMethodDescriptor}
+use Rattle.jc_bytes.proofs.OptionLaws.{none_some}
 use Rattle.jc_methods.specs.declared.insn.Insn.{Insn}
 use Rattle.jc_methods.specs.declared.body.Use.{Use}
 use Rattle.jc_methods.specs.declared.body.Handler.{Handler}
@@ -56,19 +58,13 @@ pub void_ends : FallsThrough (insns.Simple opcode.return) → ⊥
 void_ends (inl e) = cc
 void_ends (inr e) = cc
 
-pub none_some : {X : Type 0} {x : X} → None ≡ Some x → ⊥
-none_some e = cc
-
-pub some_is : {X : Type 0} (x y : X) → Some x ≡ Some y → x ≡ y
-some_is x y e = cc
-
 pub int_is_type : IsFieldType Int
 int_is_type = record { named = tt; few = omega arith }
 
 -- one entry is for the place
 used : (uses : List Use) (u : Use) → what_used uses u.place ≡ Some u.what → length (entries_for uses u.place) ≡ 1 → (F : What → Type 0) → F u.what
     → (place : ℕ) → Some u.place ≡ Some place → HasUse uses place F
-used uses u e one F f place g = subst (λ k. HasUse uses k F) (some_is u.place place g) (record { what = u.what; used = e; one = one; fact = f })
+used uses u e one F f place g = subst (λ k. HasUse uses k F) (same_Some u.place place g) (record { what = u.what; used = e; one = one; fact = f })
 
 -- an int takes one slot, so that nothing has to stand behind it
 int_before : (ks : List Kind) → kind_slots kinds.Int ≡ 2 → BeginsWithTop ks
@@ -91,11 +87,16 @@ abs_code = record {
 
 abs_uses : AreUses abs.code abs.handlers abs.uses
 abs_uses = record {
-  by_insns = All-from_recursion (λ (insn : Insn). (place : ℕ) → pool_place insn ≡ Some place → HasUse [] place (Suits insn)) abs.code
-      ((λ place e. absurd (none_some e)),
-        ((λ place e. absurd (none_some e)),
-          ((λ place e. absurd (none_some e)),
-            ((λ place e. absurd (none_some e)), ((λ place e. absurd (none_some e)), ((λ place e. absurd (none_some e)), ((λ place e. absurd (none_some e)), tt)))))));
+  by_insns = All-from_recursion (λ (insn : Insn). (place : ℕ) → pool_place insn ≡ Some place → HasUse [] place (Suits insn)) abs.code (
+    (λ place e. absurd (none_some e)),
+    (
+      (λ place e. absurd (none_some e)),
+      (
+        (λ place e. absurd (none_some e)),
+        ((λ place e. absurd (none_some e)), ((λ place e. absurd (none_some e)), ((λ place e. absurd (none_some e)), ((λ place e. absurd (none_some e)), tt)))),
+      ),
+    ),
+  );
   by_handlers = All-from_recursion (λ (h : Handler). h.class ≢ 0 → HasUse [] h.class IsClass) [] tt;
   short = All-from_recursion (λ (u : Use). HasShortTexts u.what) [] tt;
 }
@@ -117,11 +118,30 @@ abs_made = record {
     };
     arguments_fit = omega arith;
     uses = abs_uses;
-    frames = (omega arith, omega arith,
-        record { locals = refl; pairs = (int_before [], tt); stack = omega arith; local_kinds = All-from_recursion (IsKind abs.code) (kinds.Int ∷ [])
-          (tt, tt); stack_kinds = All-from_recursion (IsKind abs.code) [] tt }, tt);
-    sizes = record { owner = omega arith; name = omega arith; desc = omega arith; handlers = omega arith; lines = omega arith; vars = omega arith;
-        kind_vars = omega arith; frames = omega arith; uses = omega arith };
+    frames = (
+      omega arith,
+      omega arith,
+      record {
+        locals = refl;
+        pairs = (int_before [], tt);
+        stack = omega arith;
+        local_kinds = All-from_recursion (IsKind abs.code) (kinds.Int ∷ [])
+            (tt, tt);
+        stack_kinds = All-from_recursion (IsKind abs.code) [] tt;
+      },
+      tt,
+    );
+    sizes = record {
+      owner = omega arith;
+      name = omega arith;
+      desc = omega arith;
+      handlers = omega arith;
+      lines = omega arith;
+      vars = omega arith;
+      kind_vars = omega arith;
+      frames = omega arith;
+      uses = omega arith;
+    };
   };
   bound = omega arith;
 }
@@ -135,9 +155,15 @@ unfolding IsDistinct
 abs_is_program = record {
   classes = All-from_recursion (IsLinked (codes "[Z" ∷ [])) abs_program.classes (
     record {
-      bodies = All-from_recursion (IsProgramBody (codes "[Z" ∷ [])) (abs ∷ [])
-          (record { well_made = abs_made; checked = passes_checked (codes "[Z" ∷ []) abs (omega arith) abs_verdict; numbered =
-              (record { locals = (tt, tt); stack = tt }, tt) }, tt);
+      bodies = All-from_recursion (IsProgramBody (codes "[Z" ∷ [])) (abs ∷ []) (
+        record {
+          well_made = abs_made;
+          checked = passes_checked (codes "[Z" ∷ []) abs (omega arith) abs_verdict;
+          numbered =
+              (record { locals = (tt, tt); stack = tt }, tt);
+        },
+        tt,
+      );
       statics = All-from_recursion IsStatic [] tt;
       few_bodies = omega arith;
       few_statics = omega arith;
@@ -166,9 +192,10 @@ x_used op l place e = used (x_use ∷ []) x_use refl refl (Suits (insns.Member o
 
 inc_uses : AreUses inc.code inc.handlers inc.uses
 inc_uses = record {
-  by_insns = All-from_recursion (λ (insn : Insn). (place : ℕ) → pool_place insn ≡ Some place → HasUse (x_use ∷ []) place (Suits insn)) inc.code
-      (x_used 178 (omega arith),
-        ((λ place e. absurd (none_some e)), ((λ place e. absurd (none_some e)), (x_used 179 (omega arith), ((λ place e. absurd (none_some e)), tt)))));
+  by_insns = All-from_recursion (λ (insn : Insn). (place : ℕ) → pool_place insn ≡ Some place → HasUse (x_use ∷ []) place (Suits insn)) inc.code (
+    x_used 178 (omega arith),
+    ((λ place e. absurd (none_some e)), ((λ place e. absurd (none_some e)), (x_used 179 (omega arith), ((λ place e. absurd (none_some e)), tt)))),
+  );
   by_handlers = All-from_recursion (λ (h : Handler). h.class ≢ 0 → HasUse (x_use ∷ []) h.class IsClass) [] tt;
   short = All-from_recursion (λ (u : Use). HasShortTexts u.what) (x_use ∷ []) ((omega arith, omega arith, omega arith), tt);
 }
@@ -191,8 +218,17 @@ inc_made = record {
     arguments_fit = omega arith;
     uses = inc_uses;
     frames = tt;
-    sizes = record { owner = omega arith; name = omega arith; desc = omega arith; handlers = omega arith; lines = omega arith; vars = omega arith;
-        kind_vars = omega arith; frames = omega arith; uses = omega arith };
+    sizes = record {
+      owner = omega arith;
+      name = omega arith;
+      desc = omega arith;
+      handlers = omega arith;
+      lines = omega arith;
+      vars = omega arith;
+      kind_vars = omega arith;
+      frames = omega arith;
+      uses = omega arith;
+    };
   };
   bound = omega arith;
 }
@@ -238,16 +274,12 @@ differs b n e g = by (sym (ap not (eq-eqb b n g)) ∙ e)
     by : false ≡ true → ⊥
     by p = cc
 
-both : (x y : Bool) → (x && y) ≡ true → (x ≡ true) × (y ≡ true)
-both true y e = (refl, e)
-both false y e = cc
-
 name_byte : (b : ℕ) → name_test b ≡ true → IsNameByte b
 unfolding name_test
 name_byte b e =
-    let p = both (not (nat_eq b 46)) _ e in
-    let q = both (not (nat_eq b 59)) _ p.1 in
-    let r = both (not (nat_eq b 91)) (not (nat_eq b 47)) q.1 in
+    let p = and_parts (not (nat_eq b 46)) _ e in
+    let q = and_parts (not (nat_eq b 59)) _ p.1 in
+    let r = and_parts (not (nat_eq b 91)) (not (nat_eq b 47)) q.1 in
     record { no_dot = differs b 46 p.0; no_semicolon = differs b 59 q.0; no_bracket = differs b 91 r.0; no_slash = differs b 47 r.1 }
 
 all_names : List ℕ → Bool
@@ -257,7 +289,7 @@ all_names (b ∷ bs) = name_test b && all_names bs
 name_bytes : (bs : List ℕ) → all_names bs ≡ true → AllByRecursion IsNameByte bs
 unfolding all_names
 name_bytes [] e = tt
-name_bytes (b ∷ bs) e = let p = both (name_test b) (all_names bs) e in (name_byte b p.0, name_bytes bs p.1)
+name_bytes (b ∷ bs) e = let p = and_parts (name_test b) (all_names bs) e in (name_byte b p.0, name_bytes bs p.1)
 
 string_name : IsClassName (codes "java/lang/String")
 unfolding all_names name_test
@@ -285,8 +317,10 @@ init_desc_is : IsMethodDescriptor (codes "()[Z")
 init_desc_is = (record { parameters = []; returns = Some (Array Boolean) }, record { parameters = tt; returns = array_is_type; spelled = refl })
 
 probes_desc_is : IsMethodDescriptor (codes "(JLjava/lang/String;I)[Z")
-probes_desc_is = (record { parameters = Long ∷ Object (codes "java/lang/String") ∷ Int ∷ []; returns = Some (Array Boolean) },
-    record { parameters = (long_is_type, (string_is_type, (int_is_type, tt))); returns = array_is_type; spelled = refl })
+probes_desc_is = (
+  record { parameters = Long ∷ Object (codes "java/lang/String") ∷ Int ∷ []; returns = Some (Array Boolean) },
+  record { parameters = (long_is_type, (string_is_type, (int_is_type, tt))); returns = array_is_type; spelled = refl },
+)
 
 abbrev probed_body : Body
 probed_body = probed_abs
@@ -309,22 +343,50 @@ probed_code = record {
 probed_uses : AreUses probed_body.code probed_body.handlers probed_body.uses
 probed_uses = record {
   by_insns = All-from_recursion (λ (insn : Insn). (place : ℕ) → pool_place insn ≡ Some place → HasUse probed_body.uses place (Suits insn))
-      probed_body.code (used probed_body.uses (init_use a_name) refl refl (Suits (insns.Member opcode.invokestatic 95))
-        (inr (omega arith, init_desc_is)),
-        ((λ place e. absurd (none_some e)),
-          ((λ place e. absurd (none_some e)),
-            ((λ place e. absurd (none_some e)),
-              ((λ place e. absurd (none_some e)),
-                ((λ place e. absurd (none_some e)),
-                  ((λ place e. absurd (none_some e)),
-                  ((λ place e. absurd (none_some e)),
-                  ((λ place e. absurd (none_some e)),
-                  ((λ place e. absurd (none_some e)),
-                  ((λ place e. absurd (none_some e)),
-                  ((λ place e. absurd (none_some e)),
-                  ((λ place e. absurd (none_some e)),
-                  ((λ place e. absurd (none_some e)),
-                  ((λ place e. absurd (none_some e)), ((λ place e. absurd (none_some e)), ((λ place e. absurd (none_some e)), tt)))))))))))))))));
+      probed_body.code (
+        used probed_body.uses (init_use a_name) refl refl (Suits (insns.Member opcode.invokestatic 95))
+            (inr (omega arith, init_desc_is)),
+        (
+          (λ place e. absurd (none_some e)),
+          (
+            (λ place e. absurd (none_some e)),
+            (
+              (λ place e. absurd (none_some e)),
+              (
+                (λ place e. absurd (none_some e)),
+                (
+                  (λ place e. absurd (none_some e)),
+                  (
+                    (λ place e. absurd (none_some e)),
+                    (
+                      (λ place e. absurd (none_some e)),
+                      (
+                        (λ place e. absurd (none_some e)),
+                        (
+                          (λ place e. absurd (none_some e)),
+                          (
+                            (λ place e. absurd (none_some e)),
+                            (
+                              (λ place e. absurd (none_some e)),
+                              (
+                                (λ place e. absurd (none_some e)),
+                                (
+                                  (λ place e. absurd (none_some e)),
+                                  ((λ place e. absurd (none_some e)), ((λ place e. absurd (none_some e)), ((λ place e. absurd (none_some e)), tt))),
+                                ),
+                              ),
+                            ),
+                          ),
+                        ),
+                      ),
+                    ),
+                  ),
+                ),
+              ),
+            ),
+          ),
+        ),
+      );
   by_handlers = All-from_recursion (λ (h : Handler). h.class ≢ 0 → HasUse probed_body.uses h.class IsClass) [] tt;
   short = All-from_recursion (λ (u : Use). HasShortTexts u.what) probed_body.uses ((omega arith, omega arith, omega arith), tt);
 }
@@ -337,10 +399,19 @@ probed_made = record {
     lines = All-from_recursion (IsLine 17) [] tt;
     vars = All-from_recursion (IsVar 17 2) [] tt;
     kind_vars = All-from_recursion (IsVar 17 2) [] tt;
-    locals = All-from_recursion (LocalsWithin 2) probed_body.code
-        (tt, ((omega arith, tt),
-            ((omega arith, tt), (tt,
-                ((omega arith, tt), (tt, ((omega arith, tt), (tt, (tt, (tt, (tt, ((omega arith, tt), ((omega arith, tt), (tt, (tt, (tt, (tt, tt)))))))))))))))));
+    locals = All-from_recursion (LocalsWithin 2) probed_body.code (
+      tt,
+      (
+        (omega arith, tt),
+        (
+          (omega arith, tt),
+          (
+            tt,
+            ((omega arith, tt), (tt, ((omega arith, tt), (tt, (tt, (tt, (tt, ((omega arith, tt), ((omega arith, tt), (tt, (tt, (tt, (tt, tt))))))))))))),
+          ),
+        ),
+      ),
+    );
     arguments = record {
       type = record { parameters = Int ∷ []; returns = Some Int };
       described = record { parameters = (int_is_type, tt); returns = int_is_type; spelled = refl };
@@ -349,12 +420,31 @@ probed_made = record {
     };
     arguments_fit = omega arith;
     uses = probed_uses;
-    frames = (omega arith, omega arith,
-        record { locals = refl; pairs = (int_before (kinds.Object 0 ∷ []), (object_before [], tt)); stack = omega arith; local_kinds =
-          All-from_recursion (IsKind probed_body.code) (kinds.Int ∷ kinds.Object 0 ∷ []) (tt, (tt, tt)); stack_kinds =
-          All-from_recursion (IsKind probed_body.code) [] tt }, tt);
-    sizes = record { owner = omega arith; name = omega arith; desc = omega arith; handlers = omega arith; lines = omega arith; vars = omega arith;
-        kind_vars = omega arith; frames = omega arith; uses = omega arith };
+    frames = (
+      omega arith,
+      omega arith,
+      record {
+        locals = refl;
+        pairs = (int_before (kinds.Object 0 ∷ []), (object_before [], tt));
+        stack = omega arith;
+        local_kinds =
+            All-from_recursion (IsKind probed_body.code) (kinds.Int ∷ kinds.Object 0 ∷ []) (tt, (tt, tt));
+        stack_kinds =
+            All-from_recursion (IsKind probed_body.code) [] tt;
+      },
+      tt,
+    );
+    sizes = record {
+      owner = omega arith;
+      name = omega arith;
+      desc = omega arith;
+      handlers = omega arith;
+      lines = omega arith;
+      vars = omega arith;
+      kind_vars = omega arith;
+      frames = omega arith;
+      uses = omega arith;
+    };
   };
   bound = omega arith;
 }
@@ -385,20 +475,41 @@ init_code = record {
 init_uses : AreUses init_body.code init_body.handlers init_body.uses
 init_uses = record {
   by_insns = All-from_recursion (λ (insn : Insn). (place : ℕ) → pool_place insn ≡ Some place → HasUse init_body.uses place (Suits insn))
-      init_body.code (used init_body.uses (use_at 90 (whats.Field a_name (codes "$jacocoData") (codes "[Z"))) refl refl
-        (Suits (insns.Member opcode.getstatic 90)) (inl (omega arith, data_desc_is)),
-        ((λ place e. absurd (none_some e)),
-          ((λ place e. absurd (none_some e)),
-            ((λ place e. absurd (none_some e)),
-              (used init_body.uses (use_at 91 (whats.Long (pos 7))) refl refl (Suits (insns.Constant2 91)) tt,
-                (used init_body.uses (use_at 93 whats.Text) refl refl (Suits (insns.Constant 93)) tt,
-                  ((λ place e. absurd (none_some e)),
-                  (used init_body.uses
-                  (use_at 94 (whats.Method (codes "org/jacoco/agent/rt/internal/Offline") (codes "getProbes") (codes "(JLjava/lang/String;I)[Z")))
-                  refl refl (Suits (insns.Member opcode.invokestatic 94)) (inr (omega arith, probes_desc_is)),
-                  ((λ place e. absurd (none_some e)),
-                  (used init_body.uses (use_at 90 (whats.Field a_name (codes "$jacocoData") (codes "[Z"))) refl refl
-                  (Suits (insns.Member opcode.putstatic 90)) (inl (omega arith, data_desc_is)), ((λ place e. absurd (none_some e)), tt)))))))))));
+      init_body.code (
+        used init_body.uses (use_at 90 (whats.Field a_name (codes "$jacocoData") (codes "[Z"))) refl refl
+            (Suits (insns.Member opcode.getstatic 90)) (inl (omega arith, data_desc_is)),
+        (
+          (λ place e. absurd (none_some e)),
+          (
+            (λ place e. absurd (none_some e)),
+            (
+              (λ place e. absurd (none_some e)),
+              (
+                used init_body.uses (use_at 91 (whats.Long (pos 7))) refl refl (Suits (insns.Constant2 91)) tt,
+                (
+                  used init_body.uses (use_at 93 whats.Text) refl refl (Suits (insns.Constant 93)) tt,
+                  (
+                    (λ place e. absurd (none_some e)),
+                    (
+                      used init_body.uses
+                          (use_at 94 (whats.Method (codes "org/jacoco/agent/rt/internal/Offline") (codes "getProbes") (codes "(JLjava/lang/String;I)[Z")))
+                          refl refl (Suits (insns.Member opcode.invokestatic 94)) (inr (omega arith, probes_desc_is)),
+                      (
+                        (λ place e. absurd (none_some e)),
+                        (
+                          used init_body.uses (use_at 90 (whats.Field a_name (codes "$jacocoData") (codes "[Z"))) refl refl
+                              (Suits (insns.Member opcode.putstatic 90)) (inl (omega arith, data_desc_is)),
+                          ((λ place e. absurd (none_some e)), tt),
+                        ),
+                      ),
+                    ),
+                  ),
+                ),
+              ),
+            ),
+          ),
+        ),
+      );
   by_handlers = All-from_recursion (λ (h : Handler). h.class ≢ 0 → HasUse init_body.uses h.class IsClass) [] tt;
   short = All-from_recursion (λ (u : Use). HasShortTexts u.what) init_body.uses ((omega arith, omega arith, omega arith), (tt, (tt, ((omega arith, omega arith, omega arith), tt))));
 }
@@ -420,11 +531,30 @@ init_made = record {
     };
     arguments_fit = omega arith;
     uses = init_uses;
-    frames = (omega arith, omega arith,
-        record { locals = refl; pairs = tt; stack = omega arith; local_kinds = All-from_recursion (IsKind init_body.code) [] tt; stack_kinds =
-          All-from_recursion (IsKind init_body.code) (kinds.Object 0 ∷ []) (tt, tt) }, tt);
-    sizes = record { owner = omega arith; name = omega arith; desc = omega arith; handlers = omega arith; lines = omega arith; vars = omega arith;
-        kind_vars = omega arith; frames = omega arith; uses = omega arith };
+    frames = (
+      omega arith,
+      omega arith,
+      record {
+        locals = refl;
+        pairs = tt;
+        stack = omega arith;
+        local_kinds = All-from_recursion (IsKind init_body.code) [] tt;
+        stack_kinds =
+            All-from_recursion (IsKind init_body.code) (kinds.Object 0 ∷ []) (tt, tt);
+      },
+      tt,
+    );
+    sizes = record {
+      owner = omega arith;
+      name = omega arith;
+      desc = omega arith;
+      handlers = omega arith;
+      lines = omega arith;
+      vars = omega arith;
+      kind_vars = omega arith;
+      frames = omega arith;
+      uses = omega arith;
+    };
   };
   bound = omega arith;
 }
@@ -445,10 +575,21 @@ probed_is_program = record {
   classes = All-from_recursion (IsLinked (codes "[Z" ∷ [])) probed_abs_program.classes (
     record {
       bodies = All-from_recursion (IsProgramBody (codes "[Z" ∷ [])) (probed_abs ∷ init a_name (pos 7) 2 ∷ []) (
-        record { well_made = probed_made; checked = passes_checked (codes "[Z" ∷ []) probed_abs (omega arith) probed_verdict; numbered =
-            (record { locals = (tt, (omega arith, tt)); stack = tt }, tt) },
-        (record { well_made = init_made; checked = passes_checked (codes "[Z" ∷ []) (init a_name (pos 7) 2) (omega arith) init_verdict; numbered =
-            (record { locals = tt; stack = (omega arith, tt) }, tt) }, tt),
+        record {
+          well_made = probed_made;
+          checked = passes_checked (codes "[Z" ∷ []) probed_abs (omega arith) probed_verdict;
+          numbered =
+              (record { locals = (tt, (omega arith, tt)); stack = tt }, tt);
+        },
+        (
+          record {
+            well_made = init_made;
+            checked = passes_checked (codes "[Z" ∷ []) (init a_name (pos 7) 2) (omega arith) init_verdict;
+            numbered =
+                (record { locals = tt; stack = (omega arith, tt) }, tt);
+          },
+          tt,
+        ),
       );
       statics = All-from_recursion IsStatic (record { name = codes "$jacocoData"; desc = codes "[Z"; first = pos 0 } ∷ []) (probed_data, tt);
       few_bodies = omega arith;
@@ -504,11 +645,30 @@ wide_made = record {
     };
     arguments_fit = omega arith;
     uses = wide_uses;
-    frames = (omega arith, omega arith,
-        record { locals = refl; pairs = tt; stack = omega arith; local_kinds = All-from_recursion (IsKind wide.code) [] tt; stack_kinds =
-          All-from_recursion (IsKind wide.code) (kinds.Top ∷ []) (tt, tt) }, tt);
-    sizes = record { owner = omega arith; name = omega arith; desc = omega arith; handlers = omega arith; lines = omega arith; vars = omega arith;
-        kind_vars = omega arith; frames = omega arith; uses = omega arith };
+    frames = (
+      omega arith,
+      omega arith,
+      record {
+        locals = refl;
+        pairs = tt;
+        stack = omega arith;
+        local_kinds = All-from_recursion (IsKind wide.code) [] tt;
+        stack_kinds =
+            All-from_recursion (IsKind wide.code) (kinds.Top ∷ []) (tt, tt);
+      },
+      tt,
+    );
+    sizes = record {
+      owner = omega arith;
+      name = omega arith;
+      desc = omega arith;
+      handlers = omega arith;
+      lines = omega arith;
+      vars = omega arith;
+      kind_vars = omega arith;
+      frames = omega arith;
+      uses = omega arith;
+    };
   };
   bound = omega arith;
 }
@@ -522,9 +682,15 @@ unfolding IsDistinct
 wide_is_program = record {
   classes = All-from_recursion (IsLinked (codes "[Z" ∷ [])) wide_program.classes (
     record {
-      bodies = All-from_recursion (IsProgramBody (codes "[Z" ∷ [])) (wide ∷ [])
-          (record { well_made = wide_made; checked = passes_checked (codes "[Z" ∷ []) wide (omega arith) wide_verdict; numbered =
-              (record { locals = tt; stack = (tt, tt) }, tt) }, tt);
+      bodies = All-from_recursion (IsProgramBody (codes "[Z" ∷ [])) (wide ∷ []) (
+        record {
+          well_made = wide_made;
+          checked = passes_checked (codes "[Z" ∷ []) wide (omega arith) wide_verdict;
+          numbered =
+              (record { locals = tt; stack = (tt, tt) }, tt);
+        },
+        tt,
+      );
       statics = All-from_recursion IsStatic [] tt;
       few_bodies = omega arith;
       few_statics = omega arith;

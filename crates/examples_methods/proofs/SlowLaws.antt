@@ -36,7 +36,7 @@ pub low_of_eight : (bits : List Bool) (p a b c d e f g h : ℕ) → a ≡ bool_b
 low_of_eight bits p a b c d e f g h ia ib ic id ie iff ig ih =
     let eight = take 8 (drop p bits) in
     let bit : (k : ℕ) → k < 8 → bool_byte (get_or bits (p + k) false) ≡ bool_byte (get_or eight k false) =
-            (λ k lt. ap bool_byte (sym (get_or-take 8 (drop p bits) k false lt ∙ get_or-drop p bits k false))) in
+    (λ k lt. ap bool_byte (sym (get_or-take 8 (drop p bits) k false lt ∙ get_or-drop p bits k false))) in
     let s0 = low_at eight 0 in let t0 = bit 0 (omega arith) in
     let s1 = low_at eight 1 in let t1 = bit 1 (omega arith) in
     let s2 = low_at eight 2 in let t2 = bit 2 (omega arith) in

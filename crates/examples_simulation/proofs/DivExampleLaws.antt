@@ -3,8 +3,10 @@ use Rattle.std.proofs.Common.{◌≡◌, ◌≢◌, refl, sym, subst, ℕ, zero,
 use Rattle.std.specs.Prelude.{slice_get, Contains, All}
 use Rattle.std.proofs.lemmas.Bool.{true≢false}
 use Rattle.std.proofs.lemmas.List.Elements.{All-from_recursion, All-contains}
+use Rattle.std.proofs.lemmas.Option.{same_Some}
 use Rattle.jc_bytes.specs.Descriptor.{Int}
 use Rattle.jc_bytes.proofs.BooleanLaws.{none_in, stands_in}
+use Rattle.jc_bytes.proofs.OptionLaws.{none_some}
 use Rattle.jc_methods.specs.declared.insn.Insn.{Insn}
 use Rattle.jc_methods.specs.declared.insn.Insn.TheVariants as insns
 use Rattle.jc_methods.specs.declared.kind.Kind.{Kind}
@@ -36,7 +38,7 @@ use Rattle.jc_emit.specs.TwinBody.{twin_body}
 use Rattle.jc_emit.specs.TwinProgram.{IsAddedName, TwinProgram}
 use Rattle.jc_emit.proofs.TwinBodyLaws.{has_twin}
 use Rattle.examples_machine.specs.ProgramExamples.{div, div_program}
-use Rattle.examples_machine.proofs.FitExampleLaws.{none_some, some_is, no_falls, return_ends, int_is_type}
+use Rattle.examples_machine.proofs.FitExampleLaws.{no_falls, return_ends, int_is_type}
 use Rattle.examples_simulation.specs.CoverageExamples.{probed_div, probed_div_program}
 use Rattle.examples_simulation.proofs.OneMethodLaws.{names, one_is_twin}
 
@@ -147,10 +149,10 @@ two i e = record {
 
 each : (i : ℕ) (s : State) → slice_get states i ≡ Some s → IsStateAt names div i s
 unfolding types_from rest_from table forms_at after_of state_of
-each zero s e = subst (IsStateAt names div 0) (some_is (state []) s e) (empty 0 refl)
-each (suc zero) s e = subst (IsStateAt names div 1) (some_is (state (kinds.Int ∷ [])) s e) (one 1 refl)
-each (suc (suc zero)) s e = subst (IsStateAt names div 2) (some_is (state (kinds.Int ∷ kinds.Int ∷ [])) s e) (two 2 refl)
-each (suc (suc (suc zero))) s e = subst (IsStateAt names div 3) (some_is (state (kinds.Int ∷ [])) s e) (one 3 refl)
+each zero s e = subst (IsStateAt names div 0) (same_Some (state []) s e) (empty 0 refl)
+each (suc zero) s e = subst (IsStateAt names div 1) (same_Some (state (kinds.Int ∷ [])) s e) (one 1 refl)
+each (suc (suc zero)) s e = subst (IsStateAt names div 2) (same_Some (state (kinds.Int ∷ kinds.Int ∷ [])) s e) (two 2 refl)
+each (suc (suc (suc zero))) s e = subst (IsStateAt names div 3) (same_Some (state (kinds.Int ∷ [])) s e) (one 3 refl)
 each (suc (suc (suc (suc i)))) s e = absurd (none_some e)
 
 -- ---- the twin

@@ -3,7 +3,9 @@ use Rattle.std.proofs.Common.{◌≡◌, refl, sym, subst, ℕ, zero, suc, ◌+�
 use Rattle.std.specs.Prelude.{slice_get, slice_index_or, Contains, All}
 use Rattle.std.proofs.lemmas.Bool.{true≢false}
 use Rattle.std.proofs.lemmas.List.Elements.{All-from_recursion, All-contains}
+use Rattle.std.proofs.lemmas.Option.{same_Some}
 use Rattle.jc_bytes.proofs.BooleanLaws.{first_in, stands_in}
+use Rattle.jc_bytes.proofs.OptionLaws.{none_some}
 use Rattle.jc_methods.specs.declared.insn.Insn.{Insn}
 use Rattle.jc_methods.specs.declared.kind.Kind.{Kind}
 use Rattle.jc_methods.specs.declared.kind.Kind.TheVariants as kinds
@@ -27,7 +29,7 @@ use Rattle.jc_emit.specs.TwinProgram.{IsAddedName, TwinProgram}
 use Rattle.jc_emit.proofs.TwinBodyLaws.{has_twin}
 use Rattle.jc_machine_model.specs.Programs.{IsProgramBody, IsLinked}
 use Rattle.examples_machine.specs.ProgramExamples.{a_name, abs, abs_program, probed_abs, probed_abs_program, class, frame}
-use Rattle.examples_machine.proofs.FitExampleLaws.{none_some, some_is, abs_is_program}
+use Rattle.examples_machine.proofs.FitExampleLaws.{abs_is_program}
 use Rattle.examples_simulation.proofs.OneMethodLaws.{names, only, one_is_twin}
 
 -- ---- states
@@ -70,13 +72,13 @@ one i e = record {
 
 each : (i : ℕ) (s : State) → slice_get states i ≡ Some s → IsStateAt names abs i s
 unfolding types_from rest_from table forms_at after_of state_of
-each zero s e = subst (IsStateAt names abs 0) (some_is (state []) s e) (empty 0 refl)
-each (suc zero) s e = subst (IsStateAt names abs 1) (some_is (state (kinds.Int ∷ [])) s e) (one 1 refl)
-each (suc (suc zero)) s e = subst (IsStateAt names abs 2) (some_is (state []) s e) (empty 2 refl)
-each (suc (suc (suc zero))) s e = subst (IsStateAt names abs 3) (some_is (state (kinds.Int ∷ [])) s e) (one 3 refl)
-each (suc (suc (suc (suc zero)))) s e = subst (IsStateAt names abs 4) (some_is (state (kinds.Int ∷ [])) s e) (one 4 refl)
-each (suc (suc (suc (suc (suc zero))))) s e = subst (IsStateAt names abs 5) (some_is (state []) s e) (empty 5 refl)
-each (suc (suc (suc (suc (suc (suc zero)))))) s e = subst (IsStateAt names abs 6) (some_is (state (kinds.Int ∷ [])) s e) (one 6 refl)
+each zero s e = subst (IsStateAt names abs 0) (same_Some (state []) s e) (empty 0 refl)
+each (suc zero) s e = subst (IsStateAt names abs 1) (same_Some (state (kinds.Int ∷ [])) s e) (one 1 refl)
+each (suc (suc zero)) s e = subst (IsStateAt names abs 2) (same_Some (state []) s e) (empty 2 refl)
+each (suc (suc (suc zero))) s e = subst (IsStateAt names abs 3) (same_Some (state (kinds.Int ∷ [])) s e) (one 3 refl)
+each (suc (suc (suc (suc zero)))) s e = subst (IsStateAt names abs 4) (same_Some (state (kinds.Int ∷ [])) s e) (one 4 refl)
+each (suc (suc (suc (suc (suc zero))))) s e = subst (IsStateAt names abs 5) (same_Some (state []) s e) (empty 5 refl)
+each (suc (suc (suc (suc (suc (suc zero)))))) s e = subst (IsStateAt names abs 6) (same_Some (state (kinds.Int ∷ [])) s e) (one 6 refl)
 each (suc (suc (suc (suc (suc (suc (suc i))))))) s e = absurd (none_some e)
 
 -- ---- the body

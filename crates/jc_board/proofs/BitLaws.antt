@@ -20,7 +20,7 @@ module _ (counts words : List ℕ) (enough : words_of counts ≤ length words) (
       let lt : w < length words = omega (arith, enough, word_below counts c i range) in
       let x = bit_or (get_or words w 0) (2 ^ (i % 64)) in
       ap (λ n. bit_at n (i % 64)) (get_or-set_same words w x 0 lt) ∙ bit_at_or (get_or words w 0) (2 ^ (i % 64)) (i % 64)
-          ∙ omega (arith, bit_at-pow_same (i % 64), bit_at-lt (get_or words w 0) (i % 64))
+      ∙ omega (arith, bit_at-pow_same (i % 64), bit_at-lt (get_or words w 0) (i % 64))
 
   pub bit_more : (d j : ℕ) → InRange counts d j → IsSet counts words d j → IsSet counts with_bit d j
   bit_more d j r s =

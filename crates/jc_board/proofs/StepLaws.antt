@@ -47,8 +47,8 @@ kept_with_hit : (counts words : List ℕ) (views : List View) (id c i : ℕ) (v 
 kept_with_hit counts words views id c i v k there part range =
     let m = with_bit counts words k.enough c i range.0 in
     gains counts words m views id c i v k there part range
-        (length-set words (word_at counts c i) (bit_or (get_or words (word_at counts c i) 0) (2 ^ (i % 64))))
-        (bit_here counts words k.enough c i range.0) (bit_more counts words k.enough c i range.0) (bit_less counts words k.enough c i range.0)
+    (length-set words (word_at counts c i) (bit_or (get_or words (word_at counts c i) 0) (2 ^ (i % 64))))
+    (bit_here counts words k.enough c i range.0) (bit_more counts words k.enough c i range.0) (bit_less counts words k.enough c i range.0)
 
 -- a view with the whole part is the only one that has hits
 pub alone : (counts words : List ℕ) (views : List View) (id c i : ℕ) (v : View) → IsKept counts words views → get_elem? views id ≡ some v → v.part ≡ whole → AnyHas views c i → Contains v.hits (c, i)
@@ -83,10 +83,10 @@ module _ {S : Type 0} where
       let back : IsSet counts s.words c i → bit_at (get_or s.words word 0) (i % 64) ≡ 1 = λ e. ap (λ n. bit_at (get_or s.words n 0) (i % 64)) at ∙ e in
       let had : Contains me.0.hits (c, i) → bit_at (get_or s.words word 0) (i % 64) ≡ 1 = λ h. back (k.hit_is_set c i (id, me.0, there, h)) in
       let mine : me.0.part ≡ whole → bit_at (get_or s.words word 0) (i % 64) ≡ 1 → Contains me.0.hits (c, i) =
-              λ p e. alone counts s.words s.views id c i me.0 k there p (k.set_only_hit c i range.0 (known e)) in
+      λ p e. alone counts s.words s.views id c i me.0 k there p (k.set_only_hit c i range.0 (known e)) in
       elim (ℕ_discrete (bit_at (get_or s.words word 0) (i % 64)) 1) as
-          (λ _. (w : View) × (a : Act S) × Valid s.homes me.1 a × IsKept counts (set s.words word (get_or s.words word 0)) (set s.views id w)
-            × Peeks c i me (get_or s.words word 0) (w, carried_after me.1 a)) [
+      (λ _. (w : View) × (a : Act S) × Valid s.homes me.1 a × IsKept counts (set s.words word (get_or s.words word 0)) (set s.views id w)
+      × Peeks c i me (get_or s.words word 0) (w, carried_after me.1 a)) [
         | yes e ↦ (
           with_hit me.0 c i,
           keeps,

@@ -62,11 +62,16 @@ none_of_all pool method none [] = tt
 none_of_all pool method none (F ∷ Fs) = (none_of_code pool method none F, none_of_all pool method none Fs)
 
 pub no_faults : (major : ℕ) (pool : PoolValue) (owner : List ℕ) (method : Member) → HasNoCode pool method → AreNowhere (faults major pool owner method)
-no_faults major pool owner method none =
-    (no_code pool method none,
-        (not_malformed pool method none,
-          (not_stopped pool method none kinds.BadCode,
-            none_of_all pool method none (insn_faults major pool ++ (row_faults pool method ++ table_faults pool owner method)))))
+no_faults major pool owner method none = (
+  no_code pool method none,
+  (
+    not_malformed pool method none,
+    (
+      not_stopped pool method none kinds.BadCode,
+      none_of_all pool method none (insn_faults major pool ++ (row_faults pool method ++ table_faults pool owner method)),
+    ),
+  ),
+)
 
 -- ---- one method
 
@@ -97,7 +102,7 @@ pub one_fault : (c : ClassFile) (number : ℕ) (r s : Refusal) → FaultOf c num
 one_fault c number r s p q =
     let reason = same_reason c p.owner q.owner p.method q.method r p.owner_is q.owner_is (same_Some _ _ (sym p.at ∙ q.at)) p.reason in
     let one = one_why c.major c.pool q.owner q.method r.kind s.kind r.place s.place (why c.major c.pool q.owner q.method r.kind r.place reason)
-            (why c.major c.pool q.owner q.method s.kind s.place q.reason) in
+    (why c.major c.pool q.owner q.method s.kind s.place q.reason) in
     let methods = p.method_is ∙ sym q.method_is in
     λ i. record { kind = one.0 i; method = methods i; place = one.1 i }
 

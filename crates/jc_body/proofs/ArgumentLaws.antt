@@ -3,7 +3,7 @@ use Rattle.std.proofs.Common.{◌≡◌, ◌⊎◌, inl, inr, ℕ, ◌+◌, ◌<
 use Rattle.std.specs.Int.Bits.{bit_and}
 use Rattle.std.proofs.lemmas.Bool.{cases_lt, cases_eq}
 use Rattle.std.proofs.lemmas.Option.{same_Some}
-use Rattle.jc_bytes.specs.Descriptor.{MethodType, DescribesMethod, IsMethodDescriptor, parameter_slots}
+use Rattle.jc_bytes.specs.Descriptor.{MethodType, DescribesMethod, parameter_slots}
 use Rattle.jc_methods.specs.WellMade.{IsStatic, TakeSlots}
 use Rattle.jc_bytes.proofs.DescriptorLaws.{one_method}
 use Rattle.jc_pool.specs.Lookup.{utf8_of}
@@ -37,13 +37,6 @@ static_take flags desc type described is = record { type = type; described = des
 
 pub other_take : (flags : ℕ) (desc : List ℕ) (type : MethodType) → DescribesMethod desc type → (IsStatic flags → ⊥) → TakeSlots flags desc (1 + parameter_slots type)
 other_take flags desc type described not = record { type = type; described = described; static_slots = λ is. absurd (not is); other_slots = λ _. refl }
-
-pub each_take : (flags : ℕ) (desc : List ℕ) → IsMethodDescriptor desc → (slots : ℕ) × TakeSlots flags desc slots
-each_take flags desc is = by (static_or_not flags)
-  where
-    by : IsStatic flags ⊎ (IsStatic flags → ⊥) → (slots : ℕ) × TakeSlots flags desc slots
-    by (inl static) = (parameter_slots is.0, static_take flags desc is.0 is.1 static)
-    by (inr not) = (1 + parameter_slots is.0, other_take flags desc is.0 is.1 not)
 
 -- ---- arguments that need too many
 

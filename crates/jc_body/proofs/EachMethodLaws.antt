@@ -15,6 +15,7 @@ use Rattle.jc_class.specs.Writable.{IsClassFile, IsMember}
 use Rattle.jc_class.specs.declared.class_file.ClassFile.{ClassFile}
 use Rattle.jc_class.specs.declared.class_file.Member.{Member}
 use Rattle.jc_methods.specs.Starts.{insn_number}
+use Rattle.jc_methods.proofs.EntryStateLaws.{some_slots}
 use Rattle.jc_insn.specs.Spells.{Spells, IsRefused}
 use Rattle.jc_insn.proofs.DecodedInsnLaws.{are_starts}
 use Rattle.jc_insn.proofs.SpelledOrRefusedLaws.{spelled_or_refused}
@@ -32,7 +33,6 @@ use Rattle.jc_body.specs.StackMap.{BeginsWith, HasFrames, HasFramesOrFault}
 use Rattle.jc_body.proofs.FramesByNamesLaws.{some_numbering}
 use Rattle.jc_body.proofs.StackMapLaws.{each_map}
 use Rattle.jc_body.proofs.OrderLaws.{each_decided}
-use Rattle.jc_body.proofs.ArgumentLaws.{each_take}
 use Rattle.jc_body.proofs.ReasonLaws.{all_decided, refused_reason, unsingle_reason, malformed_reason, coded_reason, coded_without}
 use Rattle.jc_body.proofs.FormLaws.{code_text_or_none}
 use Rattle.jc_body.proofs.TablesLaws.{tables_or_none}
@@ -50,8 +50,10 @@ module _ (c : ClassFile) (number : ℕ) (method : Member) (at : slice_get c.meth
     (is : IsMember (HasText c.pool) (HasMethodDescriptor c.pool) method) (owner : HasClass c.pool c.this_class) where
   refused : (kind : RefusalKind) (place : ℕ) → IsReason c.major c.pool owner.0 method kind place → Answer c number
   refused kind place reason =
-      inr (inr (record { kind = kind; method = Some number; place = place },
-          record { method = method; at = at; owner = owner.0; owner_is = owner.1; method_is = refl; reason = reason }))
+      inr (inr (
+        record { kind = kind; method = Some number; place = place },
+        record { method = method; at = at; owner = owner.0; owner_is = owner.1; method_is = refl; reason = reason },
+      ))
 
   -- the method has no subroutine instruction and no fault
   abbrev IsFaultless : Type 0
@@ -62,7 +64,7 @@ module _ (c : ClassFile) (number : ℕ) (method : Member) (at : slice_get c.meth
   made coded is_coded faultless tables are_tables frames has_frames =
       let numbering = some_numbering frames in
       let uses = some_uses c.pool (places_used coded.insns coded.items.rows) in
-      let slots = each_take method.flags is.desc.0 is.desc.2 in
+      let slots = some_slots method.flags is.desc.0 is.desc.2 in
       let body : Body = record {
         method = number;
         owner = owner.0;
@@ -123,8 +125,8 @@ module _ (c : ClassFile) (number : ℕ) (method : Member) (at : slice_get c.meth
   with_code : (coded : Coded) → IsCoded c.pool method coded → Answer c number
   with_code coded is_coded =
       by (each_decided (faults_of coded)
-        (all_decided c.major c.pool owner.0 method coded (are_starts coded.items.code coded.insns coded.starts is_coded.spelled) is.name.0 is.desc.0
-          is.name.1 is.desc.1 is.desc.2))
+      (all_decided c.major c.pool owner.0 method coded (are_starts coded.items.code coded.insns coded.starts is_coded.spelled) is.name.0 is.desc.0
+      is.name.1 is.desc.1 is.desc.2))
     where
       by_tables : AreNowhere (faults_of coded)
           → ((tables : Tables) × AreTables c.pool coded.items.attributes tables) ⊎ ((tables : Tables) → AreTables c.pool coded.items.attributes tables → ⊥)

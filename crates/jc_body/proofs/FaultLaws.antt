@@ -36,7 +36,7 @@ module _ (coded : Coded) (are : AreStarts (length coded.insns) (length coded.ite
         where
           at_least : other.number < length coded.insns → get_or coded.starts other.number 0 ≡ before → (number < other.number) ⊎ (other.number ≤ number) → ⊥
           at_least inside is (inl more) = let up = rising (length coded.insns) (length coded.items.code) coded.starts are number other.number more
-                                                  (omega (arith, inside)) in omega (arith, up, is, less)
+              (omega (arith, inside)) in omega (arith, up, is, less)
           at_least inside is (inr same) =
               let equal : other.number ≡ number = omega (arith, larger, same) in
               let there = subst (λ (k : ℕ). get_or coded.starts k 0 ≡ before) equal is in

@@ -43,7 +43,7 @@ first_found Fact xs (Some number) found = first_at Fact xs number (slice_get xs 
 -- does, and leaves the closure as it was where it doesn't.
 pub first_by_position : {S A X F : Type 0} {steps : S → Option A → S → Type 0} {v : A → X} {g : Mut F (A × Unit {0}) Bool} {s : S} {xs : List X} (Fact : X → Type 0) (u : S) (f : F) (result : Option ℕ)
     → (ys : List A) × (o : Option A) × (j : F) × YieldsThen steps s ys o u × FoldsTo (λ p y q. Called g p (y, tt) false q) f ys j
-        × MatchOption o (result ≡ None) (λ y. (result ≡ Some (length ys)) × ((h : F) × Called g j (y, tt) true h))
+    × MatchOption o (result ≡ None) (λ y. (result ≡ Some (length ys)) × ((h : F) × Called g j (y, tt) true h))
     → YieldsList steps v s xs → ((y : A) (q : F) → Called g f (y, tt) true q → Fact (v y)) → ((y : A) (q : F) → Called g f (y, tt) false q → (q ≡ f) × (Fact (v y) → ⊥))
     → FirstItem (λ number x. Fact x) xs result
 first_by_position {xs} Fact u f result ran yields holds fails = first_found Fact xs result (IsFirst-from_position u f result Fact (λ x. Fact x → ⊥) ran yields holds fails)

@@ -77,7 +77,7 @@ var_kept number count size max_locals entry past rises kept =
     let outer = and_parts (nat_lt (number entry.start) count) ((nat_lt (number (entry.start + entry.length)) count || nat_eq (entry.start + entry.length) size) && nat_lt entry.slot max_locals) kept in
     let inner = and_parts (nat_lt (number (entry.start + entry.length)) count || nat_eq (entry.start + entry.length) size) (nat_lt entry.slot max_locals) outer.1 in
     by (ltb-true (number entry.start) count outer.0) (ltb-true entry.slot max_locals inner.1)
-        (or_cases (nat_lt (number (entry.start + entry.length)) count) (nat_eq (entry.start + entry.length) size) inner.0)
+    (or_cases (nat_lt (number (entry.start + entry.length)) count) (nat_eq (entry.start + entry.length) size) inner.0)
   where
     by : number entry.start < count → entry.slot < max_locals → (nat_lt (number (entry.start + entry.length)) count ≡ true)
         ⊎ (nat_eq (entry.start + entry.length) size ≡ true) → IsVar count max_locals (var_of number entry)
@@ -93,4 +93,4 @@ pub vars_kept : (number : ℕ → ℕ) (count size max_locals : ℕ) (entries : 
     → All (IsVar count max_locals) (vars_of number count size max_locals entries)
 vars_kept number count size max_locals entries past rises = All-map (IsVar count max_locals) (var_of number) (filter (keeps_var number count size max_locals) entries)
     (λ k d lt. var_kept number count size max_locals (get_or (filter (keeps_var number count size max_locals) entries) k d) past rises
-        (filter_passes (keeps_var number count size max_locals) entries k d lt))
+    (filter_passes (keeps_var number count size max_locals) entries k d lt))

@@ -63,8 +63,8 @@ module _ (major : ℕ) (pool : PoolValue) (owner : List ℕ) (method : Member) (
       → IsFrameRefusal pool owner method coded number r → IsRefusal major pool owner method number r
   frame_refusal r found tables before there read (inl faulty) =
       refusal r faulty.0 faulty.1
-          (first_behind Front Back faulty.0 before
-            (inr ((λ at o. o.fault tables (read_well found tables there read)), inl (least_map pool owner method coded faulty.0 faulty.2))))
+      (first_behind Front Back faulty.0 before
+      (inr ((λ at o. o.fault tables (read_well found tables there read)), inl (least_map pool owner method coded faulty.0 faulty.2))))
   frame_refusal r found tables before there read (inr wide) =
       refusal r 0 wide.0 (first_behind Front Back 0 before (inr ((λ at o. o.fault tables (read_well found tables there read)), inr (wide.1, inl (at_zero (TooWide coded) wide.2)))))
 
@@ -151,6 +151,6 @@ found_at methods seen number method are less is = slice_get-get_or methods numbe
 pub answered : (names : Names) (distinct : IsDistinct bytes_eq names) (c : ClassFile) (number : ℕ) (method : Member)
     → slice_get c.methods number ≡ Some method → (owner : List ℕ) → class_name_of c.pool c.this_class ≡ Some owner → (r : Result (Option Body) (Fail Refusal))
     → IfOk r (λ found. MatchOption found (HasNoCode c.pool method) (IsBody names c number method))
-        → IfErr r (λ e. Said e (IsRefusal c.major c.pool owner method number)) → IsAnswer names distinct c number r
+    → IfErr r (λ e. Said e (IsRefusal c.major c.pool owner method number)) → IsAnswer names distinct c number r
 answered names distinct c number method at owner owner_is (Ok found) ok err = found_is names c number method at owner owner_is found ok
 answered names distinct c number method at owner owner_is (Err e) ok err = refused_is names c number method at owner owner_is e err

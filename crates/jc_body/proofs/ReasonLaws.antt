@@ -22,6 +22,7 @@ use Rattle.jc_body.specs.Coded.{HasCode, HasItems, IsCoded}
 use Rattle.jc_body.specs.Faults.{NoSingleCode, MalformedCode, IsStopped, HasSubroutine, InsnAt, IsAstray, MalformedTable, TooWide, faults, insn_faults, row_faults, table_faults}
 use Rattle.jc_methods.specs.VerificationTypes.{TypeStateAt}
 use Rattle.jc_methods.specs.EntryState.{entry_seen}
+use Rattle.jc_methods.proofs.EntryStateLaws.{some_slots}
 use Rattle.jc_bytes.specs.Least.{IsNowhere, IsLeast}
 use Rattle.jc_body.specs.StackMap.{HasFrames, BadStackMap}
 use Rattle.jc_body.specs.First.{IsFirstFault, AreNowhere}
@@ -30,7 +31,7 @@ use Rattle.jc_body.specs.BodyOf.{IsReason}
 use Rattle.jc_body.proofs.OrderLaws.{IsDecided, AreDecided, at_zero}
 use Rattle.jc_body.proofs.CodedLaws.{one_items, is_single, is_of_form, goes_on, first_of_code, nowheres_of_code}
 use Rattle.jc_body.proofs.FaultLaws.{insn_decided, row_decided, IsBad}
-use Rattle.jc_body.proofs.ArgumentLaws.{each_take, outside_decided}
+use Rattle.jc_body.proofs.ArgumentLaws.{outside_decided}
 use Rattle.jc_body.proofs.FirstLaws.{first_or_none}
 use Rattle.jc_body.proofs.StandingLaws.{right_entry_or_not, locals_or_not, astray_or_not}
 use Rattle.jc_body.proofs.DecidedLaws.{not_or_not}
@@ -48,11 +49,11 @@ module _ (major : ℕ) (pool : PoolValue) (owner : List ℕ) (method : Member) (
 
   by_row : IsDecided (Rattle.jc_body.specs.Faults.BadRow pool coded)
   by_row = let f = first_or_none (IsBad pool coded)
-                   (λ number row. not_or_not _ (row_or_not pool (insn_number coded.starts) (length coded.insns) (length coded.items.code) row))
-                   coded.items.rows in row_decided pool coded f.0 f.1
+      (λ number row. not_or_not _ (row_or_not pool (insn_number coded.starts) (length coded.insns) (length coded.items.code) row))
+      coded.items.rows in row_decided pool coded f.0 f.1
 
   by_arguments : IsDecided (Rattle.jc_body.specs.Faults.ArgumentsOutside pool method coded)
-  by_arguments = let takes = each_take method.flags desc is in outside_decided pool method coded desc desc_is takes.0 takes.1
+  by_arguments = let takes = some_slots method.flags desc is in outside_decided pool method coded desc desc_is takes.0 takes.1
 
   by_tables : ((tables : Tables) × AreTables pool coded.items.attributes tables) ⊎ ((tables : Tables) → AreTables pool coded.items.attributes tables → ⊥) → IsDecided (MalformedTable pool coded)
   by_tables (inl t) = inr (λ place o. o.fault t.0 t.1)

@@ -128,7 +128,7 @@ module _ (pool : PoolValue) (method : Member) (coded : Coded) (is : IsCoded pool
     where
       at_most : (k : ℕ) → (k < length coded.insns) ⊎ (length coded.insns ≤ k) → k < length coded.starts → get_or coded.starts k 0 ≤ length coded.items.code
       at_most k (inl before) inside = let up = rising (length coded.insns) (length coded.items.code) coded.starts starts_of k (length coded.insns)
-                                              before (omega arith) in omega (arith, up, starts_of.end)
+          before (omega arith) in omega (arith, up, starts_of.end)
       at_most k (inr last) inside =
           let same : k ≡ length coded.insns = omega (arith, last, inside, starts_of.one_more) in
           let end = subst (λ (n : ℕ). get_or coded.starts n 0 ≡ length coded.items.code) (sym same) starts_of.end in

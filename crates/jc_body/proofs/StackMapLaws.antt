@@ -4,6 +4,7 @@ use Rattle.std.proofs.lemmas.Option.{same_Some}
 use Rattle.jc_methods.specs.declared.insn.Insn.{Insn}
 use Rattle.jc_bytes.specs.declared.refusal.Refusal.{Refusal}
 use Rattle.jc_bytes.specs.Least.{IsNowhere, IsLeast}
+use Rattle.jc_bytes.proofs.OneTextLaws.{head_is}
 use Rattle.jc_methods.specs.VerificationTypes.{Names, TypeState, TypeStateAt, type_state}
 use Rattle.jc_methods.specs.EntryState.{entry_seen}
 use Rattle.jc_pool.specs.Pool.{PoolValue}
@@ -26,9 +27,6 @@ none_one e = cc
 
 one_two : {X : Type 0} {x y z : X} {xs : List X} → x ∷ [] ≡ y ∷ z ∷ xs → ⊥
 one_two e = cc
-
-head_is : {X : Type 0} (x y : X) (xs ys : List X) → x ∷ xs ≡ y ∷ ys → x ≡ y
-head_is x y xs ys e = cc
 
 -- a method begins in one state
 one_entry : (pool : PoolValue) (owner : List ℕ) (method : Member) (coded : Coded) (a b : TypeState) → BeginsWith pool owner method coded a → BeginsWith pool owner method coded b → a ≡ b

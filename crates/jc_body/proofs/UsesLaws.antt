@@ -1,6 +1,6 @@
 -- What stands at the places that are used, one entry a place, in rising order.
 use Rattle.std.proofs.Common.{◌≡◌, ◌⊎◌, inl, inr, ℕ, zero, suc, ◌+◌, ◌<◌, ◌≤◌, Bool, true, false, not, cond, ◌||◌, List, [], ◌∷◌, ◌++◌, length, map, filter, take, Contains, All, IfSome, nat_eq, nat_lt, get_or, Option, Some, None, Result, Ok, Err, IfOk, refl, sym, ◌∙◌, ap, subst, arith, append_assoc}
-use Rattle.std.specs.List.{list_any, flat_map, dedup, AllPairs}
+use Rattle.std.specs.List.{list_any, dedup, AllPairs}
 use Rattle.std.specs.List.Sorted.{IsSorted, IsPermutation}
 use Rattle.std.specs.Ordering.{nat_cmp}
 use Rattle.std.specs.Cmp.{nat_eq_equiv}
@@ -21,6 +21,7 @@ use Rattle.jc_methods.specs.declared.body.What.{What}
 use Rattle.jc_methods.specs.InsnUse.{pool_place}
 use Rattle.jc_methods.specs.WellMade.{HasUse, HasShortTexts, entries_for, what_used}
 use Rattle.jc_bytes.proofs.BooleanLaws.{in_map}
+use Rattle.jc_bytes.proofs.ListLaws.{flat_in}
 use Rattle.jc_pool.specs.Pool.{PoolValue}
 use Rattle.jc_body.specs.declared.items.Row.{Row}
 use Rattle.jc_body.specs.BodyOf.{some_of, insn_places, row_places, places_used, used_at, AreRisingFrom, AreUsesOf}
@@ -86,9 +87,11 @@ AreRisingPlaces first (p ∷ ps) = (first ≤ p) × AreRisingPlaces (p + 1) ps
 
 from_pairs : (first : ℕ) (ps : List ℕ) → ((j : ℕ) (d : ℕ) → j < length ps → first ≤ get_or ps j d) → AllPairs (λ x y. x < y) ps → AreRisingPlaces first ps
 from_pairs first [] all pairs = tt
-from_pairs first (p ∷ ps) all pairs =
-    (all 0 p (omega arith), from_pairs (p + 1) ps (λ j d inside. let less = pairs 0 (suc j) d (omega arith) (omega (arith, inside)) in
-        omega (arith, less)) (λ i j d order inside. pairs (suc i) (suc j) d (omega (arith, order)) (omega (arith, inside))))
+from_pairs first (p ∷ ps) all pairs = (
+  all 0 p (omega arith),
+  from_pairs (p + 1) ps (λ j d inside. let less = pairs 0 (suc j) d (omega arith) (omega (arith, inside)) in
+      omega (arith, less)) (λ i j d order inside. pairs (suc i) (suc j) d (omega (arith, order)) (omega (arith, inside))),
+)
 
 rising_places : (places : List ℕ) → IsSorted nat_cmp places → AreRisingPlaces 0 (dedup eqb places)
 rising_places places sorted = from_pairs 0 (dedup eqb places) (λ j d inside. omega arith) (AllPairs-from_increasing (dedup eqb places) (IsStrictlyIncreasing-dedup places sorted))
@@ -158,8 +161,8 @@ listed pool places sorted single uses permuted in_order is list = record {
       ap (λ (us : List Use). what_used us place) (list ∙ ap (uses_of pool) is)
       ∙ used_of pool (dedup eqb sorted) place
       ∙ ap (λ (b : Bool). cond b (what_at pool place) None)
-          (same_any place (dedup eqb sorted) sorted (Contains-from_dedup eqb sorted place) (Contains-dedup_nat sorted place)
-            ∙ sym (list_any-IsPermutation (nat_eq place) places sorted permuted));
+      (same_any place (dedup eqb sorted) sorted (Contains-from_dedup eqb sorted place) (Contains-dedup_nat sorted place)
+      ∙ sym (list_any-IsPermutation (nat_eq place) places sorted permuted));
 }
 
 -- what is listed of the places of instructions and rows, in order and each once
@@ -300,14 +303,6 @@ some_uses pool (p ∷ ps) = with (some_uses pool ps).0 (some_uses pool ps).1
 
 -- ---- what an instruction or a row uses
 
-contains_flat : {X A : Type 0} (f : X → List A) (xs : List X) (x : X) (a : A) → Contains xs x → Contains (f x) a → Contains (flat_map f xs) a
-contains_flat f xs x a c inside = at f xs x a inside c.0 c.1 c.2
-  where
-    at : {X A : Type 0} (f : X → List A) (xs : List X) (x : X) (a : A) → Contains (f x) a → (k : ℕ) → k < length xs → get_or xs k x ≡ x → Contains (flat_map f xs) a
-    at f [] x a inside k lt is = absurd (omega (arith, lt))
-    at f (y ∷ ys) x a inside zero lt is = Contains-append_left (f y) (flat_map f ys) a (subst (λ z. Contains (f z) a) (sym is) inside)
-    at f (y ∷ ys) x a inside (suc k) lt is = Contains-append_right (f y) (flat_map f ys) a (at f ys x a inside k (omega (arith, lt)) is)
-
 contains_filter : (p : ℕ → Bool) (xs : List ℕ) (x : ℕ) → p x ≡ true → Contains xs x → Contains (filter p xs) x
 contains_filter p xs x pass c = at xs c.0 c.1 c.2
   where
@@ -334,7 +329,7 @@ has_use pool places uses place what Fact are c is fact = record {
 
 pub insn_place_used : (insns : List Insn) (rows : List Row) (insn : Insn) (place : ℕ) → Contains insns insn → pool_place insn ≡ Some place → Contains (places_used insns rows) place
 insn_place_used insns rows insn place c is = Contains-append_left (insn_places insns) (row_places rows) place
-    (contains_flat (λ (x : Insn). some_of (pool_place x)) insns insn place c (subst (λ (o : Option ℕ). Contains (some_of o) place) (sym is) (0, omega arith, refl)))
+    (flat_in (λ (x : Insn). some_of (pool_place x)) insns insn place c (subst (λ (o : Option ℕ). Contains (some_of o) place) (sym is) (0, omega arith, refl)))
 
 pub row_place_used : (insns : List Insn) (rows : List Row) (row : Row) → Contains rows row → (row.class ≡ 0 → ⊥) → Contains (places_used insns rows) row.class
 row_place_used insns rows row c some = Contains-append_right (insn_places insns) (row_places rows) row.class

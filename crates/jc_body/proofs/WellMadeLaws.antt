@@ -7,7 +7,7 @@ use Rattle.std.proofs.lemmas.List.Elements.{All-map, Contains-get_or}
 use Rattle.jc_bytes.specs.Decoder.{◌>>=◌}
 use Rattle.jc_methods.specs.Flow.{FallsThrough}
 use Rattle.jc_methods.specs.InsnUse.{pool_place, Suits, IsClass, LocalsWithin, LeadsWithin}
-use Rattle.jc_methods.specs.WellMade.{IsCode, HasUse, HasShortTexts, AreUses, HasSizes, IsWellMadeOfAnySize, most_slots, IsBounded, IsWellMade}
+use Rattle.jc_methods.specs.WellMade.{IsCode, HasUse, HasShortTexts, AreUses, HasSizes, IsWellMadeOfAnySize, most_slots, IsBounded, IsWellMade, AreFramesFrom}
 use Rattle.jc_methods.specs.declared.body.Body.{Body}
 use Rattle.jc_methods.specs.declared.body.Handler.{Handler}
 use Rattle.jc_methods.specs.declared.body.Use.{Use}
@@ -34,7 +34,6 @@ use Rattle.jc_body.specs.Standing.{what_of, what_at, found_in, found_at, HasRigh
 use Rattle.std.specs.List.{AllByRecursion}
 use Rattle.jc_methods.specs.declared.body.FrameAt.{FrameAt}
 use Rattle.jc_methods.specs.VerificationTypes.{Names, TypeState, TypeStateAt, type_state_at}
-use Rattle.jc_methods.specs.WellMade.{AreFramesFrom}
 use Rattle.jc_frames.specs.Table.{StandsFor}
 use Rattle.jc_frames.specs.WellMade.{HasNew}
 use Rattle.jc_frames.proofs.WellMadeLaws.{frames_well_made}
@@ -132,7 +131,7 @@ module _ (c : ClassFile) (coded : Coded) (uses : List Use) (are : AreUsesOf c.po
   row_use row listed (inl none) some = absurd (some none)
   row_use row listed (inr (name, is)) some =
       has_use c.pool (places_used coded.insns coded.items.rows) uses row.class (whats.Class name) IsClass are
-          (row_place_used coded.insns coded.items.rows row listed some) (class_stands c.pool row.class name is) tt
+      (row_place_used coded.insns coded.items.rows row listed some) (class_stands c.pool row.class name is) tt
 
   insn_use : (insn : Insn) → Contains coded.insns insn → HasRightEntry c.major c.pool insn → (place : ℕ) → pool_place insn ≡ Some place → HasUse uses place (Suits insn)
   insn_use insn listed right place names =
@@ -181,7 +180,7 @@ frames_well names c method coded owner frames starts has = by frames has.frames_
         some_none e = cc
     by (f ∷ list) (inr table) = frames_well_made (ground_of c.pool coded) names has.entry table.0 (f ∷ list) (record { count = starts.one_more; rising = starts.rising })
         (subst (λ (s : TypeState). AllByRecursion (HasNew (ground_of c.pool coded)) s.locals) (sym has.begins.entry_is)
-            (no_new (ground_of c.pool coded) owner has.begins.name has.begins.desc method.flags coded.items.max_locals))
+        (no_new (ground_of c.pool coded) owner has.begins.name has.begins.desc method.flags coded.items.max_locals))
         table.2
 
 -- ---- the whole

@@ -2,11 +2,12 @@
 use Rattle.std.proofs.Common.{◌≡◌, inl, inr, ℕ, cond, nat_eq, List, [], ◌++◌, length, Some, None, Result, Ok, Err, IfOk, IfErr, MatchResult, refl, sym, ◌∙◌, ap, subst, arith}
 use Rattle.std.proofs.lemmas.Bool.{eqb-true}
 use Rattle.std.proofs.lemmas.List.{append-nil}
+use Rattle.std.proofs.lemmas.Option.{same_Some}
 use Rattle.jc_bytes.specs.Decoder.{IsBig, number_at}
 use Rattle.jc_bytes.specs.Grammar.{WholeFails, Agrees}
 use Rattle.jc_bytes.specs.Parsing.{Parsed, Good, item}
 use Rattle.jc_bytes.proofs.CountedLaws.{agrees_number, agrees_counted}
-use Rattle.jc_bytes.proofs.DecoderLaws.{bind_some, guard_some, some_is, number_takes, number_again}
+use Rattle.jc_bytes.proofs.DecoderLaws.{bind_some, guard_some, number_takes, number_again}
 use Rattle.jc_bytes.proofs.GrammarLaws.{agrees_nothing, agrees_item, agrees_followed, good_is, good_bad, never_both, one_failure}
 use Rattle.jc_bytes.specs.declared.fail.Fail.{Fail}
 use Rattle.jc_bytes.specs.declared.fail.Fail.TheVariants as fails
@@ -26,7 +27,7 @@ unfolding magic_at
 magic_takes bytes x left e =
     let read = bind_some (number_at 4 bytes) (λ n. cond (nat_eq n.0 0xcafebabe) (Some (tt, n.1)) None) (x, left) e in
     let kept = guard_some (nat_eq read.0.0 0xcafebabe) (Some (tt, read.0.1)) (x, left) read.2 in
-    let same : read.0.1 ≡ left = ap (λ (p : Unit {0} × List ℕ). p.1) (some_is (tt, read.0.1) (x, left) kept.1) in
+    let same : read.0.1 ≡ left = ap (λ (p : Unit {0} × List ℕ). p.1) (same_Some (tt, read.0.1) (x, left) kept.1) in
     let t = number_takes 4 bytes read.0.0 read.0.1 read.1 in
     (t.0, t.1 ∙ ap (λ (l : List ℕ). t.0 ++ l) same, record { size = t.2.size; value = t.2.value ∙ eqb-true read.0.0 0xcafebabe kept.0 })
 
@@ -51,8 +52,18 @@ class_agrees =
     agrees_followed _ _ _ _ (agrees_counted _ _ (agrees_member pool named.FieldDescriptor)) (λ fields.
     agrees_followed _ _ _ _ (agrees_counted _ _ (agrees_member pool named.MethodDescriptor)) (λ methods.
     agrees_followed _ _ _ _ (agrees_attributes pool) (λ attributes.
-    agrees_nothing (record { minor = minor; major = major; pool = pool; flags = flags; this_class = this_class; super_class = super_class;
-        interfaces = interfaces; fields = fields; methods = methods; attributes = attributes }))))))))))))
+    agrees_nothing (record {
+      minor = minor;
+      major = major;
+      pool = pool;
+      flags = flags;
+      this_class = this_class;
+      super_class = super_class;
+      interfaces = interfaces;
+      fields = fields;
+      methods = methods;
+      attributes = attributes;
+    }))))))))))))
 
 -- ---- whole files
 

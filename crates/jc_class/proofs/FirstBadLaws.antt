@@ -90,8 +90,18 @@ inside_class =
     inside_followed _ _ (inside_counted _ (inside_member _ _)) (λ fields.
     inside_followed _ _ (inside_counted _ (inside_member _ _)) (λ methods.
     inside_followed _ _ (inside_counted _ (inside_attribute _)) (λ attributes.
-    inside_nothing (record { minor = minor; major = major; pool = pool; flags = flags; this_class = this_class; super_class = super_class;
-        interfaces = interfaces; fields = fields; methods = methods; attributes = attributes }))))))))))))
+    inside_nothing (record {
+      minor = minor;
+      major = major;
+      pool = pool;
+      flags = flags;
+      this_class = this_class;
+      super_class = super_class;
+      interfaces = interfaces;
+      fields = fields;
+      methods = methods;
+      attributes = attributes;
+    }))))))))))))
 
 inside_whole : (bytes left : List ℕ) → WholeFails class_file bytes left → length left ≤ length bytes
 inside_whole bytes left (inl stop) = inside_class.inside bytes left stop

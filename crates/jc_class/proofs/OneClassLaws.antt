@@ -51,8 +51,19 @@ one_class =
     (one_followed _ _ (one_counted (member (HasText pool) (HasFieldDescriptor pool)) (one_member (HasText pool) (HasFieldDescriptor pool))) (λ fields.
     (one_followed _ _ (one_counted (member (HasText pool) (HasMethodDescriptor pool)) (one_member (HasText pool) (HasMethodDescriptor pool))) (λ methods.
     (one_followed _ _ (one_counted (attribute (HasText pool)) (one_attribute (HasText pool))) (λ attributes.
-    one_nothing (record { minor = minor; major = major; pool = pool; flags = flags; this_class = this_class; super_class = super_class; interfaces =
-        interfaces; fields = fields; methods = methods; attributes = attributes }))
+    one_nothing (record {
+      minor = minor;
+      major = major;
+      pool = pool;
+      flags = flags;
+      this_class = this_class;
+      super_class = super_class;
+      interfaces =
+          interfaces;
+      fields = fields;
+      methods = methods;
+      attributes = attributes;
+    }))
     (λ x z a b y t u. sym (ap (λ (k : ClassFile). k.attributes) t.1) ∙ ap (λ (k : ClassFile). k.attributes) u.1)))
     (λ x z a b y t u. sym (ap (λ (k : ClassFile). k.methods) t.5.1) ∙ ap (λ (k : ClassFile). k.methods) u.5.1)))
     (λ x z a b y t u. sym (ap (λ (k : ClassFile). k.fields) t.5.5.1) ∙ ap (λ (k : ClassFile). k.fields) u.5.5.1)))

@@ -2,6 +2,7 @@
 use Rattle.std.proofs.Common.{◌≡◌, ◌⊎◌, inl, inr, ⊎_elim, ℕ, Bool, true, false, cond, ◌||◌, nat_eq, List, ◌++◌}
 use Rattle.std.proofs.Common.{Option, Some, None, is_some, refl, sym, ◌∙◌, ap, subst}
 use Rattle.std.proofs.lemmas.Bool.{eqb-true, eqb-false}
+use Rattle.std.proofs.lemmas.Option.{same_Some}
 use Rattle.jc_bytes.specs.Counted.{counted}
 use Rattle.jc_bytes.specs.Decoder.{IsBig, number_at}
 use Rattle.jc_bytes.specs.Deciding.{is_modified_text, is_field_text, is_method_text}
@@ -9,7 +10,7 @@ use Rattle.jc_bytes.specs.Grammar.{Agrees}
 use Rattle.jc_bytes.specs.ItemForms.{number_where}
 use Rattle.jc_bytes.specs.Parsing.{item}
 use Rattle.jc_bytes.proofs.CountedLaws.{agrees_number, agrees_piece, agrees_counted}
-use Rattle.jc_bytes.proofs.DecoderLaws.{bind_some, guard_some, some_is, number_takes, number_again}
+use Rattle.jc_bytes.proofs.DecoderLaws.{bind_some, guard_some, number_takes, number_again}
 use Rattle.jc_bytes.proofs.DecidingLaws.{Decides, modified_decided, field_text_decided, method_text_decided}
 use Rattle.jc_bytes.proofs.GrammarLaws.{agrees_nothing, agrees_item, agrees_followed}
 use Rattle.jc_pool.specs.Lookup.{utf8_of, class_name_of}
@@ -30,7 +31,7 @@ passes_decided test Fact d None = record { to = λ h. absurd cc; back = λ t. ab
     none_some e = cc
 passes_decided test Fact d (Some text) = record {
   to = λ h. (text, refl, (d text).to h);
-  back = λ t. (d text).back (subst Fact (sym (some_is text t.0 t.1)) t.2);
+  back = λ t. (d text).back (subst Fact (sym (same_Some text t.0 t.1)) t.2);
 }
 
 text_decided : (there : Option (List ℕ)) → Decides (is_some there) ((text : List ℕ) × (there ≡ Some text))
@@ -77,7 +78,7 @@ module _ (test : ℕ → Bool) (Fact : ℕ → Type 0) (d : (n : ℕ) → Decide
       let read = bind_some (number_at 2 bytes) (λ n. cond (test n.0) (Some n) None) (x, left) e in
       let kept = guard_some (test read.0.0) (Some read.0) (x, left) read.2 in
       let t = number_takes 2 bytes x left (read.1 ∙ kept.1) in
-      let same = some_is read.0 (x, left) kept.1 in
+      let same = same_Some read.0 (x, left) kept.1 in
       (t.0, t.1, (t.2, subst Fact (ap (λ (p : ℕ × List ℕ). p.0) same) ((d read.0.0).to kept.0)))
 
   if_again : (front rest : List ℕ) (x : ℕ) → (IsBig 2 front x × Fact x) → number_if test (front ++ rest) ≡ Some (x, rest)

@@ -20,9 +20,9 @@ bits x h = grind arith
 differ-assoc : (x y z : ℕ) → x < 2 → y < 2 → z < 2 → differ (differ x y) z ≡ differ x (differ y z)
 differ-assoc x y z hx hy hz =
     ⊎_elim (λ (ex : x ≡ 0). ⊎_elim (λ (ey : y ≡ 0). ⊎_elim (λ (ez : z ≡ 0). rw (ex, ey, ez) refl) (λ (ez : z ≡ 1). rw (ex, ey, ez) refl) (bits z hz))
-        (λ (ey : y ≡ 1). ⊎_elim (λ (ez : z ≡ 0). rw (ex, ey, ez) refl) (λ (ez : z ≡ 1). rw (ex, ey, ez) refl) (bits z hz)) (bits y hy))
+    (λ (ey : y ≡ 1). ⊎_elim (λ (ez : z ≡ 0). rw (ex, ey, ez) refl) (λ (ez : z ≡ 1). rw (ex, ey, ez) refl) (bits z hz)) (bits y hy))
     (λ (ex : x ≡ 1). ⊎_elim (λ (ey : y ≡ 0). ⊎_elim (λ (ez : z ≡ 0). rw (ex, ey, ez) refl) (λ (ez : z ≡ 1). rw (ex, ey, ez) refl) (bits z hz))
-        (λ (ey : y ≡ 1). ⊎_elim (λ (ez : z ≡ 0). rw (ex, ey, ez) refl) (λ (ez : z ≡ 1). rw (ex, ey, ez) refl) (bits z hz)) (bits y hy))
+    (λ (ey : y ≡ 1). ⊎_elim (λ (ez : z ≡ 0). rw (ex, ey, ez) refl) (λ (ez : z ≡ 1). rw (ex, ey, ez) refl) (bits z hz)) (bits y hy))
     (bits x hx)
 
 differ-below : (x y : ℕ) → x < 2 → y < 2 → differ x y < 2
@@ -102,7 +102,7 @@ table_step table remainder byte fits is =
     let masked : bit_and x 255 ≡ x % 256 = and_mask x 8 in
     let low : x % 256 < 256 = omega arith in
     let read : get_or table (x % 256) 0 ≡ after_bits 8 (x % 256) = ap (λ (l : List ℕ). get_or l (x % 256) 0) is
-            ∙ get_or-map-range_with_len (after_bits 8) 0 256 (x % 256) (x % 256) 0 low (omega arith) in
+    ∙ get_or-map-range_with_len (after_bits 8) 0 256 (x % 256) (x % 256) 0 low (omega arith) in
     let high : x / 256 ≡ remainder / 256 = xor_shr remainder byte 8 ∙ ap (bit_xor (remainder / 256)) (none fits) ∙ xor_zero_r (remainder / 256) in
     (λ i. bit_xor (get_or table (masked i) 0) (remainder / 256))
     ∙ (λ i. bit_xor (read i) (sym high i))
@@ -148,5 +148,5 @@ pub version_53 : (bytes : List ℕ) (test : Bool) (front version last : ℕ) →
     → front ≡ fold after_byte 0 (take 7 bytes) → version ≡ fold after_byte front (0x34 ∷ []) → last ≡ fold after_byte version (take (length bytes - 8) (drop 8 bytes)) → last ≡ class_id bytes
 version_53 bytes test front version last found is first second third =
     third ∙ ap (fold after_byte version) (take_all (length bytes - 8) (drop 8 bytes) (omega (arith, length-drop 8 bytes)))
-        ∙ in_parts bytes 0x34 front version (long_enough (length bytes) _ (sym is ∙ found)) first second
+    ∙ in_parts bytes 0x34 front version (long_enough (length bytes) _ (sym is ∙ found)) first second
     ∙ ap remainder_of (sym (cond-true (nat_le 8 (length bytes) && (nat_eq (slice_index bytes 6) 0 && nat_eq (slice_index bytes 7) 0x35)) (slice_set bytes 7 0x34) bytes (sym is ∙ found)))

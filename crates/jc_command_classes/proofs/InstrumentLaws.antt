@@ -11,28 +11,24 @@ use Rattle.jc_instrument.proofs.OneTwinLaws.{one_file, file_or_reason}
 use Rattle.jc_instrument.proofs.RoomCauseLaws.{one_reason}
 use Rattle.jc_command_classes.specs.declared.instrument.Decided.{Decided}
 use Rattle.jc_command_work.specs.declared.output.Write.{Write as Written}
-use Rattle.jc_command_classes.specs.Instrument.{Decision, refused_file, accepted_file, IsDecision, file_writes, AreFileWrites}
-use Rattle.jc_command_classes.specs.Instrument.{decision_seen}
-use Rattle.jc_command_work.specs.Seen.{write_seen, Puts}
-use Rattle.jc_command_work.specs.Step.{Word}
-use Rattle.jc_command_work.specs.Seen.{words_of}
-use Rattle.jc_command_work.specs.Step.{IsFile}
-use Rattle.jc_command_work.specs.Step.{Write}
+use Rattle.jc_command_classes.specs.Instrument.{Decision, refused_file, accepted_file, IsDecision, file_writes, AreFileWrites, decision_seen}
+use Rattle.jc_command_work.specs.Seen.{write_seen, Puts, words_of}
+use Rattle.jc_command_work.specs.Step.{Word, IsFile, Write}
 use Rattle.jc_command_classes.proofs.EachLaws.{zipped_pair, each_ok, AtPlace}
-use Rattle.jc_command_work.proofs.ListLaws.{map_take_more}
+use Rattle.jc_bytes.proofs.ListLaws.{map_take_more}
 
 -- ---- one file
 
 refusal_is : (r s : Refusal) → Some r ≡ Some s → r ≡ s
 refusal_is r s e = cc
 
-one_decision : (bytes : List ℕ) (a b : Decision) → IsDecision bytes a → IsDecision bytes b → a ≡ b
+pub one_decision : (bytes : List ℕ) (a b : Decision) → IsDecision bytes a → IsDecision bytes b → a ≡ b
 one_decision bytes (refused_file r) (refused_file s) p q = ap refused_file (refusal_is r s (one_reason bytes (Some r) (Some s) p q))
 one_decision bytes (refused_file r) (accepted_file b) p q = absurd (file_or_reason bytes b r q p)
 one_decision bytes (accepted_file a) (refused_file s) p q = absurd (file_or_reason bytes a s p q)
 one_decision bytes (accepted_file a) (accepted_file b) p q = ap accepted_file (one_file bytes a b p q)
 
-some_decision : (bytes : List ℕ) → IsFile bytes → (d : Decision) × IsDecision bytes d
+pub some_decision : (bytes : List ℕ) → IsFile bytes → (d : Decision) × IsDecision bytes d
 some_decision bytes file = ⊎_elim (λ a. (accepted_file a.0, a.1)) (λ r. (refused_file r.0, r.1)) (each_file bytes file.are_bytes file.short)
 
 -- ---- lists of files

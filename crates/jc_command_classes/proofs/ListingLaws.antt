@@ -5,12 +5,12 @@ use Rattle.std.specs.List.{AllByRecursion, AllZip, flat_map}
 use Rattle.std.proofs.lemmas.List.Concat.{flat_map-cons}
 use Rattle.std.proofs.lemmas.Slice.Zip.{AllZip-long}
 use Rattle.std.specs.declared.alloc.Global.{Global}
+use Rattle.std.proofs.lemmas.Option.{same_Some}
 use Rattle.jc_methods.specs.declared.analysed.Analysed.{Analysed}
 use Rattle.jc_methods.specs.declared.body.Body.{Body}
 use Rattle.jc_bytes.specs.declared.fail.Fail.{Fail}
 use Rattle.jc_bytes.specs.declared.fail.Fail.TheVariants as fails
 use Rattle.jc_bytes.specs.declared.refusal.Refusal.{Refusal}
-use Rattle.jc_bytes.proofs.DecoderLaws.{some_is}
 use Rattle.jc_bytes.specs.Failing.{Said}
 use Rattle.jc_instrument.specs.Analysis.{IsAnalysis}
 use Rattle.jc_instrument.specs.Reasons.{AnalysisReason}
@@ -22,16 +22,12 @@ use Rattle.jc_command_work.specs.declared.output.Write.{Write as Written}
 use Rattle.jc_command_work.specs.declared.output.Write.TheVariants as written
 use Rattle.jc_command_work.specs.Part.{gives}
 use Rattle.jc_command_work.specs.declared.status.Fault.TheVariants as fault
-use Rattle.jc_command_work.specs.Step.{Word}
-use Rattle.jc_command_work.specs.Seen.{words_of}
+use Rattle.jc_command_work.specs.Step.{Word, Write, to_out, IsFile}
+use Rattle.jc_command_work.specs.Seen.{words_of, write_seen}
 use Rattle.jc_command_classes.specs.ClassInfo.{class_line, method_line, class_text, Listing, prints, refuses, Lists, analysed, refused, IsListing, AreListed, RefusedAt}
-use Rattle.jc_command_work.specs.Seen.{write_seen}
-use Rattle.jc_command_work.specs.Step.{Write, to_out}
-use Rattle.jc_command_work.specs.Step.{IsFile}
 use Rattle.jc_command_classes.specs.ClassInfo.{ListAnswers, listed, class_refused}
-use Rattle.jc_command_work.specs.Answered.{refusing}
+use Rattle.jc_command_work.specs.Answered.{refusing, AnswersWith}
 use Rattle.jc_command_work.specs.Stopping.{class_stop}
-use Rattle.jc_command_work.specs.Answered.{AnswersWith}
 use Rattle.jc_command_classes.proofs.EachLaws.{zipped_at, AtPlace}
 
 -- ---- one file
@@ -63,7 +59,7 @@ module _ (bytes : List ℕ) where
   one_listing_of a b (by_analysis x is e) (by_analysis y is' f) = e ∙ ap prints (same_text x y (same_analysis bytes x y is is')) ∙ sym f
   one_listing_of a b (by_analysis x is e) (by_reason why r f) = absurd (analysis_or_reason bytes x why is r)
   one_listing_of a b (by_reason why r e) (by_analysis x is f) = absurd (analysis_or_reason bytes x why is r)
-  one_listing_of a b (by_reason why r e) (by_reason other s f) = e ∙ ap refuses (some_is _ _ (one_reason bytes (Some why) (Some other) r s)) ∙ sym f
+  one_listing_of a b (by_reason why r e) (by_reason other s f) = e ∙ ap refuses (same_Some _ _ (one_reason bytes (Some why) (Some other) r s)) ∙ sym f
 
   pub one_listing : (a b : Listing) → Lists bytes a → Lists bytes b → a ≡ b
   one_listing a b p q = one_listing_of a b (listing_of bytes a p) (listing_of bytes b q)

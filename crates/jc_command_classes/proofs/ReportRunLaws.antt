@@ -2,14 +2,14 @@
 use Rattle.std.proofs.Common.{◌≡◌, ℕ, List, [], ◌∷◌, ◌++◌, map, Option, None, Some, Result, Ok, Err, Vec, Bor, refl, sym, ◌∙◌, ap, subst, arith}
 use Rattle.std.proofs.lemmas.List.{map-append}
 use Rattle.std.specs.declared.alloc.Global.{Global}
-use Rattle.jc_bytes.proofs.DecoderLaws.{some_is}
+use Rattle.std.proofs.lemmas.Option.{same_Some}
 use Rattle.jc_bytes.specs.declared.fail.Fail.{Fail}
 use Rattle.jc_bytes.specs.declared.fail.Fail.TheVariants as fails
 use Rattle.jc_exec.specs.Answers.{Refuses}
 use Rattle.jc_exec.specs.Store.{Store}
 use Rattle.jc_exec.specs.declared.hits.ClassHits.{ClassHits}
 use Rattle.jc_exec.specs.declared.refusal.ExecRefusal.{ExecRefusal}
-use Rattle.jc_command_classes.specs.Report.{changed_of, first_of_each_id, report_text}
+use Rattle.jc_command_classes.specs.Report.{changed_of, first_of_each_id, report_text, ReportAnswers, reported, report_refused, report_clashes}
 use Rattle.jc_command_classes.specs.declared.class_report.Looked.{Looked}
 use Rattle.jc_command_work.specs.declared.output.Write.{Write as Written}
 use Rattle.jc_command_work.specs.declared.output.Write.TheVariants as written
@@ -18,15 +18,12 @@ use Rattle.jc_command_work.specs.declared.status.Fault.{Fault}
 use Rattle.jc_command_work.specs.declared.status.Fault.TheVariants as faults
 use Rattle.jc_command_work.specs.declared.stop.Stop.{Stop}
 use Rattle.jc_command_work.specs.declared.stop.Stop.TheVariants as stops
-use Rattle.jc_command_work.specs.Step.{Word}
+use Rattle.jc_command_work.specs.Step.{Word, Write, to_file}
 use Rattle.jc_command_exec.specs.ExecData.{IsUnionOf, no_data}
 use Rattle.jc_command_work.specs.Seen.{write_seen}
 use Rattle.jc_command_classes.specs.ReportSteps.{counted_classes, LooksAtAll, ReportsWith}
-use Rattle.jc_command_classes.specs.Report.{ReportAnswers, reported, report_refused, report_clashes}
-use Rattle.jc_command_work.specs.Answered.{refusing}
-use Rattle.jc_command_work.specs.Step.{Write, to_file}
+use Rattle.jc_command_work.specs.Answered.{refusing, AnswersWith}
 use Rattle.jc_command_work.specs.Stopping.{exec_stop}
-use Rattle.jc_command_work.specs.Answered.{AnswersWith}
 use Rattle.jc_command_classes.proofs.CountedLaws.{are_counted}
 use Rattle.jc_command_exec.proofs.ExecDataLaws.{union_of_none}
 
@@ -68,7 +65,7 @@ answers_data out name path paths text texts store (Ok writes) union (items, are,
     (reported store items (counted_classes store.classes items) union are none (are_counted store.classes (first_of_each_id (changed_of items))))
 answers_data out name path paths text texts store (Err stops.Memory) union stop = tt
 answers_data out name path paths text texts store (Err (stops.Refused file fault)) union (refusal, same, is, (count, items, are, clash)) =
-    let path_is : path ≡ file.now = some_is path file.now same in
+    let path_is : path ≡ file.now = same_Some path file.now same in
     subst (λ (f : Fault). ReportAnswers out name (Some path) paths (text ∷ texts) (refusing file.now f)) (sym is)
     (subst (λ (p : Word). ReportAnswers out name (Some path) paths (text ∷ texts) (refusing p (faults.Exec 0 refusal))) path_is
     (report_clashes path store count items refusal refl union are clash))

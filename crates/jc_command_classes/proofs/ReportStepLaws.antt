@@ -29,19 +29,17 @@ use Rattle.jc_command_classes.specs.declared.class_report.Seen.{Seen}
 use Rattle.jc_command_classes.specs.declared.class_report.Seen.TheVariants as seens
 use Rattle.jc_command_work.specs.declared.stop.Stop.{Stop}
 use Rattle.jc_command_work.specs.declared.stop.Stop.TheVariants as stops
-use Rattle.jc_command_work.specs.Seen.{write_seen}
+use Rattle.jc_command_work.specs.Seen.{write_seen, texts_of}
 use Rattle.jc_command_classes.specs.Report.{frameless, ReportedFile, refused_class, unchanged_class, changed_class, IsItem, is_refused, is_unchanged, is_changed, AreItems, lines_of, changed_of}
 use Rattle.jc_command_classes.specs.Report.{record_of, clash_with, clash_of, first_clash, first_of_each_id}
 use Rattle.jc_command_classes.specs.ReportSteps.{counted_by, counted_classes, StopsAtClash, seen_as, IsSeen, SeesClass, ClassClashes, FileClashes, IsLooked, KeepsRefused, unless_known, Keeps}
 use Rattle.jc_command_classes.specs.ReportSteps.{IsReportOf, LooksOn, LooksAtAll, FrontClashes}
 use Rattle.jc_command_classes.specs.Lines.{refused_line}
-use Rattle.jc_command_work.specs.Step.{Word}
-use Rattle.jc_command_work.specs.Seen.{texts_of}
-use Rattle.jc_command_work.specs.Step.{Write, to_err}
+use Rattle.jc_command_work.specs.Step.{Word, Write, to_err}
 use Rattle.jc_command_classes.proofs.EachLaws.{zipped_at, AtPlace}
 use Rattle.jc_command_classes.proofs.FramelessLaws.{same_counted}
 use Rattle.jc_command_classes.proofs.ReportLaws.{left_alone_has_none, changed_has_some}
-use Rattle.jc_command_work.proofs.ListLaws.{map_take_more}
+use Rattle.jc_bytes.proofs.ListLaws.{map_take_more}
 
 -- ---- the record of an id
 

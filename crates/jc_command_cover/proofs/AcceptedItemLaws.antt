@@ -1,6 +1,7 @@
 -- The places of accepted files, and what stands beside them.
 use Rattle.std.proofs.Common.{◌≡◌, ℕ, ◌+◌, ◌<◌, ◌≤◌, List, [], ◌∷◌, ◌++◌, length, drop, get_or, map, refl, sym, ◌∙◌, ap, arith, append_assoc, append-nil, drop-cons, add-one}
 use Rattle.std.proofs.lemmas.List.{map-append, drop_all, get_or-map, length-map}
+use Rattle.jc_bytes.proofs.DecidingLaws.{head_is, tail_is}
 use Rattle.jc_command_work.specs.Step.{Word}
 use Rattle.jc_command_classes.specs.Instrument.{Decision, refused_file, accepted_file}
 use Rattle.jc_headline.specs.CoverWork.{LookedFile, accepted, kept_if, place_if, places_from}
@@ -10,12 +11,6 @@ use Rattle.jc_headline.specs.CoverWork.{LookedFile, accepted, kept_if, place_if,
 pub place_if-append : (d : Decision) (place : ℕ) (more : List ℕ) → place_if d place [] ++ more ≡ place_if d place more
 place_if-append (refused_file why) place more = refl
 place_if-append (accepted_file a) place more = refl
-
-pub heads : (a b : ℕ) (xs ys : List ℕ) → a ∷ xs ≡ b ∷ ys → a ≡ b
-heads a b xs ys e = cc
-
-tails : (a b : ℕ) (xs ys : List ℕ) → a ∷ xs ≡ b ∷ ys → xs ≡ ys
-tails a b xs ys e = cc
 
 nothing_first : (a : ℕ) (xs : List ℕ) → [] ≡ a ∷ xs → ⊥
 nothing_first a xs e = cc
@@ -27,7 +22,7 @@ low i (l ∷ ls) place others is = by l.decision is (low (i + 1) ls place others
   where
     by : (d : Decision) → place_if d i (places_from (i + 1) ls) ≡ place ∷ others → (places_from (i + 1) ls ≡ place ∷ others → i + 1 ≤ place) → i ≤ place
     by (refused_file why) e behind = let more = behind e in omega (arith, more)
-    by (accepted_file a) e behind = let same = heads i place (places_from (i + 1) ls) others e in omega (arith, same)
+    by (accepted_file a) e behind = let same = head_is i place (places_from (i + 1) ls) others e in omega (arith, same)
 
 -- where none is left each file is refused
 no_place : (i : ℕ) (ls : List LookedFile) → places_from i ls ≡ [] → accepted ls ≡ []
@@ -47,7 +42,7 @@ module _ (i : ℕ) (l : LookedFile) (ls : List LookedFile) where
     where
       by : (d : Decision) → place_if d i (places_from (i + 1) ls) ≡ i ∷ others → (others ≡ places_from (i + 1) ls) × (kept_if d l (accepted ls) ≡ l ∷ accepted ls)
       by (refused_file why) e = let more = low (i + 1) ls i others e in absurd (omega (arith, more))
-      by (accepted_file a) e = (sym (tails i i (places_from (i + 1) ls) others e), refl)
+      by (accepted_file a) e = (sym (tail_is i i (places_from (i + 1) ls) others e), refl)
 
   -- another place comes first, or none: it is refused
   left_out : ((others : List ℕ) → places_from i (l ∷ ls) ≡ i ∷ others → ⊥) → (places_from i (l ∷ ls) ≡ places_from (i + 1) ls) × (accepted (l ∷ ls) ≡ accepted ls)

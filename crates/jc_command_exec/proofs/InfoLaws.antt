@@ -12,16 +12,13 @@ use Rattle.jc_exec.specs.Union.{ReadsOn}
 use Rattle.jc_command_work.specs.declared.output.Write.{Write as Written}
 use Rattle.jc_command_work.specs.Part.{gives}
 use Rattle.jc_command_exec.specs.ExecData.{IsUnionOf, IsInput, no_data}
-use Rattle.jc_command_exec.specs.ExecInfo.{file_lines, AreInfo}
-use Rattle.jc_command_work.specs.Seen.{write_seen}
-use Rattle.jc_command_work.specs.Step.{Word}
-use Rattle.jc_command_work.specs.Seen.{texts_of}
-use Rattle.jc_command_work.specs.Step.{Write, to_out}
-use Rattle.jc_command_exec.specs.ExecInfo.{InfoAnswers, informed, exec_info_refused}
+use Rattle.jc_command_exec.specs.ExecInfo.{file_lines, AreInfo, InfoAnswers, informed, exec_info_refused}
+use Rattle.jc_command_work.specs.Seen.{write_seen, texts_of}
+use Rattle.jc_command_work.specs.Step.{Word, Write, to_out}
 use Rattle.jc_command_work.specs.Answered.{AnswersWith}
 use Rattle.jc_command_work.specs.Stopping.{exec_stop}
 use Rattle.jc_command_exec.proofs.ExecDataLaws.{IsData, union_more, union_of_none, one_union_of}
-use Rattle.jc_command_work.proofs.ListLaws.{map_take_more}
+use Rattle.jc_bytes.proofs.ListLaws.{map_take_more}
 
 -- ---- file after file
 

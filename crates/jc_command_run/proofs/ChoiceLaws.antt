@@ -1,6 +1,6 @@
 -- One decision behind the other has one answer, where each has one.
-use Rattle.std.proofs.Common.{◌≡◌, ◌⊎◌, List, inl, inr, refl, sym, ◌∙◌, ap, subst}
-use Rattle.jc_command_work.specs.Part.{End, gives, stops}
+use Rattle.std.proofs.Common.{◌≡◌, inl, inr, sym, ◌∙◌, ap, subst}
+use Rattle.jc_command_work.specs.Part.{End, stops}
 use Rattle.jc_command_work.specs.Answered.{Answer}
 use Rattle.jc_command_run.specs.RunAnswers.{Chooses}
 

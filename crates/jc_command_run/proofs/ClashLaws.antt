@@ -1,5 +1,5 @@
 -- Files that are no program.
-use Rattle.std.proofs.Common.{◌≡◌, ℕ, zero, suc, ◌<◌, List, [], ◌∷◌, length, get_or, slice_get, slice_index_or, Option, None, Some, Bor, refl, sym, subst, arith}
+use Rattle.std.proofs.Common.{◌≡◌, ℕ, zero, suc, ◌<◌, List, [], ◌∷◌, length, get_or, slice_get, Option, None, Some, Bor, arith}
 use Rattle.std.proofs.lemmas.List.{get_or-map}
 use Rattle.jc_methods.specs.VerificationTypes.{Names}
 use Rattle.jc_programs.specs.declared.program.Linked.{Linked}

@@ -1,11 +1,11 @@
 -- The execution data of hits that are kept as truth values is that of the run plan's hits.
-use Rattle.std.proofs.Common.{◌≡◌, ◌⊎◌, ⊎_elim, inl, inr, ◌↔◌, ℕ, suc, ◌+◌, ◌<◌, Bool, true, false, ◌||◌, ◌&&◌, nat_eq, List, [], ◌∷◌, map, length, get_or, Option, None, Some, Contains, refl, sym, ◌∙◌, ap, subst, arith}
-use Rattle.std.specs.List.{flat_map, range_with_len}
+use Rattle.std.proofs.Common.{◌≡◌, ◌⊎◌, inl, inr, ◌↔◌, ℕ, suc, ◌+◌, ◌<◌, Bool, true, false, ◌||◌, ◌&&◌, nat_eq, List, [], ◌∷◌, map, length, get_or, Option, None, Some, Contains, refl, sym, ◌∙◌, ap, subst, arith}
+use Rattle.std.specs.List.{range_with_len}
 use Rattle.std.proofs.lemmas.Bool.{and_parts, and_from, or_cases, or_left, or_right, eqb-true, eq-eqb}
 use Rattle.std.proofs.lemmas.List.{ext_get_or, get_or-map, length-map}
-use Rattle.std.proofs.lemmas.List.Elements.{Contains-append_left, Contains-append_right, Contains-append_cases}
 use Rattle.std.proofs.lemmas.List.FromFn.{get_or-map-range_with_len, length-map-range_with_len}
-use Rattle.jc_bytes.proofs.BooleanLaws.{first_in, later_in, which_in, none_in}
+use Rattle.jc_bytes.proofs.BooleanLaws.{first_in, later_in, which_in, none_in, same_tests}
+use Rattle.jc_bytes.proofs.ListLaws.{flat_in, flat_cases}
 use Rattle.jc_exec.specs.declared.hits.ClassHits.{ClassHits}
 use Rattle.jc_exec.specs.Store.{Store}
 use Rattle.jc_programs.specs.declared.program.Program.{Program}
@@ -21,22 +21,6 @@ use Rattle.jc_command_run.specs.HitStore.{set_record, with_set, set_records, cou
 
 -- ---- lists of lists
 
-flat_cases : {X Y : Type 0} (f : X → List Y) (xs : List X) (y : Y) → Contains (flat_map f xs) y → (x : X) × Contains xs x × Contains (f x) y
-flat_cases f [] y there = absurd (none_in y there)
-flat_cases f (x ∷ xs) y there =
-    ⊎_elim
-    (λ front. (x, first_in x xs, front))
-    (λ rest. let more = flat_cases f xs y rest in (more.0, later_in x xs more.0 more.1, more.2))
-    (Contains-append_cases (f x) (flat_map f xs) y there)
-
-flat_in : {X Y : Type 0} (f : X → List Y) (xs : List X) (x : X) (y : Y) → Contains xs x → Contains (f x) y → Contains (flat_map f xs) y
-flat_in f [] x y there inside = absurd (none_in x there)
-flat_in f (z ∷ xs) x y there inside =
-    ⊎_elim
-    (λ same. Contains-append_left (f z) (flat_map f xs) y (subst (λ w. Contains (f w) y) (sym same) inside))
-    (λ later. Contains-append_right (f z) (flat_map f xs) y (flat_in f xs x y later inside))
-    (which_in z xs x there)
-
 -- ---- a hit in a list
 
 abbrev pub probe : (class id : ℕ) → Hit
@@ -45,12 +29,12 @@ probe class id = record { class = class; id = id }
 abbrev is_that : (class id : ℕ) → Hit → Bool
 is_that class id h = nat_eq h.class class && nat_eq h.id id
 
-that_is : (class id : ℕ) (h : Hit) → is_that class id h ≡ true → h ≡ probe class id
+pub that_is : (class id : ℕ) (h : Hit) → is_that class id h ≡ true → h ≡ probe class id
 that_is class id h e =
     let both = and_parts (nat_eq h.class class) (nat_eq h.id id) e in
     λ i. record { class = eqb-true h.class class both.0 i; id = eqb-true h.id id both.1 i }
 
-in_list : (hits : List Hit) (class id : ℕ) → is_hit_in hits class id ≡ true → Contains hits (probe class id)
+pub in_list : (hits : List Hit) (class id : ℕ) → is_hit_in hits class id ≡ true → Contains hits (probe class id)
 in_list [] class id e = absurd (not_true e)
   where
     not_true : false ≡ true → ⊥
@@ -61,7 +45,7 @@ in_list (h ∷ hits) class id e = by (or_cases (is_that class id h) (is_hit_in h
     by (inl is) later = subst (Contains (h ∷ hits)) (that_is class id h is) (first_in h hits)
     by (inr behind) later = later_in h hits (probe class id) (later behind)
 
-from_list : (hits : List Hit) (class id : ℕ) → Contains hits (probe class id) → is_hit_in hits class id ≡ true
+pub from_list : (hits : List Hit) (class id : ℕ) → Contains hits (probe class id) → is_hit_in hits class id ≡ true
 from_list [] class id there = absurd (none_in (probe class id) there)
 from_list (h ∷ hits) class id there = by (which_in h hits (probe class id) there) (from_list hits class id)
   where
@@ -72,11 +56,6 @@ from_list (h ∷ hits) class id there = by (which_in h hits (probe class id) the
     by (inr behind) later = or_right (is_that class id h) (is_hit_in hits class id) (later behind)
 
 -- ---- truth values
-
-same_truth : (a b : Bool) → (a ≡ true → b ≡ true) → (b ≡ true → a ≡ true) → a ≡ b
-same_truth true b to back = sym (to refl)
-same_truth false true to back = back refl
-same_truth false false to back = refl
 
 same_count : (o : Option ProbeInit) → count_in o ≡ count_of o
 same_count None = refl
@@ -92,7 +71,7 @@ module _ (p : Program) (plan : RunPlan) (hits : List (List Bool)) (are : (class 
 
   same_bit : (class id : ℕ) → get_or (get_or hits class []) id false ≡ is_hit_in all class id
   same_bit class id =
-      same_truth (get_or (get_or hits class []) id false) (is_hit_in all class id)
+      same_tests (get_or (get_or hits class []) id false) (is_hit_in all class id)
       (λ set. let hit = (are class id).0 set in from_list all class id (flat_in (case_hits p) plan.cases hit.0 (probe class id) hit.1 hit.2))
       (λ told. (are class id).1 (flat_cases (case_hits p) plan.cases (probe class id) (in_list all class id told)))
 

@@ -22,7 +22,7 @@ pub added : (old new : Store) (c : ClassHits) → OneOfEachId old.classes → Is
 added old new c one fresh adds =
     let own = own_union old one in
     let same = one_union (blocks_of old ++ class c ∷ []) new (record { sessions = old.sessions; classes = old.classes ++ c ∷ [] })
-            (adds (blocks_of old) own) (union_class (blocks_of old) old c own fresh) in
+    (adds (blocks_of old) own) (union_class (blocks_of old) old c own fresh) in
     record { sessions = ap (λ (s : Store). s.sessions) same; classes = ap (λ (s : Store). s.classes) same }
 
 -- ---- the records of the first classes
@@ -32,8 +32,8 @@ module _ (hits : List (List Bool)) where
   records_more k [] c = ap (λ (n : ℕ). with_set hits n c c.probes []) (let n : k ≡ k + length {A = Linked} [] = omega arith in n)
   records_more k (d ∷ cs) c =
       ap (with_set hits k d d.probes)
-          (records_more (k + 1) cs c ∙ ap (λ (n : ℕ). set_records hits (k + 1) cs ++ with_set hits n c c.probes [])
-            (let n : k + 1 + length cs ≡ k + length (d ∷ cs) = omega arith in n))
+      (records_more (k + 1) cs c ∙ ap (λ (n : ℕ). set_records hits (k + 1) cs ++ with_set hits n c c.probes [])
+      (let n : k + 1 + length cs ≡ k + length (d ∷ cs) = omega arith in n))
       ∙ by d.probes
     where
       by : (o : Option ProbeInit) → with_set hits k d o (set_records hits (k + 1) cs ++ with_set hits (k + length (d ∷ cs)) c c.probes [])

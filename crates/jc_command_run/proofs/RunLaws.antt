@@ -1,13 +1,11 @@
 -- The answer of `run` is one.
-use Rattle.std.proofs.Common.{◌≡◌, ◌⊎◌, ℕ, List, [], ◌∷◌, Option, None, Some, slice_get, inl, inr, refl, sym, ◌∙◌, ap, ap₂, subst}
-use Rattle.jc_programs.specs.declared.program.Program.{Program}
-use Rattle.jc_programs.specs.declared.program.Linked.{Linked}
+use Rattle.std.proofs.Common.{◌≡◌, ℕ, List, [], ◌∷◌, Option, Some, slice_get, sym, ◌∙◌, ap, subst}
 use Rattle.jc_programs.specs.declared.program.ProbeInit.{ProbeInit}
 use Rattle.jc_programs.specs.declared.run_plan.RunPlan.{RunPlan}
 use Rattle.jc_run_plans.specs.Plans.{IsPlanText, FirstUnfit}
 use Rattle.jc_link_programs.specs.declared.link_refusal.LinkRefusal.{LinkRefusal}
 use Rattle.jc_link_programs.specs.declared.link_refusal.LinkRefusal.TheVariants as refusals
-use Rattle.jc_link_programs.specs.Linking.{HasId, HasName, IsLinkedClass, IsProgramOf, IsLinkRefusal}
+use Rattle.jc_link_programs.specs.Linking.{HasId, HasName, IsLinkedClass}
 use Rattle.jc_link_programs.proofs.OneRefusalLaws.{one_refusal, program_or_refusal, same_program}
 use Rattle.jc_link_programs.proofs.SameLinkedLaws.{same_linked}
 use Rattle.jc_command_work.specs.declared.status.Fault.TheVariants as fault
@@ -16,7 +14,6 @@ use Rattle.jc_command_work.specs.Part.{End, refused}
 use Rattle.jc_command_work.specs.Answered.{Answer, refusal_of}
 use Rattle.jc_command_run.specs.PairTexts.{same_name_text, same_id_text}
 use Rattle.jc_command_run.specs.RunAnswers.{path_at, IsPlanEnd, IsRunProgram, EndsAs, IsLinkEnd, RunsFiles, RunAnswers}
-use Rattle.jc_command_run.specs.RunStore.{threads_of, first_without}
 use Rattle.jc_command_run.proofs.ChoiceLaws.{IsOneChoice, one_choice}
 use Rattle.jc_command_run.proofs.StoreLaws.{same_frameless}
 
@@ -40,13 +37,13 @@ one_plan_choice laws plan text = record {
 some_is : {X : Type 0} (x y : X) (o : Option X) → o ≡ Some x → o ≡ Some y → x ≡ y
 some_is x y o p q = cc
 
-one_name : (files : List (List ℕ)) (index : ℕ) (a b : List ℕ) → HasName files index a → HasName files index b → a ≡ b
+pub one_name : (files : List (List ℕ)) (index : ℕ) (a b : List ℕ) → HasName files index a → HasName files index b → a ≡ b
 one_name files index a b p q =
     let bytes = some_is p.bytes q.bytes (slice_get files index) p.stands q.stands in
     let same = same_linked p.names q.names q.bytes p.linked q.linked (subst (λ (t : List ℕ). IsLinkedClass p.names t p.linked) bytes p.is) q.is in
     p.named ∙ sym same.name ∙ sym q.named
 
-one_id : (files : List (List ℕ)) (index a b : ℕ) → HasId files index a → HasId files index b → a ≡ b
+pub one_id : (files : List (List ℕ)) (index a b : ℕ) → HasId files index a → HasId files index b → a ≡ b
 one_id files index a b p q =
     let bytes = some_is p.bytes q.bytes (slice_get files index) p.stands q.stands in
     let same = same_linked p.names q.names q.bytes p.linked q.linked (subst (λ (t : List ℕ). IsLinkedClass p.names t p.linked) bytes p.is) q.is in

@@ -5,12 +5,11 @@ use Rattle.jc_exec.specs.declared.hits.ClassHits.{ClassHits}
 use Rattle.jc_exec.specs.Store.{Store}
 use Rattle.jc_methods.specs.declared.body.Body.{Body}
 use Rattle.jc_methods.specs.VerificationTypes.{Names}
-use Rattle.jc_emit.specs.TwinProgram.{IsSameBody, AreSameBodies}
+use Rattle.jc_emit.specs.TwinProgram.{AreSameBodies}
 use Rattle.jc_link_programs.specs.SameProgram.{IsSameLinked, AreSameClasses, IsSameProgram}
 use Rattle.jc_programs.specs.declared.program.Program.{Program}
 use Rattle.jc_programs.specs.declared.program.Linked.{Linked}
 use Rattle.jc_programs.specs.declared.program.ProbeInit.{ProbeInit}
-use Rattle.jc_programs.specs.declared.run_end.Entry.{Entry}
 use Rattle.jc_programs.specs.declared.run_plan.RunPlan.{RunPlan}
 use Rattle.jc_programs.specs.declared.run_plan.ThreadLine.{ThreadLine}
 use Rattle.jc_machine_model.specs.Run.{hits_of}
@@ -18,7 +17,7 @@ use Rattle.jc_machine_model.specs.World.{Hit}
 use Rattle.jc_machine_laws.specs.Frameless.{frameless_body, frameless_class, frameless}
 use Rattle.jc_machine_laws.proofs.FramelessLookupLaws.{same_entry}
 use Rattle.jc_machine_laws.proofs.FramelessTextLaws.{same_hits}
-use Rattle.jc_command_run.specs.RunStore.{lacks_entry, first_without, with_record, hit_records, run_store}
+use Rattle.jc_command_run.specs.RunStore.{first_without, with_record, hit_records, run_store}
 
 -- ---- equal programs
 

@@ -1,8 +1,7 @@
 -- The class file of a sample is a list of bytes, and not too long to be read.
-use Rattle.std.proofs.Common.{◌≡◌, ℕ, zero, suc, ◌+◌, ◌*◌, ◌%◌, ◌<◌, ◌≤◌, ◌^◌, true, nat_lt, List, [], ◌∷◌, ◌++◌, length, codes, refl, arith, length-append}
+use Rattle.std.proofs.Common.{◌≡◌, ℕ, zero, suc, ◌+◌, ◌*◌, ◌%◌, ◌<◌, ◌≤◌, ◌^◌, List, [], ◌∷◌, ◌++◌, length, codes, refl, arith, length-append}
 use Rattle.std.specs.Fmt.{decimal}
-use Rattle.std.specs.List.{flat_map, list_all, range_with_len}
-use Rattle.std.proofs.lemmas.Bool.{and_parts, ltb-true}
+use Rattle.std.specs.List.{flat_map, range_with_len}
 use Rattle.std.proofs.lemmas.Fmt.{decimal_by_steps, length-decimal-le}
 use Rattle.jc_bytes.specs.ByteLists.{AreBytes}
 use Rattle.jc_bytes.specs.Reader.{most_read}
@@ -10,15 +9,11 @@ use Rattle.jc_insn.specs.Writing.{short, word}
 use Rattle.jc_insn.proofs.ReadBackLaws.{short_size}
 use Rattle.jc_instrument_laws.proofs.CodeBytesLaws.{short_are, word_are}
 use Rattle.jc_instrument_laws.proofs.ClassSpellingLaws.{bytes_both}
+use Rattle.jc_instrument_laws.proofs.NamedStepsLaws.{bytes_by}
 use Rattle.jc_methods.specs.Opcode as opcode
 use Rattle.jc_command_sample.specs.SampleFile.{utf8_entry, method_name, class_entries, name_entries, attribute_text, method_code, frame_table, code_body, method_text, file_head, class_head, class_methods, sample_file}
 
 -- ---- bytes
-
--- numbers that are tested to be bytes
-tested : (l : List ℕ) → list_all (λ b. nat_lt b 256) l ≡ true → AreBytes l
-tested [] is = tt
-tested (b ∷ l) is = let parts = and_parts (nat_lt b 256) (list_all (λ c. nat_lt c 256) l) is in (ltb-true b 256 parts.0, tested l parts.1)
 
 decimal_are : (n : ℕ) → n < 2 ^ 64 → AreBytes (decimal n)
 decimal_are = decimal_by_steps (λ n ds. AreBytes ds) (λ n less. (omega (arith, less), tt)) (λ n ds more are. bytes_both ds ((48 + n % 10) ∷ []) are (omega arith, tt))
@@ -27,7 +22,7 @@ entry_are : (text : List ℕ) → AreBytes text → AreBytes (utf8_entry text)
 entry_are text are = (omega arith, bytes_both (short (length text)) text (short_are (length text)) are)
 
 name_are : (k : ℕ) → k < 1000 → AreBytes (method_name k)
-name_are k less = bytes_both (codes "m") (decimal k) (tested (codes "m") refl) (decimal_are k (omega (arith, less)))
+name_are k less = bytes_both (codes "m") (decimal k) (bytes_by (codes "m") refl) (decimal_are k (omega (arith, less)))
 
 attribute_are : (name : ℕ) (body : List ℕ) → AreBytes body → AreBytes (attribute_text name body)
 attribute_are name body are = bytes_both (short name) (word (length body) ++ body) (short_are name) (bytes_both (word (length body)) body (word_are (length body)) are)
@@ -41,7 +36,7 @@ code_are k =
 
 frames_are : AreBytes frame_table
 unfolding frame_table short
-frames_are = tested frame_table refl
+frames_are = bytes_by frame_table refl
 
 body_are : (k : ℕ) → AreBytes (code_body k)
 unfolding code_body
@@ -61,11 +56,11 @@ pieces_are f each a (suc n) within = bytes_both (f a) (flat_map f (range_with_le
 
 entries_are : AreBytes class_entries
 unfolding class_entries short
-entries_are = tested class_entries refl
+entries_are = bytes_by class_entries refl
 
 class_head_are : AreBytes class_head
 unfolding class_head short
-class_head_are = tested class_head refl
+class_head_are = bytes_by class_head refl
 
 file_head_are : (n : ℕ) → n ≤ 1000 → AreBytes (file_head n)
 unfolding file_head

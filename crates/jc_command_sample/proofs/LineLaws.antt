@@ -107,7 +107,7 @@ module _ (n probes : ℕ) (program : Program) where
     runs counters text counted is =
         let given : giving (sample_text n probes (length (sample_plan n).cases) counters) [] (gives text) = ap (λ (t : List ℕ). gives t) is in
         over_then (deciding (HaveEntries program (sample_plan n)) (IsEntryEnd program (sample_plan n)))
-            (λ _. counting n (run_store program (sample_plan n)) >>= (λ c. giving (sample_text n probes (length (sample_plan n).cases) c)))
+        (λ _. counting n (run_store program (sample_plan n)) >>= (λ c. giving (sample_text n probes (length (sample_plan n).cases) c)))
         tt [] [] (gives text) have
         (over_then (counting n (run_store program (sample_plan n))) (λ c. giving (sample_text n probes (length (sample_plan n).cases) c)) counters [] [] (gives text) counted given)
 

@@ -4,6 +4,8 @@ use Rattle.std.proofs.lemmas.Slice.Eq.{bytes_eq-Decides}
 use Rattle.std.proofs.lemmas.List.{append-nil, length-map, length-append}
 use Rattle.std.specs.List.{flat_map, list_any, list_all}
 use Rattle.std.specs.Str.{bytes_eq}
+use Rattle.std.proofs.lemmas.Option.{same_Some}
+use Rattle.std.proofs.lemmas.Bool.{and_parts}
 use Rattle.jc_command_words.specs.declared.name.CommandName.{CommandName}
 use Rattle.jc_command_words.specs.declared.name.CommandName.TheVariants.{Instrument, Run, Merge, Report, ExecInfo, ClassInfo, Cover}
 use Rattle.jc_command_words.specs.Words.{Word, Use, is_plain, use_words, tail_words, rest_words, value_of}
@@ -14,7 +16,7 @@ use Rattle.jc_command_words.specs.Numbers.{IsNumber, number_up_to}
 use Rattle.jc_command_words.specs.Scan.{Scan, scan}
 use Rattle.jc_command_words.specs.Commands.{Called, instrument, run, merge, report, exec_info, class_info, cover, cover_sample, default_name, IsWorkers, IsStated, IsCallOf, files_of, Means, by_call, by_sample, sample_use, NoForm}
 use Rattle.jc_command_words.specs.Decide.{is_call, is_some_file, is_stated, values_of, workers_in, instrument_with, run_with, merge_with, report_with, cover_with, command_with, sample_of, sample_in, decide_sample, decide_scan, decide_named, command_of}
-use Rattle.jc_command_words.proofs.BoolLaws.{and-parts, both_true}
+use Rattle.jc_command_words.proofs.BoolLaws.{both_true}
 use Rattle.jc_command_words.proofs.PathLaws.{distinct_holds, distinct_passes}
 use Rattle.jc_command_words.proofs.ScanLaws.{SpellsIf, is_name, scan_finds, scan_ends, scan_spells}
 use Rattle.jc_command_words.proofs.NumberLaws.{number_is, number_found}
@@ -23,10 +25,10 @@ use Rattle.jc_command_words.proofs.NumberLaws.{number_is, number_found}
 
 pub call_holds : (options : List Word) (s : Scan) → is_call options s ≡ true → IsCall options s.uses s.files
 call_holds options s h =
-    let a = and-parts (list_all (λ u. list_any (bytes_eq u.name) options) s.uses) _ h in
-    let b = and-parts (are_distinct (map (λ u. u.name) s.uses)) _ a.1 in
-    let d = and-parts (list_all (λ u. is_plain u.value) s.uses) _ b.1 in
-    let e = and-parts (list_all is_plain s.files) _ d.1 in
+    let a = and_parts (list_all (λ u. list_any (bytes_eq u.name) options) s.uses) _ h in
+    let b = and_parts (are_distinct (map (λ u. u.name) s.uses)) _ a.1 in
+    let d = and_parts (list_all (λ u. is_plain u.value) s.uses) _ b.1 in
+    let e = and_parts (list_all is_plain s.files) _ d.1 in
     record { known = a.0; once = distinct_holds (map (λ u. u.name) s.uses) b.0; values = d.0; plain_files = e.0; some_file = some s.files e.1 }
   where
     some : (files : List Word) → is_some_file files ≡ true → files ≢ []
@@ -45,8 +47,8 @@ scan_of c = record { uses = c.uses; dash = c.dash; files = c.files }
 
 stated_holds : (c : Call) → is_stated c.name (scan_of c) ≡ true → IsStated c
 stated_holds c h =
-    let a = and-parts (is_call (options_of c.name) (scan_of c)) _ h in
-    let b = and-parts (are_relative c.name c.files) _ a.1 in
+    let a = and_parts (is_call (options_of c.name) (scan_of c)) _ h in
+    let b = and_parts (are_relative c.name c.files) _ a.1 in
     record { form = call_holds (options_of c.name) (scan_of c) a.0; relative = b.0; distinct = distinct_holds (named_paths c.uses c.files) b.1 }
 
 stated_passes : (c : Call) → IsStated c → is_stated c.name (scan_of c) ≡ true
@@ -54,11 +56,8 @@ stated_passes c s = rw (call_passes (options_of c.name) (scan_of c) s.form, s.re
 
 -- ---- the command of a call
 
-some_is : {X : Type 0} (x y : X) → Some x ≡ Some y → x ≡ y
-some_is x y e = cc
-
 workers_are : (o : Option Word) (n : ℕ) → workers_in o ≡ Some n → IsWorkers o n
-workers_are None n e = sym (some_is 1 n e)
+workers_are None n e = sym (same_Some 1 n e)
 workers_are (Some text) n e = number_is 16 text n e
 
 workers_found : (o : Option Word) (n : ℕ) → IsWorkers o n → workers_in o ≡ Some n
@@ -70,7 +69,7 @@ module _ (c : Call) where
   by_instrument : (dest : Option Word) (command : Called) → value_of c.uses (codes "dest") ≡ dest → c.name ≡ Instrument
       → instrument_with dest c.files ≡ Some command → IsCallOf c command
   by_instrument None command d n e = absurd cc
-  by_instrument (Some dest) command d n e = subst (IsCallOf c) (some_is (instrument dest (map file_text c.files)) command e) (n, d, refl)
+  by_instrument (Some dest) command d n e = subst (IsCallOf c) (same_Some (instrument dest (map file_text c.files)) command e) (n, d, refl)
 
   by_run : (plan destfile : Option Word) (workers : Option ℕ) (command : Called) → value_of c.uses (codes "plan") ≡ plan → value_of c.uses (codes "destfile") ≡ destfile
       → workers_in (value_of c.uses (codes "workers")) ≡ workers → c.name ≡ Run
@@ -79,18 +78,18 @@ module _ (c : Call) where
   by_run (Some plan) None workers command p d w n e = absurd cc
   by_run (Some plan) (Some destfile) None command p d w n e = absurd cc
   by_run (Some plan) (Some destfile) (Some workers) command p d w n e =
-      subst (IsCallOf c) (some_is (run plan destfile workers (map file_text c.files)) command e) (n, p, d, workers_are (value_of c.uses (codes "workers")) workers w, refl)
+      subst (IsCallOf c) (same_Some (run plan destfile workers (map file_text c.files)) command e) (n, p, d, workers_are (value_of c.uses (codes "workers")) workers w, refl)
 
   by_merge : (destfile : Option Word) (command : Called) → value_of c.uses (codes "destfile") ≡ destfile → c.name ≡ Merge
       → merge_with destfile c.files ≡ Some command → IsCallOf c command
   by_merge None command d n e = absurd cc
-  by_merge (Some destfile) command d n e = subst (IsCallOf c) (some_is (merge destfile c.files) command e) (n, d, refl)
+  by_merge (Some destfile) command d n e = subst (IsCallOf c) (same_Some (merge destfile c.files) command e) (n, d, refl)
 
   by_report : (csv : Option Word) (command : Called) → value_of c.uses (codes "csv") ≡ csv → c.name ≡ Report
       → report_with csv (unwrap_or (value_of c.uses (codes "name")) default_name) (value_of c.uses (codes "exec")) c.files ≡ Some command → IsCallOf c command
   by_report None command d n e = absurd cc
   by_report (Some csv) command d n e =
-      subst (IsCallOf c) (some_is (report csv (unwrap_or (value_of c.uses (codes "name")) default_name) (value_of c.uses (codes "exec")) (map file_text c.files)) command e) (n, d, refl, refl, refl)
+      subst (IsCallOf c) (same_Some (report csv (unwrap_or (value_of c.uses (codes "name")) default_name) (value_of c.uses (codes "exec")) (map file_text c.files)) command e) (n, d, refl, refl, refl)
 
   by_cover : (dest plan destfile csv : Option Word) (workers : Option ℕ) (command : Called) → value_of c.uses (codes "dest") ≡ dest → value_of c.uses (codes "plan") ≡ plan
       → value_of c.uses (codes "destfile") ≡ destfile → value_of c.uses (codes "csv") ≡ csv → workers_in (value_of c.uses (codes "workers")) ≡ workers → c.name ≡ Cover
@@ -101,7 +100,7 @@ module _ (c : Call) where
   by_cover (Some dest) (Some plan) (Some destfile) None workers command t p d v w n e = absurd cc
   by_cover (Some dest) (Some plan) (Some destfile) (Some csv) None command t p d v w n e = absurd cc
   by_cover (Some dest) (Some plan) (Some destfile) (Some csv) (Some workers) command t p d v w n e =
-      subst (IsCallOf c) (some_is (cover dest plan destfile csv workers (unwrap_or (value_of c.uses (codes "name")) default_name) (map file_text c.files)) command e)
+      subst (IsCallOf c) (same_Some (cover dest plan destfile csv workers (unwrap_or (value_of c.uses (codes "name")) default_name) (map file_text c.files)) command e)
       (n, t, p, d, v, workers_are (value_of c.uses (codes "workers")) workers w, refl, refl)
 
   call_of : (name : CommandName) (command : Called) → c.name ≡ name → command_with name (values_of c.uses c.files) ≡ Some command → IsCallOf c command
@@ -110,11 +109,11 @@ module _ (c : Call) where
       by_run (value_of c.uses (codes "plan")) (value_of c.uses (codes "destfile")) (workers_in (value_of c.uses (codes "workers"))) command refl refl refl n e
   call_of Merge command n e = by_merge (value_of c.uses (codes "destfile")) command refl n e
   call_of Report command n e = by_report (value_of c.uses (codes "csv")) command refl n e
-  call_of ExecInfo command n e = subst (IsCallOf c) (some_is (exec_info c.files) command e) (n, refl)
-  call_of ClassInfo command n e = subst (IsCallOf c) (some_is (class_info (map file_text c.files)) command e) (n, refl)
+  call_of ExecInfo command n e = subst (IsCallOf c) (same_Some (exec_info c.files) command e) (n, refl)
+  call_of ClassInfo command n e = subst (IsCallOf c) (same_Some (class_info (map file_text c.files)) command e) (n, refl)
   call_of Cover command n e =
       by_cover (value_of c.uses (codes "dest")) (value_of c.uses (codes "plan")) (value_of c.uses (codes "destfile")) (value_of c.uses (codes "csv"))
-          (workers_in (value_of c.uses (codes "workers"))) command refl refl refl refl refl n e
+      (workers_in (value_of c.uses (codes "workers"))) command refl refl refl refl refl n e
 
   command_made : (command : Called) → IsCallOf c command → command_with c.name (values_of c.uses c.files) ≡ Some command
   command_made (instrument dest files) h = rw (h.0, h.1, h.2) refl
@@ -135,12 +134,12 @@ name_is word name e = first (bytes_eq word (codes "instrument")) (bytes_eq word 
     refl refl refl refl refl e
   where
     is : (text : Word) (this : CommandName) → bytes_eq word text ≡ true → text_of this ≡ text → Some this ≡ Some name → word ≡ text_of name
-    is text this h t e = (bytes_eq-Decides word text).0 h ∙ sym t ∙ ap text_of (some_is this name e)
+    is text this h t e = (bytes_eq-Decides word text).0 h ∙ sym t ∙ ap text_of (same_Some this name e)
 
     first : (a b d f g h i : Bool) → bytes_eq word (codes "instrument") ≡ a → bytes_eq word (codes "run") ≡ b → bytes_eq word (codes "merge") ≡ d → bytes_eq word (codes "report") ≡ f
         → bytes_eq word (codes "execinfo") ≡ g → bytes_eq word (codes "classinfo") ≡ h → bytes_eq word (codes "cover") ≡ i
         → (if a then Some Instrument else if b then Some Run else if d then Some Merge else if f then Some Report else if g then Some ExecInfo
-            else if h then Some ClassInfo else if i then Some Cover else None) ≡ Some name
+        else if h then Some ClassInfo else if i then Some Cover else None) ≡ Some name
         → word ≡ text_of name
     first true b d f g h i p q r s t u v e = is (codes "instrument") Instrument p refl e
     first false true d f g h i p q r s t u v e = is (codes "run") Run q refl e
@@ -172,16 +171,16 @@ options_are_names Cover = refl
 
 known_name : (options : List Word) → list_all is_name options ≡ true → (name : Word) → list_any (bytes_eq name) options ≡ true → is_name name ≡ true
 known_name [] all name h = absurd (true≢false (sym h))
-known_name (o ∷ os) all name h = by (bytes_eq name o) refl h (known_name os (and-parts (is_name o) _ all).1 name)
+known_name (o ∷ os) all name h = by (bytes_eq name o) refl h (known_name os (and_parts (is_name o) _ all).1 name)
   where
     by : (b : Bool) → bytes_eq name o ≡ b → (b || list_any (bytes_eq name) os) ≡ true → (list_any (bytes_eq name) os ≡ true → is_name name ≡ true) → is_name name ≡ true
-    by true e h rest = ap is_name ((bytes_eq-Decides name o).0 e) ∙ (and-parts (is_name o) _ all).0
+    by true e h rest = ap is_name ((bytes_eq-Decides name o).0 e) ∙ (and_parts (is_name o) _ all).0
     by false e h rest = rest h
 
 known_names : (options : List Word) → list_all is_name options ≡ true → (uses : List Use) → list_all (λ u. list_any (bytes_eq u.name) options) uses ≡ true → list_all (λ u. is_name u.name) uses ≡ true
 known_names options all [] h = refl
 known_names options all (u ∷ us) h =
-    let p = and-parts (list_any (bytes_eq u.name) options) (list_all (λ u. list_any (bytes_eq u.name) options) us) h in
+    let p = and_parts (list_any (bytes_eq u.name) options) (list_all (λ u. list_any (bytes_eq u.name) options) us) h in
     both_true _ _ (known_name options all u.name p.0) (known_names options all us p.1)
 
 -- ---- words that were cut
@@ -194,7 +193,7 @@ scan_of_call c call = by c.files refl
     by (f ∷ fs) e =
         let plain = subst (λ l. list_all is_plain l ≡ true) e call.plain_files in
         subst (λ l. scan None (rest_words c.uses c.dash l) ≡ Some (record { uses = c.uses; dash = c.dash; files = l })) (sym e)
-        (scan_finds c.uses c.dash f fs (known_names (options_of c.name) (options_are_names c.name) c.uses call.known) (and-parts (is_plain f) (list_all is_plain fs) plain).0)
+        (scan_finds c.uses c.dash f fs (known_names (options_of c.name) (options_are_names c.name) c.uses call.known) (and_parts (is_plain f) (list_all is_plain fs) plain).0)
 
 -- a call with a file is no sample
 no_sample : (c : Call) → c.files ≢ [] → sample_in c.name (scan_of c) ≡ None
@@ -275,8 +274,8 @@ decided (first ∷ rest) command e = by (named first) (scan None rest) refl refl
         let t = sample_is name s n h in
         by_sample t.0 t.1 n
         (ap₂ (λ (x : Word) (l : List Word). x ∷ l) (p ∙ ap text_of t.2)
-            (q ∙ ap (λ z. rest_words z.uses z.dash z.files) t.3 ∙ append-nil (use_words (sample_use t.0 t.1) ++ []) ∙ append-nil (use_words (sample_use t.0 t.1))))
-        t.4 (sym (some_is (cover_sample n) command e))
+        (q ∙ ap (λ z. rest_words z.uses z.dash z.files) t.3 ∙ append-nil (use_words (sample_use t.0 t.1) ++ []) ∙ append-nil (use_words (sample_use t.0 t.1))))
+        t.4 (sym (same_Some (cover_sample n) command e))
 
     by : (name : Option CommandName) (s : Option Scan) → named first ≡ name → scan None rest ≡ s → decide_named name s ≡ Some command → Means (first ∷ rest) command
     by None s p q e = absurd cc
@@ -290,7 +289,7 @@ pub no_form : (words : List Word) → command_of words ≡ None → NoForm words
 no_form words e = λ command means. let h = sym e ∙ found words command means in cc
 
 pub one_command : (words : List Word) (a b : Called) → Means words a → Means words b → a ≡ b
-one_command words a b m n = some_is a b (sym (found words a m) ∙ found words b n)
+one_command words a b m n = same_Some a b (sym (found words a m) ∙ found words b n)
 
 pub some_or_none : (words : List Word) → ((command : Called) × Means words command) ⊎ NoForm words
 some_or_none words = by (command_of words) refl

@@ -44,7 +44,7 @@ module _ {U O F : Type 0} (uv : U → Use) (ov : O → Word) (fv : F → Word) w
       → list_all (λ u. list_any (λ o. bytes_eq (uv u).name (ov o)) os) us ≡ list_all (λ u. list_any (bytes_eq u.name) options) (map uv us)
   known_seen us os options e =
       list_all-same (λ u. list_any (λ o. bytes_eq (uv u).name (ov o)) os) (λ u. list_any (bytes_eq (uv u).name) options)
-          (λ u. list_any-map (bytes_eq (uv u).name) ov os ∙ ap (list_any (bytes_eq (uv u).name)) e) us
+      (λ u. list_any-map (bytes_eq (uv u).name) ov os ∙ ap (list_any (bytes_eq (uv u).name)) e) us
       ∙ list_all-map (λ u. list_any (bytes_eq u.name) options) uv us
 
   pub unknown : (us : List U) (os : List O) (options : List Word) (dash : Bool) (files : List Word) → map ov os ≡ options

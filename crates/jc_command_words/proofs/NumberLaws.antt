@@ -2,9 +2,10 @@
 use Rattle.std.proofs.Common.{◌≡◌, ap, sym, subst, refl, ℕ, ◌≤◌, Bool, true, false, not, ◌&&◌, cond, nat_eq, nat_le, [], ◌∷◌, Some, None, arith, true≢false}
 use Rattle.std.proofs.lemmas.Bool.Decides.{nat_tests}
 use Rattle.std.specs.List.{fold, list_all}
+use Rattle.std.proofs.lemmas.Bool.{and_parts}
 use Rattle.jc_command_words.specs.Words.{Word}
 use Rattle.jc_command_words.specs.Numbers.{is_digit, one_more_digit, IsNumber, digits_up_to, number_up_to}
-use Rattle.jc_command_words.proofs.BoolLaws.{and-parts, both_true}
+use Rattle.jc_command_words.proofs.BoolLaws.{both_true}
 
 le_test : (a b : ℕ) → nat_le a b ≡ true → a ≤ b
 le_test a b h = grind (arith, nat_tests)
@@ -13,7 +14,7 @@ le_tested : (a b : ℕ) → a ≤ b → nat_le a b ≡ true
 le_tested a b h = grind (arith, nat_tests)
 
 -- a number only grows with more digits
-grows : (n : ℕ) (bytes : Word) → n ≤ fold one_more_digit n bytes
+pub grows : (n : ℕ) (bytes : Word) → n ≤ fold one_more_digit n bytes
 grows n [] = omega arith
 grows n (b ∷ bytes) = let rest = grows (one_more_digit n b) bytes in omega (arith, rest)
 
@@ -39,7 +40,7 @@ digits_are most n (b ∷ bytes) m small e =
 digits_found : (most n : ℕ) (bytes : Word) (m : ℕ) → Digits most n bytes m → digits_up_to most n bytes ≡ Some m
 digits_found most n [] m d = ap Some (sym d.value)
 digits_found most n (b ∷ bytes) m d =
-    let parts = and-parts (is_digit b) (list_all is_digit bytes) d.digits in
+    let parts = and_parts (is_digit b) (list_all is_digit bytes) d.digits in
     let more = grows (one_more_digit n b) bytes in
     let few : one_more_digit n b ≤ most = omega (arith, more, d.value, d.small) in
     rw (parts.0, le_tested (one_more_digit n b) most few) (digits_found most (one_more_digit n b) bytes m (record { digits = parts.1; value = d.value; small = d.small }))
@@ -57,7 +58,7 @@ number_is most (b ∷ bytes) n e = by (nat_eq b 48) refl e
 pub number_found : (most : ℕ) (text : Word) (n : ℕ) → IsNumber most text n → number_up_to most text ≡ Some n
 number_found most [] n h = absurd (true≢false (sym h.decimal))
 number_found most (b ∷ bytes) n h =
-    let parts = and-parts (not (nat_eq b 48)) (list_all is_digit (b ∷ bytes)) h.decimal in
+    let parts = and_parts (not (nat_eq b 48)) (list_all is_digit (b ∷ bytes)) h.decimal in
     rw (no_zero (nat_eq b 48) parts.0) (digits_found most 0 (b ∷ bytes) n (record { digits = parts.1; value = h.value; small = h.small }))
   where
     no_zero : (z : Bool) → not z ≡ true → z ≡ false

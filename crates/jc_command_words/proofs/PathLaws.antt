@@ -1,15 +1,16 @@
 -- Paths among the words: their parts, and that they differ.
-use Rattle.std.proofs.Common.{◌≡◌, ℕ, zero, suc, ◌+◌, ◌<◌, ◌≤◌, Bool, true, false, not, ◌&&◌, ◌||◌, cond, List, [], ◌∷◌, ◌++◌, length, take, drop, get_or, map, Some, None, Bor, position, nat_eq, refl, sym, ◌∙◌, ap, ap₂, arith, append_assoc}
+use Rattle.std.proofs.Common.{◌≡◌, ℕ, zero, suc, ◌+◌, ◌<◌, ◌≤◌, Bool, true, false, not, ◌&&◌, ◌||◌, cond, List, [], ◌∷◌, ◌++◌, length, take, drop, get_or, map, Some, None, Bor, position, nat_eq, refl, sym, ◌∙◌, ap, ap₂, arith}
 use Rattle.std.specs.List.{filter, list_all, list_any, position_or_len, AllByRecursion, IsDistinct}
 use Rattle.std.specs.Str.{bytes_eq}
-use Rattle.std.proofs.lemmas.Bool.{and_right, or_right}
+use Rattle.std.proofs.lemmas.Bool.{and_right, or_right, and_parts, not-true}
 use Rattle.std.proofs.lemmas.List.Quantifiers.{position-Some}
 use Rattle.std.proofs.lemmas.List.Sums.{fails_before_first}
-use Rattle.std.proofs.lemmas.Slice.Eq.{bytes_eq-Decides}
-use Rattle.std.proofs.lemmas.List.{map-append, append-nil, take_all, take_more, take-append-drop}
+use Rattle.std.proofs.lemmas.List.{map-append, append-nil, take_all, take_more}
+use Rattle.jc_bytes.proofs.ListLaws.{map_parts, map_take_more}
+use Rattle.jc_bytes.proofs.TextEqualLaws.{turned}
 use Rattle.jc_command_words.specs.Words.{Word}
 use Rattle.jc_command_words.specs.Paths.{with_first, components, is_component, are_distinct}
-use Rattle.jc_command_words.proofs.BoolLaws.{and-parts, both_true, either-false}
+use Rattle.jc_command_words.proofs.BoolLaws.{both_true, either-false}
 
 -- ---- parts of a path
 
@@ -57,15 +58,6 @@ parts_end whole bytes so_far none =
 
 -- ---- words that differ
 
-turned : (a b : Word) → bytes_eq a b ≡ bytes_eq b a
-turned a b = by (bytes_eq a b) (bytes_eq b a) refl refl
-  where
-    by : (x y : Bool) → bytes_eq a b ≡ x → bytes_eq b a ≡ y → x ≡ y
-    by true true p q = refl
-    by false false p q = refl
-    by true false p q = sym ((bytes_eq-Decides b a).1 (sym ((bytes_eq-Decides a b).0 p))) ∙ q
-    by false true p q = sym p ∙ (bytes_eq-Decides a b).1 (sym ((bytes_eq-Decides b a).0 q))
-
 not_or : (a b : Bool) → not (a || b) ≡ (not a && not b)
 not_or true b = refl
 not_or false b = refl
@@ -95,7 +87,7 @@ distinct_more (y ∷ xs) x =
     ∙ ap (λ (s : Bool). s && (are_distinct xs && not (list_any (bytes_eq x) xs))) (not_or (list_any (bytes_eq y) xs) (bytes_eq y x))
     ∙ shuffled (not (list_any (bytes_eq y) xs)) (not (bytes_eq y x)) (are_distinct xs) (not (list_any (bytes_eq x) xs))
     ∙ ap (λ (s : Bool). (not (list_any (bytes_eq y) xs) && are_distinct xs) && s)
-        (ap (λ (s : Bool). not s && not (list_any (bytes_eq x) xs)) (turned y x) ∙ sym (not_or (bytes_eq x y) (list_any (bytes_eq x) xs)))
+    (ap (λ (s : Bool). not s && not (list_any (bytes_eq x) xs)) (turned y x) ∙ sym (not_or (bytes_eq x y) (list_any (bytes_eq x) xs)))
 
 -- the words so far differ, and one more is none of them
 pub distinct_on : (xs : List Word) (x : Word) → are_distinct xs ≡ true → list_any (bytes_eq x) xs ≡ false → are_distinct (xs ++ x ∷ []) ≡ true
@@ -116,14 +108,6 @@ not_distinct (y ∷ xs) behind x found = by (bytes_eq x y) refl found (not_disti
     by false other h rest = rw (rest h) (and_right (not (list_any (bytes_eq y) (xs ++ x ∷ behind))) false refl)
 
 -- ---- a list up to a place
-
-pub map_take_more : {X Y : Type 0} (f : X → Y) (xs : List X) (i : ℕ) (x : X) → i < length xs → x ≡ get_or xs i x → map f (take (i + 1) xs) ≡ map f (take i xs) ++ f x ∷ []
-map_take_more {X} f xs i x within is = ap (map f) (take_more xs i x within) ∙ map-append f (take i xs) (get_or xs i x ∷ []) ∙ ap (λ (y : X). map f (take i xs) ++ f y ∷ []) (sym is)
-
-pub map_parts : {X Y : Type 0} (f : X → Y) (xs : List X) (i : ℕ) (x : X) → i < length xs → x ≡ get_or xs i x → map f xs ≡ map f (take i xs) ++ f x ∷ map f (drop (i + 1) xs)
-map_parts {X} {Y} f xs i x within is =
-    ap (map f) (sym (take-append-drop (i + 1) xs)) ∙ map-append f (take (i + 1) xs) (drop (i + 1) xs)
-    ∙ ap (λ (ys : List Y). ys ++ map f (drop (i + 1) xs)) (map_take_more f xs i x within is) ∙ append_assoc (map f (take i xs)) (f x ∷ []) (map f (drop (i + 1) xs))
 
 filter_more : {X : Type 0} (p : X → Bool) (xs : List X) (x : X) → filter p (xs ++ x ∷ []) ≡ filter p xs ++ filter p (x ∷ [])
 filter_more p [] x = refl
@@ -188,15 +172,11 @@ alike_none : (n : Word) (ns : List Word) → AllByRecursion (λ y. bytes_eq n y 
 alike_none n [] h = refl
 alike_none n (m ∷ ms) h = rw h.0 (alike_none n ms h.1)
 
-pub not-true : (b : Bool) → not b ≡ true → b ≡ false
-not-true true h = cc
-not-true false h = refl
-
 pub distinct_holds : (ns : List Word) → are_distinct ns ≡ true → IsDistinct bytes_eq ns
 unfolding IsDistinct
 distinct_holds [] h = tt
 distinct_holds (n ∷ ns) h =
-    let p = and-parts (not (list_any (bytes_eq n) ns)) (are_distinct ns) h in
+    let p = and_parts (not (list_any (bytes_eq n) ns)) (are_distinct ns) h in
     (none_alike n ns (not-true _ p.0), distinct_holds ns p.1)
 
 pub distinct_passes : (ns : List Word) → IsDistinct bytes_eq ns → are_distinct ns ≡ true

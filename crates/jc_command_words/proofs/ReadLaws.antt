@@ -1,6 +1,6 @@
 -- What clap finds in the words of a call, and that it takes the words of each command.
 use Rattle.std.proofs.Common.{◌≡◌, ◌∙◌, ap, ap₂, sym, subst, refl, ℕ, ◌<◌, ◌^◌, Bool, true, false, ◌&&◌, ◌||◌, List, [], ◌∷◌, ◌++◌, length, Option, Some, None, option_map, unwrap_or, codes, cond, ◌==◌}
-use Rattle.std.proofs.lemmas.Bool.{not-false}
+use Rattle.std.proofs.lemmas.Bool.{not-false, and_parts}
 use Rattle.std.proofs.lemmas.Bool.Decides.{Decides-eqb}
 use Rattle.std.proofs.lemmas.Slice.Eq.{bytes_eq-Decides}
 use Rattle.std.specs.List.{list_all, list_any, IsDistinct}
@@ -27,7 +27,7 @@ use Rattle.jc_command_words.specs.Taken.{IsTaken, taken_options}
 use Rattle.jc_command_words.specs.Reads.{AreAccepted, HasFound, TakenCall, values_found}
 use Rattle.jc_command_words.specs.Reader.{jcov_app}
 use Rattle.jc_command_words.specs.Commands.{Called, cover_sample, Means, NoForm}
-use Rattle.jc_command_words.proofs.BoolLaws.{and-parts, both_true}
+use Rattle.jc_command_words.proofs.BoolLaws.{both_true}
 use Rattle.jc_command_words.proofs.ScanLaws.{SpellsIf, scan_spells}
 use Rattle.jc_command_words.proofs.CommandLaws.{call_holds, name_is, means_command, means_sample, never_stated, no_command}
 use Rattle.jc_command_words.proofs.WalkLaws.{call_rows}
@@ -58,7 +58,7 @@ found_values f words name uses files r rows =
     let at : (id : Word) → bytes_eq (codes "FILE") id ≡ false → first_value f id ≡ value_of uses id = λ id other. first_value-rows f id ∙ ap (first_of id) rows ∙ r.values id other in
     same_values (values_found f) (values_of uses files)
     (at (codes "dest") refl) (at (codes "plan") refl) (at (codes "destfile") refl) (at (codes "csv") refl) (at (codes "workers") refl)
-        (at (codes "name") refl) (at (codes "exec") refl) (at (codes "sample") refl)
+    (at (codes "name") refl) (at (codes "exec") refl) (at (codes "sample") refl)
     (ap (λ (o : Option (List Word)). unwrap_or o []) (raw_values-rows f (codes "FILE") ∙ ap (all_of (codes "FILE")) rows ∙ r.given) ∙ files_or_none files)
 
 pub read_of : (words : List Word) (c : Call) → length words < 2 ^ 32 → TakenCall words c → Read words c.name c.uses c.files
@@ -87,7 +87,7 @@ all_known_more : (name : CommandName) (uses : List Use) → list_all (λ u. list
     → list_all (λ u. list_any (bytes_eq u.name) (taken_options name)) uses ≡ true
 all_known_more name [] h = refl
 all_known_more name (u ∷ us) h =
-    let p = and-parts (list_any (bytes_eq u.name) (options_of name)) _ h in
+    let p = and_parts (list_any (bytes_eq u.name) (options_of name)) _ h in
     both_true _ _ (known_more name u.name p.0) (all_known_more name us p.1)
 
 call_taken : (name : CommandName) (uses : List Use) (files : List Word) → IsCall (options_of name) uses files → IsTaken (taken_options name) uses files
@@ -123,7 +123,7 @@ alone Cover s h = by s.uses s.dash s.files h
     by (u ∷ []) true files h = absurd cc
     by (u ∷ []) false (f ∷ fs) h = absurd cc
     by (u ∷ []) false [] h =
-        let p = and-parts (bytes_eq u.name (codes "sample")) (is_plain u.value) h in
+        let p = and_parts (bytes_eq u.name (codes "sample")) (is_plain u.value) h in
         record { taken = sample_alone u ((bytes_eq-Decides u.name (codes "sample")).0 p.0) p.1; number = rw p.0 refl; no_file = refl }
 
 no_number : (most : ℕ) (text : Word) → is_plain text ≡ false → number_up_to most text ≡ None
@@ -159,7 +159,7 @@ none_stated : (name : CommandName) (s : Scan) → s.files ≡ [] → is_stated n
 none_stated name s none = by (is_stated name s) refl
   where
     by : (b : Bool) → is_stated name s ≡ b → b ≡ false
-    by true h = absurd ((call_holds (options_of name) s (and-parts (is_call (options_of name) s) _ h).0).some_file none)
+    by true h = absurd ((call_holds (options_of name) s (and_parts (is_call (options_of name) s) _ h).0).some_file none)
     by false h = refl
 
 -- ---- words behind a name
@@ -175,7 +175,7 @@ module _ (W : List Word) (first : Word) (rest : List Word) (name : CommandName) 
   sample_call h = (spelled, (alone name s h).taken)
 
   stated_call : is_stated name s ≡ true → TakenCall W the_call
-  stated_call h = (spelled, call_taken name s.uses s.files (call_holds (options_of name) s (and-parts (is_call (options_of name) s) _ h).0))
+  stated_call h = (spelled, call_taken name s.uses s.files (call_holds (options_of name) s (and_parts (is_call (options_of name) s) _ h).0))
 
   pub sample_taken : is_sample name s ≡ true → (c : Call) × TakenCall W c
   sample_taken h = (the_call, sample_call h)

@@ -7,6 +7,7 @@ use Rattle.std.specs.List.{fold, flat_map, list_all, list_any, AllByRecursion, I
 use Rattle.std.specs.Str.{bytes_eq}
 use Rattle.std.specs.Borrow.{Bor}
 use Rattle.std.specs.Option.{option_map_or, IsSome}
+use Rattle.std.proofs.lemmas.Bool.{and_parts}
 use Rattle.clap.specs.Lexer.{usize_max}
 use Rattle.clap.specs.Walk.{Row, Rule, Text, Walk, Names, all_of, answers_to, finished, first_of, has_row, nothing_held, rows_of, walked, walk_from}
 use Rattle.clap.specs.Simple.{App, Shape, HasMatchesOf, built, entered, rows_at, label_of, names_of, new_shape, subcommand_of, subcommand_rows_of}
@@ -20,7 +21,7 @@ use Rattle.jc_command_words.specs.Words.{Use, Word, tail_words, use_words, is_pl
 use Rattle.jc_command_words.specs.Forms.{text_of}
 use Rattle.jc_command_words.specs.Reader.{jcov_app}
 use Rattle.jc_command_words.specs.Taken.{IsTaken, taken_options}
-use Rattle.jc_command_words.proofs.BoolLaws.{and-parts, both_true, either-false}
+use Rattle.jc_command_words.proofs.BoolLaws.{both_true, either-false}
 use Rattle.jc_command_words.proofs.WalkLaws.{IsOption, IsReader, GoodUses, AllPlain, at, call_rows, file_rows, file_fresh, level_rows, level_takes, passes-append_at, row_of_use}
 
 -- ---- the commands, as they are read
@@ -216,8 +217,8 @@ good_uses : (s : Shape) (again : s.args_override_self ≡ false) (options : List
 unfolding IsDistinct
 good_uses s again options all [] V known once plain fresh = tt
 good_uses s again options all (u ∷ us) V known once plain fresh =
-    let k = and-parts (list_any (bytes_eq u.name) options) _ known in
-    let p = and-parts (is_plain u.value) _ plain in (
+    let k = and_parts (list_any (bytes_eq u.name) options) _ known in
+    let p = and_parts (is_plain u.value) _ plain in (
       record { known = known_option s.rules options all u.name k.0; plain = p.0; fresh = fresh.0 },
       good_uses s again options all us (V ++ row_of_use u ∷ []) k.1 once.1 p.1 (fresh_more V (row_of_use u) us fresh.1 once.0),
     )
@@ -253,7 +254,7 @@ all_of_files (u ∷ us) files h =
 
 all_plain : (s : Shape) (r : IsReader s) (files : List Text) → list_all is_plain files ≡ true → AllPlain s r.again r.by_index r.by_id files
 all_plain s r [] h = tt
-all_plain s r (f ∷ fs) h = let p = and-parts (is_plain f) (list_all is_plain fs) h in (p.0, all_plain s r fs p.1)
+all_plain s r (f ∷ fs) h = let p = and_parts (is_plain f) (list_all is_plain fs) h in (p.0, all_plain s r fs p.1)
 
 -- ---- the words behind the command's name
 
@@ -304,12 +305,12 @@ module _ (name : CommandName)
       let walks = passes-append_at B.top (names_of B) (at [] None) (text_of name ∷ []) rest
       ∙ both_true _ _ first_passes (ap (λ w. walk_passes B.top (names_of B) w rest) first ∙ stop_passes B.top (names_of B) (text_of name) [] rest) in
       let ends : (settle_passes B.top.rules B.top.args_override_self
-              (stopped_at (text_of name) rest).held && (list_all default_passes B.top.rules && is_valid B.top
-                (finished B.top.rules (stopped_at (text_of name) rest).held) true)) ≡ true = refl in
+      (stopped_at (text_of name) rest).held && (list_all default_passes B.top.rules && is_valid B.top
+      (finished B.top.rules (stopped_at (text_of name) rest).held) true)) ≡ true = refl in
       let above : level_passes B.top (names_of B) nothing_held (text_of name ∷ rest) true ≡ true
       = both_true _ _ walks
-          (ap (λ w. settle_passes B.top.rules B.top.args_override_self
-              w.held && (list_all default_passes B.top.rules && is_valid B.top (finished B.top.rules w.held) true)) top_walk ∙ ends) in
+      (ap (λ w. settle_passes B.top.rules B.top.args_override_self
+      w.held && (list_all default_passes B.top.rules && is_valid B.top (finished B.top.rules w.held) true)) top_walk ∙ ends) in
       both_true _ _ below (ap (λ o. level_passes B.top (names_of B) nothing_held (text_of name ∷ rest) (is_some o)) entered_subcommand ∙ above)
 
   file_is_fresh : has_row (codes "FILE") (map row_of_use uses) ≡ false

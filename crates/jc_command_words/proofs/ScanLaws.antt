@@ -2,12 +2,12 @@
 use Rattle.std.proofs.Common.{◌≡◌, ◌∙◌, ap, ap₂, sym, subst, refl, ℕ, suc, ◌+◌, ◌<◌, ◌≤◌, Bool, true, false, not, ◌==◌, ◌&&◌, ◌||◌, List, [], ◌∷◌, ◌++◌, map, length, get_or, Option, Some, None, if◌then◌else◌, arith, append_assoc, option_map, true≢false}
 use Rattle.std.proofs.Common.{take, drop, slice_range, ◌-◌}
 use Rattle.std.proofs.Math.Seq.{take-append_seam, drop-append-add, drop-cons}
-use Rattle.jc_command_words.proofs.BoolLaws.{and-parts}
 use Rattle.std.specs.Borrow.{Bor}
 use Rattle.std.proofs.lemmas.List.{append-nil, drop_all, take_all, length-drop}
 use Rattle.std.proofs.lemmas.List.Sums.{split_at_first, passes_at_first}
 use Rattle.std.proofs.lemmas.Bool.Decides.{Decides-eqb}
 use Rattle.std.specs.List.{flat_map, list_any, list_all, before_first, after_first, position_or_len}
+use Rattle.std.proofs.lemmas.Bool.{and_parts, not-true}
 use Rattle.jc_command_words.specs.Words.{Use, Word, is_plain, use_words, tail_words, rest_words}
 use Rattle.jc_command_words.specs.Scan.{Scan, Kind, dashes, named, joined, other, added, body_kind, is_equals, kind_of_word, scan, scan_kind}
 
@@ -119,10 +119,6 @@ abbrev pub is_name : Word → Bool
 is_name [] = false
 is_name (x ∷ xs) = not (list_any is_equals (x ∷ xs))
 
-pub not-true : (b : Bool) → not b ≡ true → b ≡ false
-not-true true h = cc
-not-true false h = refl
-
 named_kind : (n : Word) → is_name n ≡ true → kind_of_word (45 ∷ 45 ∷ n) ≡ named n
 named_kind [] h = cc
 named_kind (x ∷ xs) h = rw (not-true _ h) refl
@@ -161,7 +157,7 @@ unfolding scan
 scan_finds [] true f fs names plain = refl
 scan_finds [] false f fs names plain = files_found f fs plain
 scan_finds (u ∷ us) dash f fs names plain =
-    let p = and-parts (is_name u.name) (list_all (λ u. is_name u.name) us) names in
+    let p = and_parts (is_name u.name) (list_all (λ u. is_name u.name) us) names in
     ap (scan None) (append_assoc (use_words u) (flat_map use_words us) (tail_words dash (f ∷ fs)))
     ∙ use_found u p.0 (rest_words us dash (f ∷ fs)) ∙ ap (added u) (scan_finds us dash f fs p.1 plain)
 

@@ -28,9 +28,14 @@ module _ (landed : Landed) (command : Command) (old : Outside) (f : Counts) wher
   ends_stopped (Some e) mid new g f' s (inl (same, came)) (inr (is, says)) =
       inl (record { end = e; stands = mid; came = came; is = is; says = subst (λ (c : Counts). SaysLast (message_of e) mid new c f') same says })
   ends_stopped (Some e) mid new g f' s (inr broke) (inl (is, kept, stay)) =
-      inr (inr (record { is = is;
-          far = inr (e, subst (λ (w : Outside). BrokeOff landed command old w f f' e) (sym stay)
-            (subst (λ (c : Counts). BrokeOff landed command old mid f c e) (sym kept) broke)) }))
+      inr (inr (record {
+        is = is;
+        far = inr (
+          e,
+          subst (λ (w : Outside). BrokeOff landed command old w f f' e) (sym stay)
+              (subst (λ (c : Counts). BrokeOff landed command old mid f c e) (sym kept) broke),
+        );
+      }))
   ends_stopped (Some e) mid new g f' s (inr broke) (inr (is, says)) =
       inr (inl (record { end = e; stands = mid; at = g; broke_off = broke; is = is; says = says }))
 

@@ -31,14 +31,14 @@ module _ {A : Type 0} (landed : Landed) (named : A → FileText) (xs : List A) w
     pub word_failed : (stop : Option End) → Stops landed (paths_of file) now mid g h stop → Stops landed (all_paths (map named xs)) old mid f h stop
     word_failed stop stopped =
         reached_stop landed (all_paths (map named xs)) old f (paths_of file)
-            (λ ps. all_paths (map named (drop (i + 1) xs)) >>= λ more. giving (ps ++ more)) (λ more. paths ++ more) now g at_word mid h stop stopped
+        (λ ps. all_paths (map named (drop (i + 1) xs)) >>= λ more. giving (ps ++ more)) (λ more. paths ++ more) now g at_word mid h stop stopped
 
     word_listed : (ps : List Word) → (h ≡ g) × CameTo landed (paths_of file) now mid (gives ps) → Lists (i + 1) old mid f h (paths ++ ps)
     word_listed ps (same, came) =
         reached_last landed (all_paths (map named xs)) old f (all_paths (map named (drop (i + 1) xs))) (λ more. ps ++ more) (λ more. paths ++ more) (λ more. (paths ++ ps) ++ more)
         (λ more. sym (append_assoc paths ps more)) mid h
         (reached_next landed (all_paths (map named xs)) old f (paths_of file)
-            (λ ps. all_paths (map named (drop (i + 1) xs)) >>= λ more. giving (ps ++ more)) (λ more. paths ++ more) now g at_word ps mid h same came)
+        (λ ps. all_paths (map named (drop (i + 1) xs)) >>= λ more. giving (ps ++ more)) (λ more. paths ++ more) now g at_word ps mid h same came)
 
     pub word_kept : (ps new : List Word) → new ≡ paths ++ ps → (h ≡ g) × CameTo landed (paths_of file) now mid (gives ps) → Lists (i + 1) old mid f h new
     word_kept ps new is_new came = subst (λ (l : List Word). Lists (i + 1) old mid f h l) (sym is_new) (word_listed ps came)

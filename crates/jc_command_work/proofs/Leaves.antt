@@ -83,8 +83,13 @@ module _ (landed : Landed) (k k' : Option FileMap) (out err : Option (List ℕ))
       steps = has_read path items ∷ [];
       comes = (refl, refl);
       begun = inr ([], has_read path items, refl, refl);
-      fit = (record { file = record { are_bytes = are; short = subst (λ (b : List ℕ). length b ≤ most_read) (sym is) short };
-          there = subst (λ (b : List ℕ). WhereTold k (λ m. get m path ≡ Some b)) (sym is) there }, tt);
+      fit = (
+        record {
+          file = record { are_bytes = are; short = subst (λ (b : List ℕ). length b ≤ most_read) (sym is) short };
+          there = subst (λ (b : List ℕ). WhereTold k (λ m. get m path ≡ Some b)) (sym is) there;
+        },
+        tt,
+      );
       stand = kept contents;
     },
   )
@@ -97,7 +102,7 @@ module _ (landed : Landed) (k k' : Option FileMap) (out err : Option (List ℕ))
       → Stops landed (reading path) (outside k out err) (outside k' out err) (counts r w outs errs) (counts r' w' outs errs) (Some (unread path))
   count_rose path rose contents writes =
       failed_first landed (reading path) (outside k out err) (outside k' out err) (counts r w outs errs) (counts r' w' outs errs) (to_read path) refl
-          (kept contents) (rose, ap (λ (n : ℕ). counts r' n outs errs) writes)
+      (kept contents) (rose, ap (λ (n : ℕ). counts r' n outs errs) writes)
 
   -- the path is missing or too large, as is told
   can't_read : (m : FileMap) (path : List ℕ) → k ≡ Some m → CantRead m path → r' ≡ r → k' ≡ k → w' ≡ w

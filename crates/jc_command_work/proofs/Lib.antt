@@ -9,7 +9,6 @@ pub mod NoFault
 pub mod AnsweredLaws
 pub mod NoWrites
 pub mod CauseLaws
-pub mod ListLaws
 pub mod FileLaws
 pub mod FolderLaws
 pub mod OnceLaws

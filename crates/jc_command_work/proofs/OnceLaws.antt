@@ -5,8 +5,8 @@ use Rattle.std.specs.Str.{bytes_eq}
 use Rattle.std.specs.String.{string_eq}
 use Rattle.std.specs.declared.alloc.Global.{Global}
 use Rattle.std.proofs.lemmas.List.{map-append}
-use Rattle.std.proofs.lemmas.Slice.Eq.{bytes_eq-Decides}
 use Rattle.indexmap.specs.IndexSet.{insert_key}
+use Rattle.jc_bytes.proofs.TextEqualLaws.{turned}
 use Rattle.jc_command_work.specs.Step.{Word}
 use Rattle.jc_command_work.specs.Seen.{words_of}
 use Rattle.jc_command_work.specs.Folders.{once}
@@ -22,15 +22,6 @@ kept_none all = record { seen = []; same = λ w. refl; is = refl }
 
 pub kept_all : (all kept : List Word) → Kept all [] kept → kept ≡ once [] all
 kept_all all kept so = sym (so.is ∙ append-nil kept)
-
-turned : (a b : Word) → bytes_eq a b ≡ bytes_eq b a
-turned a b = by (bytes_eq a b) (bytes_eq b a) refl refl
-  where
-    by : (x y : Bool) → bytes_eq a b ≡ x → bytes_eq b a ≡ y → x ≡ y
-    by true true p q = refl
-    by false false p q = refl
-    by true false p q = sym ((bytes_eq-Decides b a).1 (sym ((bytes_eq-Decides a b).0 p))) ∙ q
-    by false true p q = sym p ∙ (bytes_eq-Decides a b).1 (sym ((bytes_eq-Decides b a).0 q))
 
 any_more : (p : Word → Bool) (xs : List Word) (x : Word) → list_any p (xs ++ x ∷ []) ≡ (p x || list_any p xs)
 any_more p [] x = refl

@@ -1,7 +1,8 @@
 -- Where contents are told a command has exactly one work, and a run that is cut off made first steps of it.
-use Rattle.std.proofs.Common.{◌≡◌, ◌⊎◌, ◌<◌, ◌≤◌, ℕ, List, [], ◌∷◌, ◌++◌, length, Option, None, Some, inl, inr, refl, sym, ◌∙◌, ap, subst, append_assoc, arith, unwrap_or, option_map}
+use Rattle.std.proofs.Common.{◌≡◌, ◌⊎◌, ◌<◌, ◌≤◌, ℕ, List, [], ◌∷◌, ◌++◌, length, Option, None, Some, inl, inr, refl, sym, ◌∙◌, ap, subst, append_assoc, arith, option_map}
 use Rattle.std.proofs.lemmas.Bool.{cases_lt}
 use Rattle.std.specs.FinMap.{get, insert}
+use Rattle.std.proofs.lemmas.Option.{none-some, same_Some}
 use Rattle.jc_bytes.specs.ByteLists.{AreBytes}
 use Rattle.jc_bytes.specs.Reader.{most_read}
 use Rattle.jc_outside.specs.Outside.{IsListing, FileMap, IsLong}
@@ -174,9 +175,13 @@ module _ {X Y : Type 0} (landed : Landed) (p : Part X) (q : X → Part Y) (w : O
           (step, rest ++ next.steps, ap (λ (s : List Step). s ++ next.steps) whole ∙ append_assoc front (step ∷ rest) next.steps, called)
       on_way front call (inr h) fits =
           let g = goes_on front (wants call) h fits in
-          let (step, rest, whole, called) = next.on_way h.behind call g.1 g.2 in
-          (step, rest, ap (λ (s : List Step). way.steps ++ s) whole ∙ sym (append_assoc way.steps h.behind (step ∷ rest))
-              ∙ ap (λ (s : List Step). (s ++ h.behind) ++ step ∷ rest) (sym g.0) ∙ ap (λ (s : List Step). s ++ step ∷ rest) (sym h.parts), called)
+          let (step, rest, whole, called) = next.on_way h.behind call g.1 g.2 in (
+            step,
+            rest,
+            ap (λ (s : List Step). way.steps ++ s) whole ∙ sym (append_assoc way.steps h.behind (step ∷ rest))
+                ∙ ap (λ (s : List Step). (s ++ h.behind) ++ step ∷ rest) (sym g.0) ∙ ap (λ (s : List Step). s ++ step ∷ rest) (sym h.parts),
+            called,
+          )
 
   -- where the first part hands on a value, the second has one way from there
   pub one_then : ((x : X) → p way.steps (gives x) → OneWay landed (q x) (after landed w way.steps)) → OneWay landed (p >>= q) w
@@ -304,17 +309,11 @@ can_or_cannot m path = by (get m path) refl
         sized (inr short) (inl are) = inl (bytes, record { file = record { are_bytes = are; short = short }; there = is })
         sized (inr short) (inr none) = inr (inr (inr (subst IsNoFile (sym is) none)))
 
-some_is : {X : Type 0} (x y : X) → Some x ≡ Some y → x ≡ y
-some_is x y e = ap (λ (o : Option _). unwrap_or o x) e
-
-none_is : {X : Type 0} (x : X) → None ≡ Some x → ⊥
-none_is x e = cc
-
 one_text : (m : FileMap) (path a b : List ℕ) → IsRead (Some m) path a → IsRead (Some m) path b → a ≡ b
-one_text m path a b p q = some_is a b (sym p.there ∙ q.there)
+one_text m path a b p q = same_Some a b (sym p.there ∙ q.there)
 
 can_and_cannot : (m : FileMap) (path bytes : List ℕ) → IsRead (Some m) path bytes → CantRead m path → ⊥
-can_and_cannot m path bytes p (inl missing) = none_is bytes (sym missing ∙ p.there)
+can_and_cannot m path bytes p (inl missing) = none-some bytes (sym missing ∙ p.there)
 can_and_cannot m path bytes p (inr (inl long)) = let long' = subst IsLong p.there long in let short = p.file.short in omega (arith, long', short)
 can_and_cannot m path bytes p (inr (inr none)) = subst IsNoFile p.there none p.file.are_bytes
 

@@ -48,7 +48,7 @@ module _ (landed : Landed) (all : List (List ℕ)) (old now mid : Outside) (f g 
       → Reached landed (reading_all all) (reading_all rest) (λ more. (texts ++ text ∷ []) ++ more) old mid f h
   reached_text so same came =
       reached_last landed (reading_all all) old f (reading_all rest) (λ more. text ∷ more) (λ more. texts ++ more)
-          (λ more. (texts ++ text ∷ []) ++ more) (λ more. sym (append_assoc texts (text ∷ []) more)) mid h
+      (λ more. (texts ++ text ∷ []) ++ more) (λ more. sym (append_assoc texts (text ∷ []) more)) mid h
       (reached_next landed (reading_all all) old f (reading path) (λ t. reading_all rest >>= λ more. giving (t ∷ more)) (λ more. texts ++ more) now g so text mid h same came)
 
   pub reached_no_text : Reached landed (reading_all all) (reading_all (path ∷ rest)) (λ more. texts ++ more) old now f g → (stop : Option End) → Stops landed (reading path) now mid g h stop

@@ -55,8 +55,13 @@ module _ (bodies : List Body) (values : List (List (List Bool))) where
     pub told : covered ++ covered_methods_lines (left k) ≡ covered_methods_lines (those bodies values)
 
   pub begun : Counting 0
-      (record { instruction = record { missed = 0; covered = 0 }; branch = record { missed = 0; covered = 0 }; complexity =
-          record { missed = 0; covered = 0 }; method = record { missed = 0; covered = 0 } }) [] []
+      (record {
+        instruction = record { missed = 0; covered = 0 };
+        branch = record { missed = 0; covered = 0 };
+        complexity =
+            record { missed = 0; covered = 0 };
+        method = record { missed = 0; covered = 0 };
+      }) [] []
   begun = record { summed = plus_none (methods_sums (those bodies values)); lined = refl; told = refl }
 
   module _ (k : ℕ) (b : Body) (insns : List (List Bool)) (lt : k < length bodies) (lv : k < length values) (is : b ≡ get_or bodies k b) (iv : insns ≡ get_or values k insns) where

@@ -35,11 +35,11 @@ tells bodies hits = record { shape = shaped bodies hits 0 bodies; values = value
         let body_is : slice_get (map_from (class_values bodies hits) 0 bodies) n ≡ Some (class_values bodies hits n b) = made_of (class_values bodies hits) bodies n b h in
         let insn_is : slice_get (values_by b first hits marks) i ≡ Some (insn_values b first hits marks i insn) = made_of (insn_values b first hits marks) b.code i insn g in
         let value_is : slice_get (map (covers b first hits marks) (branches_of i insn)) k ≡ Some (covers b first hits marks x) =
-                slice_get-map (covers b first hits marks) (branches_of i insn) k ∙ ap (option_map (covers b first hits marks)) l in
+        slice_get-map (covers b first hits marks) (branches_of i insn) k ∙ ap (option_map (covers b first hits marks)) l in
         let z : i ≡ 0 + i = sym (zero-add i) in
         let listed : Contains (branches b.code) x =
-                lists_from branches_of 0 b.code x
-                (record { place = i; item = insn; stands = g; listed = subst (λ j. Contains (branches_of j insn) x) z (stands_in (branches_of i insn) k x l) }) in (
+        lists_from branches_of 0 b.code x
+        (record { place = i; item = insn; stands = g; listed = subst (λ j. Contains (branches_of j insn) x) z (stands_in (branches_of i insn) k x l) }) in (
           covers b first hits marks x,
           ap (option_and_then (λ values. slice_get values k)) (ap (option_and_then (λ insns. slice_get insns i)) body_is ∙ insn_is)
               ∙ value_is,

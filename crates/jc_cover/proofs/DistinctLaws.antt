@@ -68,7 +68,7 @@ covered_told (l ∷ insns) n = by l.covered (covered_told insns n)
   where
     by : (t : Bool) → is_covered_line insns n ≡ list_any (nat_eq n) (covered_numbers insns)
         → ((nat_eq l.number n && t) || is_covered_line insns n) ≡ list_any (nat_eq n)
-            (map (λ (k : Lined). k.number) (cond t (l ∷ filter (λ (k : Lined). k.covered) insns) (filter (λ (k : Lined). k.covered) insns)))
+        (map (λ (k : Lined). k.number) (cond t (l ∷ filter (λ (k : Lined). k.covered) insns) (filter (λ (k : Lined). k.covered) insns)))
     by true h = ap₂ (λ (s t : Bool). s || t) (and_true (nat_eq l.number n) ∙ nat_eq_equiv.symm l.number n) h
       where
         and_true : (s : Bool) → (s && true) ≡ s

@@ -244,7 +244,7 @@ module _ (b : Body) (first : ℕ) (hits : List Bool) where
           let lt = slice_get_within b.code i insn stands in
           let few : unmarked marks ≤ count = subst (λ n. unmarked marks ≤ n) good.size (unmarked_within marks) in
           let m = marks_back count i marks lt good.size good.sound
-                  (λ j at k h. ⊎_elim (λ old. inl old) (λ none. absurd (none-some at none)) (good.closed j at k h)) (hit_is_covered i insn stands e) few in
+          (λ j at k h. ⊎_elim (λ old. inl old) (λ none. absurd (none-some at none)) (good.closed j at k h)) (hit_is_covered i insn stands e) few in
           ahead again true (mark_back from count i marks) e m.after (λ t. m.here)
       by again false e = ahead again false marks e (record { good = good; kept = λ j m. m }) (λ t. absurd (both_ways false refl t))
 
@@ -276,7 +276,7 @@ module _ (b : Body) (first : ℕ) (hits : List Bool) where
       let s = standing b.code x c.0 in
       let z : 0 + x.at ≡ x.at = zero-add x.at in
       let hit : is_hit_at b first hits x.at s.insn ≡ true = (one_passes (has_hit b first hits) (branches_of x.at s.insn)).back
-              (x, s.listed, and_from (is_probed b x) (is_hit hits (id_of b first x)) c.1.0 c.1.1) in
+      (x, s.listed, and_from (is_probed b x) (is_hit hits (id_of b first x)) c.1.0 c.1.1) in
       subst (Marked marks) z (done.hit x.at s.insn s.stands (subst (λ j. is_hit_at b first hits j s.insn ≡ true) (sym z) hit))
   all_marked x (y ∷ rest) c =
       let next = all_marked y rest c.2 in

@@ -44,13 +44,22 @@ module _ (b : Body) where
 
   tabled : (xs : List Branch) (table : List (Option ℕ)) (t : ℕ) → t < length table
       → ((at : ℕ) × ComesFrom xs t at × (get_or (with_edges b xs table) t None ≡ Some at))
-          ⊎ (((x : Branch) → Contains xs x → is_probed b x ≡ false → LeadsTo x t → ⊥) × (get_or (with_edges b xs table) t None ≡ get_or table t None))
+      ⊎ (((x : Branch) → Contains xs x → is_probed b x ≡ false → LeadsTo x t → ⊥) × (get_or (with_edges b xs table) t None ≡ get_or table t None))
   tabled [] table t lt = inr ((λ x c p l. none_in x c), refl)
   tabled (x ∷ xs) table t lt =
       ⊎_elim
       (λ found. let more = found.1 in
-          inl (found.0, record { edge = more.edge; listed = later_in x xs more.edge more.listed; unprobed = more.unprobed; leads = more.leads;
-              begins = more.begins }, found.2))
+      inl (
+        found.0,
+        record {
+          edge = more.edge;
+          listed = later_in x xs more.edge more.listed;
+          unprobed = more.unprobed;
+          leads = more.leads;
+          begins = more.begins;
+        },
+        found.2,
+      ))
       (λ none.
       ⊎_elim
       (λ here. inl (x.at, record { edge = x; listed = first_in x xs; unprobed = here.0; leads = here.1; begins = refl }, none.1 ∙ here.2))

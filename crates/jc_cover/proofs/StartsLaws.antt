@@ -44,11 +44,15 @@ started (l ∷ lines) table i lt = by (started lines (set table l.at (Some l.lin
   where
     here : NoneAt lines i → get_or (with_lines lines (set table l.at (Some l.line))) i None ≡ get_or (set table l.at (Some l.line)) i None
         → ((number : ℕ) × StartsAt (l ∷ lines) i number × (get_or (with_lines (l ∷ lines) table) i None ≡ Some number))
-            ⊎ (NoneAt (l ∷ lines) i × (get_or (with_lines (l ∷ lines) table) i None ≡ get_or table i None))
+        ⊎ (NoneAt (l ∷ lines) i × (get_or (with_lines (l ∷ lines) table) i None ≡ get_or table i None))
     here none e =
         ⊎_elim
-        (λ same. inl (l.line, record { place = 0; line = l; listed = refl; here = same; is = refl; last = only }, e
-            ∙ ap (λ k. get_or (set table k (Some l.line)) i None) same ∙ get_or-set_same table i (Some l.line) None lt))
+        (λ same. inl (
+          l.line,
+          record { place = 0; line = l; listed = refl; here = same; is = refl; last = only },
+          e
+              ∙ ap (λ k. get_or (set table k (Some l.line)) i None) same ∙ get_or-set_same table i (Some l.line) None lt,
+        ))
         (λ apart. inr (nowhere (λ f. differ apart f), e ∙ get_or-set_other table l.at i (Some l.line) None (λ f. differ apart (sym f))))
         (cases_order l.at i)
       where
@@ -67,7 +71,7 @@ started (l ∷ lines) table i lt = by (started lines (set table l.at (Some l.lin
     by : ((number : ℕ) × StartsAt lines i number × (get_or (with_lines lines (set table l.at (Some l.line))) i None ≡ Some number))
         ⊎ (NoneAt lines i × (get_or (with_lines lines (set table l.at (Some l.line))) i None ≡ get_or (set table l.at (Some l.line)) i None))
         → ((number : ℕ) × StartsAt (l ∷ lines) i number × (get_or (with_lines (l ∷ lines) table) i None ≡ Some number))
-            ⊎ (NoneAt (l ∷ lines) i × (get_or (with_lines (l ∷ lines) table) i None ≡ get_or table i None))
+        ⊎ (NoneAt (l ∷ lines) i × (get_or (with_lines (l ∷ lines) table) i None ≡ get_or table i None))
     by (inl found) = inl (found.0, later l lines i found.0 found.1, found.2)
     by (inr none) = here none.0 none.1
 
@@ -132,7 +136,7 @@ pub line_carried : (lines : List LineAt) (count n : ℕ) (start line : Option �
     → first_of start line ≡ line_of lines n
 line_carried lines count n start line lt read carried =
     one_line lines n (first_of start line) (line_of lines n)
-        (by (started lines (replicate count None) n (subst (λ k. n < k) (sym (length-replicate {A = Option ℕ} count None)) lt))) (line_found lines n)
+    (by (started lines (replicate count None) n (subst (λ k. n < k) (sym (length-replicate {A = Option ℕ} count None)) lt))) (line_found lines n)
   where
     is : start ≡ get_or (with_lines lines (replicate count None)) n None
     is = read ∙ get_or_default (with_lines lines (replicate count None)) n start None (subst (λ k. n < k) (sym (starts_size lines count)) lt)
@@ -164,7 +168,7 @@ lining_begun table insns all covered = record { lined = sym (append-nil all); kn
 pub lining_more : (table : List LineAt) (insns : List (List Bool)) (at : ℕ) (values : List Bool) (all covered now told next known : List ℕ) (start line line' : Option ℕ) (t : Bool)
     → at < length insns → values ≡ get_or insns at values → start ≡ get_or (with_lines table (replicate (length insns) None)) at start → line' ≡ first_of start line → t ≡ is_covered values
     → next ≡ now ++ option_to_list line' → known ≡ told ++ option_to_list (cond t line' None) → Lining table insns at all covered now told line
-        → Lining table insns (at + 1) all covered next known line'
+    → Lining table insns (at + 1) all covered next known line'
 lining_more table insns at values all covered now told next known start line line' t lt is read first test put put' l =
     let e : line' ≡ line_of table at = first ∙ line_carried table (length insns) at start line lt read l.carried in
     record {

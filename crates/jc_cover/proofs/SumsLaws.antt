@@ -76,7 +76,7 @@ any_counted p (x ∷ xs) = ap (nat_lt 0) (count_cons p x xs) ∙ by (p x) (any_c
 module _ where
   branch_cons : (v : List Bool) (insns : List (List Bool))
       → count_of (λ (value : Bool). value) (flat_map (λ values. values) (branching (v ∷ insns))) ≡ plus_count (branch_values v)
-          (count_of (λ (value : Bool). value) (flat_map (λ values. values) (branching insns)))
+      (count_of (λ (value : Bool). value) (flat_map (λ values. values) (branching insns)))
   branch_cons v insns = by (nat_le 2 (length v))
     where
       rest : List Bool
@@ -248,7 +248,7 @@ small_insns insns lt =
 -- an instruction has fewer branches than the method has instructions and branches
 pub few_values : (insns : List (List Bool)) (k : ℕ) (values : List Bool) → k < length insns → values ≡ get_or insns k values → length values < insns_weight insns
 few_values insns k values lt is = let le : length values ≤ sum_by length insns = subst (λ (v : List Bool). length v ≤ sum_by length insns) (sym is)
-                                          (get_or-le-sum_by length insns k values lt) in omega (arith, le)
+    (get_or-le-sum_by length insns k values lt) in omega (arith, le)
 
 -- ---- on the way
 
@@ -265,7 +265,7 @@ pub insn_small : (insns : List (List Bool)) (k : ℕ) (values : List Bool) (sums
     → plus sums (insns_sums (drop k insns)) ≡ insns_sums insns → AreSmall (plus sums (insn_sums values))
 insn_small insns k values sums few lt is before =
     part_small (plus sums (insn_sums values)) (insns_sums (drop (k + 1) insns)) (insns_sums insns)
-        (insn_more insns k values sums (plus sums (insn_sums values)) lt is refl before) (small_insns insns few)
+    (insn_more insns k values sums (plus sums (insn_sums values)) lt is refl before) (small_insns insns few)
 
 pub all_insns_put : (insns : List (List Bool)) (k : ℕ) (sums : Sums) → length insns ≤ k → plus sums (insns_sums (drop k insns)) ≡ insns_sums insns → sums ≡ insns_sums insns
 all_insns_put insns k sums le before = sym (ap (λ (l : List (List Bool)). plus sums (insns_sums l)) (drop_all k insns le) ∙ plus_end sums) ∙ before

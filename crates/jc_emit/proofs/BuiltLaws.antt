@@ -195,7 +195,7 @@ module _ (b : Body) (first : ℕ) (wide : Bool) where
       → image_place (map own_of (seg i)) 0 ≡ probe_size (lead_probe b first i) + (probe_size (early_probe b first i) + 0)
   image_within i =
       behind_plain (lead_part (lead_probe b first i) i)
-          (early_part (early_probe b first i) i ++ main i (flow_of (old i))) _ (plain_lead (lead_probe b first i) i) (length-lead (lead_probe b first i) i)
+      (early_part (early_probe b first i) i ++ main i (flow_of (old i))) _ (plain_lead (lead_probe b first i) i) (length-lead (lead_probe b first i) i)
       ∙ ap (λ k. probe_size (lead_probe b first i) + k)
       (behind_plain (early_part (early_probe b first i) i) (main i (flow_of (old i))) _ (plain_early (early_probe b first i) i) (length-early (early_probe b first i) i)
       ∙ ap (λ k. probe_size (early_probe b first i) + k) (first_main i (flow_of (old i))))

@@ -1,6 +1,6 @@
 -- What conditional jumps, goto and switches do to types: they take operands, and leave local variables alone.
 use Rattle.std.proofs.Common.{◌≡◌, ◌⊎◌, inl, inr, ⊎_elim, ℕ, ◌-◌, ◌<◌, Bool, true, false, cond, not, ◌&&◌, ◌||◌, List, [], ◌∷◌, length, map, take, Option, Some, nat_eq, nat_le, refl, sym, ap, ◌∙◌, subst, arith}
-use Rattle.std.proofs.lemmas.Bool.{cases_lt, eqb-true, leb-true, agree_below_at, cond-true, and_from, not_from_false}
+use Rattle.std.proofs.lemmas.Bool.{cases_lt, eqb-true, leb-true, agree_below_at, cond-true, and_from, not_from_false, and_parts, or_cases}
 use Rattle.std.proofs.lemmas.List.{take-map, length-map}
 use Rattle.jc_methods.specs.InsnForm.{form_of}
 use Rattle.jc_methods.proofs.InsnFormLaws.{unknown_beyond}
@@ -117,14 +117,6 @@ nulls_take = (
   record { wanted = wants.Anything ∷ []; forms_are = refl; count = refl },
   (record { wanted = wants.Anything ∷ []; forms_are = refl; count = refl }, tt),
 )
-
-or_cases : (a b : Bool) → (a || b) ≡ true → (a ≡ true) ⊎ (b ≡ true)
-or_cases true b h = inl refl
-or_cases false b h = inr h
-
-and_parts : (a b : Bool) → (a && b) ≡ true → (a ≡ true) × (b ≡ true)
-and_parts true b h = (refl, h)
-and_parts false b h = cc
 
 test_takes : (op : ℕ) → is_conditional_branch op ≡ true → Takes op
 test_takes op test = ⊎_elim

@@ -3,7 +3,6 @@ use Rattle.std.proofs.Common.{◌≡◌, ℕ, ◌+◌, ◌≤◌, Bool, true, fa
 use Rattle.std.specs.Prelude.{All}
 use Rattle.std.specs.List.{list_any}
 use Rattle.std.specs.Str.{bytes_eq}
-use Rattle.std.proofs.lemmas.List.{append-nil}
 use Rattle.std.proofs.lemmas.Option.{slice_get-get_or}
 use Rattle.jc_methods.specs.VerificationTypes.{Names, Grows}
 use Rattle.jc_bytes.specs.Names.{with_name}
@@ -14,6 +13,7 @@ use Rattle.jc_bytes.specs.PlainLists.{pieces}
 use Rattle.jc_methods.specs.WellMade.{IsCode, IsState, IsWellMadeOfAnySize}
 use Rattle.jc_methods.specs.declared.emitted.Emitted.{Emitted}
 use Rattle.jc_methods.specs.declared.plan.Plan.{Plan}
+use Rattle.jc_methods.proofs.MetNamesLaws.{grows_none}
 use Rattle.jc_plan.specs.Plan.{plan_of}
 use Rattle.jc_emit.specs.declared.frames.Framing.{Framing}
 use Rattle.jc_emit.specs.declared.places.Places.{Places}
@@ -23,11 +23,8 @@ use Rattle.jc_emit.specs.Emission.{frames_at, wide_frames_at, emission}
 use Rattle.jc_emit.specs.Placing.{ArePlaces}
 use Rattle.jc_emit.specs.Framing.{ArePut, AreFramed, IsFraming}
 
-pub grows_not : (names : Names) → Grows names names
-grows_not names = ([], sym (append-nil names))
-
 grows_by : (t : Bool) (names : Names) (name : List ℕ) → Grows names (cond t names (names ++ name ∷ []))
-grows_by true names name = grows_not names
+grows_by true names name = grows_none names
 grows_by false names name = (name ∷ [], refl)
 
 pub grows_one : (names new : Names) (name : List ℕ) → new ≡ with_name names name → Grows names new

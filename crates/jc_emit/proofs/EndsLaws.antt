@@ -63,9 +63,9 @@ module _ (b : Body) (first : ℕ) (wide : Bool) (is_code : IsCode b.code) where
   size_past : (k : ℕ) → segment_size b first wide (n + k) ≡ 1
   size_past k =
       ap₂ (λ o insn. probe_size
-          o + (probe_size (early_by (probe_of b first) (n + k) insn
-              (flow_of insn)) + (1 + (wide_by (flow_of insn) wide + hop_size (late_by (probe_of b first) (n + k) insn (flow_of insn)) + arm_sizes
-                (probe_of b first) (arms_by (n + k) insn (flow_of insn))))))
+      o + (probe_size (early_by (probe_of b first) (n + k) insn
+      (flow_of insn)) + (1 + (wide_by (flow_of insn) wide + hop_size (late_by (probe_of b first) (n + k) insn (flow_of insn)) + arm_sizes
+      (probe_of b first) (arms_by (n + k) insn (flow_of insn))))))
       (lead_none k) (insn_past k)
 
   pub lead_past : (k : ℕ) → lead_of b first wide (n + k) ≡ lead_of b first wide n + k

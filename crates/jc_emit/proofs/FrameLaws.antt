@@ -33,6 +33,7 @@ use Rattle.jc_emit.proofs.FrameListsLaws.{Rises, rises_from, rises_to, rises_bot
 use Rattle.jc_methods.specs.declared.insn.Flow.TheVariants as flows
 use Rattle.jc_methods.specs.declared.kind.Kind.TheVariants as kinds
 use Rattle.jc_bytes.proofs.BooleanLaws.{none_in, which_in, first_in, later_in}
+use Rattle.jc_bytes.proofs.OptionLaws.{some_there}
 
 -- ---- states
 
@@ -77,10 +78,6 @@ frame_tested (f ∷ frames) i g c e =
     ⊎_elim (λ same. or_left (nat_eq f.at i) (list_any (λ x. nat_eq x.at i) frames) (eq-eqb f.at i (ap (λ x. x.at) same ∙ e)))
     (λ later. or_right (nat_eq f.at i) (list_any (λ x. nat_eq x.at i) frames) (frame_tested frames i g later e))
     (which_in f frames g c)
-
-some_is : {X : Type 0} (o : Option X) → is_some o ≡ true → (x : X) × (o ≡ Some x)
-some_is None h = absurd cc
-some_is (Some x) h = (x, refl)
 
 pub none_is : {X : Type 0} (o : Option X) → is_none o ≡ true → o ≡ None
 none_is None h = refl
@@ -130,7 +127,7 @@ module _ (b : Body) (first : ℕ) (states : List State) (array : ℕ) (names : L
       rises_both here (here + hop_size (probe_of b first x)) (here + (hop_size (probe_of b first x) + arm_sizes (probe_of b first) xs)) (arm_frame b first states array here s (probe_of b first x)) _
       (single (probe_of b first x))
       (rises_to (here + hop_size (probe_of b first x)) (here + hop_size (probe_of b first x) + arm_sizes (probe_of b first) xs) _ _ (omega arith)
-          (arms_rise (here + hop_size (probe_of b first x)) s xs))
+      (arms_rise (here + hop_size (probe_of b first x)) s xs))
     where
       single : (o : Option ℕ) → Rises here (here + hop_size o) (arm_frame b first states array here s o)
       single None = omega arith
@@ -141,7 +138,7 @@ module _ (b : Body) (first : ℕ) (states : List State) (array : ℕ) (names : L
       rises_both (lead i) (land i) (lead (suc i)) (lead_frames i) _
       (rises_if (leads_there i) (frame (lead i) (moved (state_at states i))) (lead i) (land i)
       (λ t.
-      let o = some_is (lead_probe b first i) (and_parts (has_inverse b first states array i) (is_some (lead_probe b first i)) t).1 in
+      let o = some_there (lead_probe b first i) (and_parts (has_inverse b first states array i) (is_some (lead_probe b first i)) t).1 in
       let far = ap probe_size o.1 in
       (omega arith, omega (arith, far)))
       (omega arith))
@@ -167,7 +164,7 @@ module _ (b : Body) (first : ℕ) (states : List State) (array : ℕ) (names : L
   inverse_asked : (i : ℕ) → i < length b.code → has_inverse b first states array i ≡ true → Asked (lead i) (state_at states i)
   inverse_asked zero lt h = absurd cc
   inverse_asked (suc j) lt h =
-      let o = some_is (late_probe b first j) h in
+      let o = some_there (late_probe b first j) h in
       let up = add-one j in
       inr (inl (record { test = j; id = o.0; within = omega arith; probed = o.1; place = sym (ap lead up); state_is = sym (ap (state_at states) up) }))
 
@@ -205,7 +202,7 @@ module _ (b : Body) (first : ℕ) (states : List State) (array : ℕ) (names : L
   arms_good i lt here (x ∷ xs) arms a listed f c =
       ⊎_elim (λ front. single (probe_of b first x) refl front)
       (λ rest. arms_good i lt (here + hop_size (probe_of b first x)) xs arms.3
-          (agrees_rest (probe_of b first) (land_of b first false) (whole i) here x xs arms.0 a) (λ y d. listed y (later_in x xs y d)) f rest)
+      (agrees_rest (probe_of b first) (land_of b first false) (whole i) here x xs arms.0 a) (λ y d. listed y (later_in x xs y d)) f rest)
       (Contains-append_cases (arm_frame b first states array here (moved (left i)) (probe_of b first x)) _ f c)
     where
       single : (o : Option ℕ) → probe_of b first x ≡ o → Contains (arm_frame b first states array here (moved (left i)) o) f → IsGood f
@@ -248,12 +245,12 @@ module _ (b : Body) (first : ℕ) (states : List State) (array : ℕ) (names : L
           let place : land i ≡ lead i = let z = ap probe_size none in omega (arith, z) in
           subst (λ q. IsThere q (state_at states i)) place
           (landing i lt (or_right (has_frame b first states array i) (has_inverse b first states array i && is_none (lead_probe b first i))
-              (and_from (has_inverse b first states array i) (is_none (lead_probe b first i)) inverse (ap is_none none))))
+          (and_from (has_inverse b first states array i) (is_none (lead_probe b first i)) inverse (ap is_none none))))
       by (Some id) some =
           there i (frame (lead i) (moved (state_at states i))) (state_at states i) lt
           (Contains-append_left
-              (lead_frames i) _ _ (listed_if (leads_there i) (frame (lead i) (moved (state_at states i)))
-                (and_from (has_inverse b first states array i) (is_some (lead_probe b first i)) inverse (ap is_some some)))) refl
+          (lead_frames i) _ _ (listed_if (leads_there i) (frame (lead i) (moved (state_at states i)))
+          (and_from (has_inverse b first states array i) (is_some (lead_probe b first i)) inverse (ap is_some some)))) refl
 
   late_tests : (i id : ℕ) → late_probe b first i ≡ Some id → flow_of (insn_at b.code i) ≡ flows.Branches
   late_tests i id e = by (flow_of (insn_at b.code i)) e
@@ -288,7 +285,7 @@ module _ (b : Body) (first : ℕ) (states : List State) (array : ℕ) (names : L
   every_there q s (inl o) =
       let lt = frame_within 0 b.code b.max_locals b.max_stack b.frames are_frames o.frame o.listed in
       let t = or_left (has_frame b first states array o.frame.at)
-              (has_inverse b first states array o.frame.at && is_none (lead_probe b first o.frame.at)) (frame_tested b.frames o.frame.at o.frame o.listed refl) in
+      (has_inverse b first states array o.frame.at && is_none (lead_probe b first o.frame.at)) (frame_tested b.frames o.frame.at o.frame o.listed refl) in
       let here = landing o.frame.at lt t in
       let state : state_at states o.frame.at ≡ s = fit o.frame o.listed ∙ sym o.state_is in
       subst (λ z. IsThere q z) state (subst (λ k. IsThere k (state_at states o.frame.at)) (sym o.place) here)

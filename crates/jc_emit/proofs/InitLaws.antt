@@ -15,10 +15,11 @@ use Rattle.jc_kinds_after.proofs.ApplyLaws.{after_is}
 use Rattle.jc_kinds.specs.States.{frames_of, frame_at, state_of, after_at}
 use Rattle.jc_kinds.specs.Fits.{FitState, FitsThere}
 use Rattle.jc_kinds.specs.Checked.{Checked, LeadsTo, HasFrame, IsHandlerTarget, NeedsFrame, IsMissing}
+use Rattle.jc_kinds.proofs.WalkLaws.{state_itself}
 use Rattle.jc_bytes.proofs.BooleanLaws.{which_in, none_in, first_in}
 use Rattle.jc_emit.specs.Marks.{push}
 use Rattle.jc_emit.proofs.PlacedLaws.{no_targets}
-use Rattle.jc_emit.proofs.TwinStatesLaws.{push_is, state_fits_same, first_state, frame_state_is, next_state, after_there, fit_there}
+use Rattle.jc_emit.proofs.TwinStatesLaws.{push_is, first_state, frame_state_is, next_state, after_there, fit_there}
 use Rattle.jc_methods.specs.ProbeMembers.{data_name, data_type, init_type, runtime_class, fetch_name, fetch_type}
 use Rattle.jc_emit.specs.Added.{init_code, init_frame, IsInitBody}
 use Rattle.jc_methods.specs.declared.insn.Insn.TheVariants as insns
@@ -224,7 +225,7 @@ module _ (names : Names) (class : List ℕ) (id : ℤ) (count : ℕ) (b : Body) 
     state_is = before;
     after = t;
     after_is = after;
-    next = λ falls. fit_there (N (q + 1)) t t behind (state_fits_same t);
+    next = λ falls. fit_there (N (q + 1)) t t behind (state_itself t);
     stops = λ halts. absurd (halts (inl flow));
     jumps = λ r c. absurd (none_in r (subst (λ l. Contains l r) none c));
   }
@@ -237,11 +238,11 @@ module _ (names : Names) (class : List ℕ) (id : ℤ) (count : ℕ) (b : Body) 
     state_is = s2;
     after = on A;
     after_is = a2;
-    next = λ falls. fit_there (N 3) (on A) (on A) s3 (state_fits_same (on A));
+    next = λ falls. fit_there (N 3) (on A) (on A) s3 (state_itself (on A));
     stops = λ halts. absurd (halts (inr refl));
     jumps = λ r c. ⊎_elim
         (λ same. subst (λ k. HasFrame b k × FitsThere (Some (on A)) (N k)) same
-          (has_end, fit_there (N 10) (on A) (on A) s10 (state_fits_same (on A)))) (λ more. absurd (none_in r more)) (which_in 10 ([]) r c);
+        (has_end, fit_there (N 10) (on A) (on A) s10 (state_itself (on A)))) (λ more. absurd (none_in r more)) (which_in 10 ([]) r c);
   }
 
   code_long : length b.code ≡ 11
@@ -284,7 +285,7 @@ module _ (names : Names) (class : List ℕ) (id : ℤ) (count : ℕ) (b : Body) 
 
   pub init_checked : Checked names b
   init_checked =
-      sound_checked names b all_sound i.handlers (fit_there (N 0) (entry_of b) (on []) s0 (subst (λ s. FitState s (on [])) (sym entry_is) (state_fits_same (on []))))
+      sound_checked names b all_sound i.handlers (fit_there (N 0) (entry_of b) (on []) s0 (subst (λ s. FitState s (on [])) (sym entry_is) (state_itself (on []))))
 
 pub verified : (names : List (List ℕ)) (class : List ℕ) (id : ℤ) (count : ℕ) (b : Body) → IsInitBody names class id count b
     → Checked names b

@@ -141,9 +141,13 @@ module _ (b : Body) (first : ℕ) (wide : Bool) (call : ℕ) (code : List Insn) 
   probe_here : (q id at : ℕ) (late : Bool) → IsProbe code m b.arg_slots q id at → Each Here q (probe id at late)
   probe_here q id at late p =
       let two : q + 2 ≡ q + 1 + 1 = omega arith in
-      let three : q + 3 ≡ q + 1 + 1 + 1 = omega arith in
-      (p.array, (subst (λ insn. HasInsn code m (q + 1) insn at false 1) p.pushes p.number,
-          (subst (λ k. HasInsn code m k iconst_1 at false 2) two p.one, (subst (λ k. HasInsn code m k bastore at false 3) three p.store, tt))))
+      let three : q + 3 ≡ q + 1 + 1 + 1 = omega arith in (
+        p.array,
+        (
+          subst (λ insn. HasInsn code m (q + 1) insn at false 1) p.pushes p.number,
+          (subst (λ k. HasInsn code m k iconst_1 at false 2) two p.one, (subst (λ k. HasInsn code m k bastore at false 3) three p.store, tt)),
+        ),
+      )
 
   lead_part_here : (q i : ℕ) (o : Option ℕ) → ((id : ℕ) → o ≡ Some id → IsProbe code m b.arg_slots q id i) → Each Here q (lead_part o i)
   lead_part_here q i None h = tt

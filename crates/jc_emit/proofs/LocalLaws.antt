@@ -17,7 +17,6 @@ use Rattle.jc_plan.specs.Edges.{place_of, sequence, jump, branches_by}
 use Rattle.jc_plan.specs.Probed.{probe_of}
 use Rattle.jc_plan.specs.Plan.{lead_probe}
 use Rattle.jc_bytes.proofs.FirstSeenLaws.{first_seen_listed}
-use Rattle.jc_plan.proofs.ListedLaws.{all_listed}
 use Rattle.jc_plan.proofs.ByBranchLaws.{last_parts}
 use Rattle.jc_emit.specs.Sizes.{insn_at, early_by, early_probe, late_by, late_probe, arms_at, probe_size, hop_size, wide_by, behind_size}
 use Rattle.jc_methods.specs.Widened.{inverted}
@@ -33,6 +32,7 @@ use Rattle.jc_methods.specs.declared.insn.Insn.TheVariants as insns
 use Rattle.jc_methods.specs.declared.insn.Flow.TheVariants as flows
 use Rattle.jc_methods.proofs.PlacedInsnLaws.{simple_is_no_test}
 use Rattle.jc_bytes.proofs.BooleanLaws.{none_in, which_in, first_in, later_in}
+use Rattle.jc_bytes.proofs.ListLaws.{each_in}
 
 -- ---- conditional jumps
 
@@ -309,8 +309,8 @@ module _ (b : Body) (first : ℕ) (wide : Bool) (is_code : IsCode b.code) where
   pub listed_within : (i : ℕ) → i < length b.code → (x : Branch) → Contains (branches_by flows.Switches i (targets_of (old i))) x
       → to_of x < length b.code
   listed_within i lt x c =
-      all_listed (λ to. to < length b.code) (targets_of (old i)) (to_of x) (is_code.places i (insns.Simple 0) lt)
-          (first_seen_listed (targets_of (old i)) (to_of x) (arm_listed i 0 (first_seen (targets_of (old i))) x c))
+      each_in (λ to. to < length b.code) (targets_of (old i)) (to_of x) (is_code.places i (insns.Simple 0) lt)
+      (first_seen_listed (targets_of (old i)) (to_of x) (arm_listed i 0 (first_seen (targets_of (old i))) x c))
 
   arm_lands : (here : ℕ) (x : Branch) (o : Option ℕ) → HasAt items here (hop_part land o (to_of x)) → to_of x < length b.code
       → In (here_or o here (land (to_of x))) (to_of x) o
@@ -385,8 +385,12 @@ module _ (b : Body) (first : ℕ) (wide : Bool) (is_code : IsCode b.code) where
       let within = target_within i lt (tests_target (old i) e) in
       let next = next_lands i (q_of i + 1) lt (inr e) (omega (arith, size)) in
       let alike : Alike i (with_places land (old i)) =
-              record { target = land to; same = one_place (old i) land (tests_target (old i) e) (inr e);
-                jumped = subst (In (land to) to) (sym (late_is i None e none)) (land_lands to within); fell = next.stands } in
+      record {
+        target = land to;
+        same = one_place (old i) land (tests_target (old i) e) (inr e);
+        jumped = subst (In (land to) to) (sym (late_is i None e none)) (land_lands to within);
+        fell = next.stands;
+      } in
       (image_fine (q_of i) i _ None flows.Branches lt e refl (inl alike), tt)
   plain_fine true i lt e none size h =
       let to = jump_target (old i) in
@@ -444,8 +448,11 @@ module _ (b : Body) (first : ℕ) (wide : Bool) (is_code : IsCode b.code) where
   main_fine i flows.Jumps lt e h =
       let to = jump_target (old i) in
       let alike : Jumps i (with_places land (old i)) =
-              record { target = land to; same = one_place (old i) land (jumps_target (old i) e) (inl e);
-                jumped = land_lands to (target_within i lt (jumps_target (old i) e)) } in
+      record {
+        target = land to;
+        same = one_place (old i) land (jumps_target (old i) e) (inl e);
+        jumped = land_lands to (target_within i lt (jumps_target (old i) e));
+      } in
       (image_fine (q_of i) i _ (early_probe b first i) flows.Jumps lt e (ap (early_by (probe_of b first) i (old i)) e) alike, tt)
   main_fine i flows.Switches lt e h =
       let list = arms_is b first wide 0 is_code i e in

@@ -356,9 +356,14 @@ module _ (b : Body) (first : ℕ) (wide : Bool) (call : ℕ) (is_code : IsCode b
       → (x : Branch) × Contains (branches_by flow i (targets_of (old i))) x × (probe_of b first x ≡ Some id) × (land i ≡ place_by x.way flow i) × (x.at ≡ i)
   early_edge i flows.GoesOn id lt e h = absurd (none_some id h)
   early_edge i flows.Branches id lt e h = absurd (none_some id h)
-  early_edge i flows.Jumps id lt e h =
-      (jump i (jump_target (old i)), subst (λ ts. Contains (map (jump i) ts) (jump i (jump_target (old i)))) (sym (jumps_target (old i) e))
-          (first_in (jump i (jump_target (old i))) ([])), h, refl, refl)
+  early_edge i flows.Jumps id lt e h = (
+    jump i (jump_target (old i)),
+    subst (λ ts. Contains (map (jump i) ts) (jump i (jump_target (old i)))) (sym (jumps_target (old i) e))
+        (first_in (jump i (jump_target (old i))) ([])),
+    h,
+    refl,
+    refl,
+  )
   early_edge i flows.Switches id lt e h = absurd (none_some id h)
   early_edge i flows.Returns id lt e h = (exit i, first_in (exit i) ([]), h, refl, refl)
   early_edge i flows.Throws id lt e h = (exit i, first_in (exit i) ([]), h, refl, refl)

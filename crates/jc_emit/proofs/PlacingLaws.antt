@@ -86,11 +86,11 @@ module _ (b : Body) (first i : ℕ) where
 
 -- ---- places are small
 
-few_probe : (o : Option ℕ) → probe_size o ≤ 4
+pub few_probe : (o : Option ℕ) → probe_size o ≤ 4
 few_probe None = omega arith
 few_probe (Some id) = omega arith
 
-few_hop : (o : Option ℕ) → hop_size o ≤ 5
+pub few_hop : (o : Option ℕ) → hop_size o ≤ 5
 few_hop None = omega arith
 few_hop (Some id) = omega arith
 

@@ -12,13 +12,13 @@ use Rattle.jc_methods.specs.declared.insn.Flow.TheVariants as flows
 use Rattle.jc_methods.specs.declared.body.Body.{Body}
 use Rattle.jc_bytes.proofs.FirstSeenLaws.{contains_one}
 use Rattle.jc_bytes.proofs.BooleanLaws.{none_in, which_in}
+use Rattle.jc_bytes.proofs.ListLaws.{each_in}
 use Rattle.jc_plan.specs.declared.branch.Branch.{Branch}
 use Rattle.jc_plan.specs.declared.branch.Way.{Way}
 use Rattle.jc_plan.specs.Edges.{sequence, jump, exit, branches_by}
 use Rattle.jc_plan.specs.Probed.{probe_of, id_if, is_probed, id_of}
 use Rattle.jc_plan.proofs.OneIdLaws.{one_edge}
 use Rattle.jc_plan.proofs.FlowLaws.{IsAt, all_at}
-use Rattle.jc_plan.proofs.ListedLaws.{all_listed}
 use Rattle.jc_emit.specs.Sizes.{insn_at, late_by, late_probe, arms_by, arms_at, hop_size}
 use Rattle.jc_emit.specs.Marks.{Marks, IsProbe, aload, invokestatic, push, image_place, land_place, lead_place}
 use Rattle.jc_emit.specs.TwinCode.{to_of, Sentences, IsTwinCode, ProbedEdge, InProbe, IsWideGoto, IsAdded, HasGotoBehind, HasTest, HasHop, HasArm, HasArms, IsProbeOf, IsProbeIn, arm, probe_place, probe_place_by}
@@ -40,7 +40,7 @@ number_pushed n = by (nat_le n 5) (nat_le n 127)
     by false true = refl
     by false false = refl
 
-same_number : (n k : ℕ) → push n ≡ push k → n ≡ k
+pub same_number : (n k : ℕ) → push n ≡ push k → n ≡ k
 same_number n k e = sym (number_pushed n) ∙ ap number_of e ∙ number_pushed k
 
 -- an edge that has an id is probed, and the id is its own
@@ -140,7 +140,7 @@ module _ (b : Body) (first : ℕ) (wide : Bool) (code : List Insn) (m : Marks) (
       branch_at : (i : ℕ) (x : Branch) → Contains (branches_by (flow_of (old i)) i (targets_of (old i))) x → x.at ≡ i
       branch_at i x c =
           let flow = flow_of (old i) in let targets = targets_of (old i) in
-          (all_listed (IsAt i) (branches_by flow i targets) x (all_at i flow targets) c).at
+          (each_in (IsAt i) (branches_by flow i targets) x (all_at i flow targets) c).at
 
   -- ---- conditional jumps of the wide layout
 

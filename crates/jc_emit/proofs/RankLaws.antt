@@ -7,14 +7,7 @@ use Rattle.jc_emit.specs.Sizes.{probe_size, hop_size}
 use Rattle.jc_emit.specs.Items.{Item, init_call, init_store, image, probe_array, probe_id, probe_one, probe_store, hop, own_of, at_of, extra_of}
 use Rattle.jc_emit.specs.Local.{AllOk, Stands, Lands, IsBehind, IsNoHop, early_at, due_of}
 use Rattle.jc_emit.specs.Ranks.{after_place, early_size, late_rank, rank, IsRanked}
-
-probe_small : (o : Option ℕ) → probe_size o ≤ 4
-probe_small None = omega arith
-probe_small (Some id) = omega arith
-
-hop_small : (o : Option ℕ) → hop_size o ≤ 5
-hop_small None = omega arith
-hop_small (Some id) = omega arith
+use Rattle.jc_emit.proofs.PlacingLaws.{few_probe, few_hop}
 
 module _ (code : List Insn) (slot : Option ℕ) (ids : Branch → Option ℕ) (items : List Item) (all : AllOk code slot ids items) where
   abbrev early : ℕ → ℕ
@@ -24,7 +17,7 @@ module _ (code : List Insn) (slot : Option ℕ) (ids : Branch → Option ℕ) (i
   height x = rank code ids x
 
   early_small : (i : ℕ) → early i ≤ 4
-  early_small i = probe_small (early_at code slot ids items i)
+  early_small i = few_probe (early_at code slot ids items i)
 
   late_small : (at n : ℕ) (late : Bool) → late_rank (early at) n late ≤ n + 1 + 4
   late_small at n true = omega (arith, early_small at)
@@ -38,7 +31,7 @@ module _ (code : List Insn) (slot : Option ℕ) (ids : Branch → Option ℕ) (i
   small (probe_id id at late) = omega (arith, late_small at 3 late)
   small (probe_one id at late) = omega (arith, late_small at 2 late)
   small (probe_store id at late) = omega (arith, late_small at 1 late)
-  small (hop to at due) = omega (arith, hop_small due, early_small at)
+  small (hop to at due) = omega (arith, few_hop due, early_small at)
 
   -- what can go on at a place with a due probe
   bounded : (q at : ℕ) (due : Option ℕ) (x : Item) → slice_get items q ≡ Some x → at_of x ≡ at → extra_of x ≡ 0 → due_of x ≡ due

@@ -28,7 +28,7 @@ first_of_all P x xs all = all 0 x (omega arith)
 rest_of_all : {X : Type 0} (P : X → Type 0) (x : X) (xs : List X) → All P (x ∷ xs) → All P xs
 rest_of_all P x xs all = λ k d lt. all (suc k) d (omega arith)
 
-insn_is : (call v : ℕ) (x : Item) → IsInsnOf call v x (insn_of call v x)
+pub insn_is : (call v : ℕ) (x : Item) → IsInsnOf call v x (insn_of call v x)
 insn_is call v init_call = refl
 insn_is call v init_store = refl
 insn_is call v (image insn at early) = refl
@@ -39,14 +39,14 @@ insn_is call v (probe_store id at late) = refl
 insn_is call v (hop to at due) = refl
 
 -- code that is that of the items has the instruction of each
-insns_of : (call v : ℕ) (items : List Item) (code : List Insn) → code ≡ map (insn_of call v) items → AreInsnsOf call v items code
+pub insns_of : (call v : ℕ) (items : List Item) (code : List Insn) → code ≡ map (insn_of call v) items → AreInsnsOf call v items code
 insns_of call v items code is = record {
   count = ap length is ∙ length-map items (insn_of call v);
   each = λ q x h. (insn_of call v x, ap (λ l. slice_get l q) is ∙ mapped (insn_of call v) items q x h, insn_is call v x);
 }
 
 -- rows of which each is kept by what becomes of it
-rows_kept : (Kept : Handler → Handler → Type 0) (Is : Handler → Type 0) (new : Handler → Handler) → ((h : Handler) → Is h → Kept h (new h))
+pub rows_kept : (Kept : Handler → Handler → Type 0) (Is : Handler → Type 0) (new : Handler → Handler) → ((h : Handler) → Is h → Kept h (new h))
     → (hs : List Handler) → All Is hs → OkRows Kept hs (map new hs)
 rows_kept Kept Is new kept [] all = tt
 rows_kept Kept Is new kept (h ∷ hs) all =
@@ -59,7 +59,7 @@ seen names new_names states first b b' well t =
     let rows : b'.handlers ≡ map (moved_row (lead_of b first t.wide) (land_of b first t.wide)) b.handlers =
     t.tables.handlers_are
     ∙ ap₂ (λ lead land. map (moved_row lead land) b.handlers) (leads_known b first t.wide t.call b'.code t.marks well.code t.code)
-        (lands_known b first t.wide t.call b'.code t.marks well.code t.code) in
+    (lands_known b first t.wide t.call b'.code t.marks well.code t.code) in
     record {
       items = twin_items b first t.wide;
       call = t.call;

@@ -49,8 +49,8 @@ moves_one g f locals xs ys ok len low =
     let d = below_end (length f.wanted) xs ys len in
     let has : has_form f (xs ++ ys) ≡ true = ap (accepts_all f.wanted) u ∙ ok in
     let m : moved f (xs ++ ys) ≡ xs ++ map (given_of ys) f.given =
-            ap (λ (l : List VerificationType). l ++ map (given_of (upper (length f.wanted) (xs ++ ys))) f.given) d
-            ∙ ap (λ (l : List VerificationType). xs ++ map (given_of l) f.given) u in
+    ap (λ (l : List VerificationType). l ++ map (given_of (upper (length f.wanted) (xs ++ ys))) f.given) d
+    ∙ ap (λ (l : List VerificationType). xs ++ map (given_of l) f.given) u in
     ap (with_stack (state locals (xs ++ ys)))
     (cond-true (has_form f (xs ++ ys)) (limited g.most (moved f (xs ++ ys))) None has
     ∙ ap (limited g.most) m ∙ limited_is g.most (xs ++ map (given_of ys) f.given) low)

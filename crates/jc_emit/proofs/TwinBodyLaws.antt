@@ -47,8 +47,8 @@ module _ (b : Body) (first : ℕ) (states : List State) (array call : ℕ) (name
     tables = tables b first states array names well fit named;
     frames =
         at_own b first states array names well fit named
-            (λ image land lead. AreTwinFrames names names b.arg_slots image (IsFrame b first states image land lead false)
-              (pieces (frames_at b first states array) (length b.code)))
+        (λ image land lead. AreTwinFrames names names b.arg_slots image (IsFrame b first states image land lead false)
+        (pieces (frames_at b first states array) (length b.code)))
         (layout_told b first states array names well.code well.frames fit named);
     max_stack = refl;
     max_locals = refl;

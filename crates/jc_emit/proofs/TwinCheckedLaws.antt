@@ -20,6 +20,7 @@ use Rattle.jc_kinds.specs.Answers.{AreStates}
 use Rattle.jc_kinds_after.specs.Shift.{renamed, shifted}
 use Rattle.jc_bytes.proofs.BooleanLaws.{none_in, of_map}
 use Rattle.jc_kinds.proofs.EntryShiftLaws.{fits_shift}
+use Rattle.jc_kinds.proofs.WalkLaws.{state_itself}
 use Rattle.jc_emit.specs.Straddling.{NoneStraddles}
 use Rattle.jc_emit.specs.TwinTables.{moved_row}
 use Rattle.jc_emit.specs.TwinFrames.{state_at}
@@ -29,7 +30,7 @@ use Rattle.jc_emit.proofs.PiecesLaws.{each_at}
 use Rattle.jc_emit.proofs.BuiltLaws.{sized, prelude_at}
 use Rattle.jc_emit.proofs.TwinPremisesLaws.{Premises, premises, stands, code_long, asked_has, leads_grow, same_use}
 use Rattle.jc_emit.proofs.TwinPlacesLaws.{state_b}
-use Rattle.jc_emit.proofs.TwinStatesLaws.{there_fit, fit_there, after_there, all_fit_on, state_fits_same, state_0, state_1, after_0, after_1, E_array}
+use Rattle.jc_emit.proofs.TwinStatesLaws.{there_fit, fit_there, after_there, all_fit_on, state_0, state_1, after_0, after_1, E_array}
 use Rattle.jc_emit.proofs.TwinLeadsLaws.{framed, landing_frame, all_led, all_landed}
 use Rattle.jc_emit.proofs.TwinSoundLaws.{Sound, Near, Fine, segment_fine}
 
@@ -66,7 +67,7 @@ module _ (names new_names : Names) (states : List State) (first : ℕ) (wide : B
     state_is = state_0 names new_names states first wide call b b' p;
     after = E1;
     after_is = after_0 names new_names states first wide call b b' p;
-    next = λ falls. fit_there (N 1) E1 E1 (state_1 names new_names states first wide call b b' p) (state_fits_same E1);
+    next = λ falls. fit_there (N 1) E1 E1 (state_1 names new_names states first wide call b b' p) (state_itself E1);
     stops = λ halts. absurd (halts (inl refl));
     jumps = λ r c. absurd (none_in r c);
   }
@@ -147,7 +148,7 @@ module _ (names new_names : Names) (states : List State) (first : ℕ) (wide : B
     where
       by : (t : Bool) → nat_eq g.class 0 ≡ t
           → (if t then object (codes "java/lang/Throwable") else object (class_in (what_used b'.uses g.class)))
-              ≡ (if t then object (codes "java/lang/Throwable") else object (class_in (what_used b.uses g.class)))
+          ≡ (if t then object (codes "java/lang/Throwable") else object (class_in (what_used b.uses g.class)))
       by true e = refl
       by false e =
           let used = All-contains (λ h. h.class ≢ 0 → HasUse b.uses h.class IsClass) b.handlers g p.well.uses.by_handlers c (eqb-false g.class 0 e) in
@@ -175,7 +176,7 @@ module _ (names new_names : Names) (states : List State) (first : ℕ) (wide : B
       let i = piece.owner in
       let low = piece.low in let high = piece.high in
       let above : g.start ≤ i = ⊎_elim (λ below. let m = leads_grow names new_names states first wide call b b' p (suc i) g.start below in
-              absurd (omega (arith, m, high, start))) (λ le. le) (cases_lt i g.start) in
+      absurd (omega (arith, m, high, start))) (λ le. le) (cases_lt i g.start) in
       let below : i < g.end = ⊎_elim (λ lt. lt) (λ le. let m = leads_grow names new_names states first wide call b b' p g.end i le in absurd (omega (arith, m, low, end))) (cases_lt i g.end) in
       let w = near_piece q i piece.within low high in
       let target = row.target in
@@ -239,7 +240,7 @@ module _ (names new_names : Names) (states : List State) (first : ℕ) (wide : B
   pub twin_checked : Checked new_names b'
   twin_checked = record {
     none_missing = no_missing;
-    entry = fit_there (N 0) (entry_of b') (entry_of b') (state_0 names new_names states first wide call b b' p) (state_fits_same (entry_of b'));
+    entry = fit_there (N 0) (entry_of b') (entry_of b') (state_0 names new_names states first wide call b b' p) (state_itself (entry_of b'));
     after = λ q lt. ap is_some (after_is_there q (sound q lt));
     branches = branch_fits;
     handlers = handled;

@@ -19,6 +19,7 @@ use Rattle.jc_kinds.specs.Checking.{has_frame}
 use Rattle.jc_kinds_after.specs.Shift.{with_slot, shifted}
 use Rattle.jc_kinds.proofs.CheckLaws.{has_frame_decided}
 use Rattle.jc_kinds.proofs.StateShiftLaws.{frame_is}
+use Rattle.jc_kinds.proofs.WalkLaws.{state_itself}
 use Rattle.jc_plan.specs.Entries.{is_multi_target, is_invocation_line}
 use Rattle.jc_plan.specs.Probed.{id_if, probes_before}
 use Rattle.jc_plan.specs.Plan.{lead_probe}
@@ -32,7 +33,7 @@ use Rattle.jc_emit.proofs.ToldLaws.{lead_at, early_at, main_at, main_by, plain_t
 use Rattle.jc_emit.proofs.LocalLaws.{test_is, early_image}
 use Rattle.jc_emit.proofs.TwinPremisesLaws.{Premises, stands, asked_frame, frame_asked, old_at}
 use Rattle.jc_emit.proofs.TwinPlacesLaws.{state_b, no_frame, narrow, behind, tests_size, asked_front}
-use Rattle.jc_emit.proofs.TwinStatesLaws.{first_state, with_one, state_fits_same, fit_length, frame_state_is, next_state, there_fit, after_b, A, after_at_b, image_after, S_low, A_low, S_long, next_is, probe_runs, after_1, state_1, E_array}
+use Rattle.jc_emit.proofs.TwinStatesLaws.{first_state, with_one, fit_length, frame_state_is, next_state, there_fit, after_b, A, after_at_b, image_after, S_low, A_low, S_long, next_is, probe_runs, after_1, state_1, E_array}
 use Rattle.jc_methods.specs.declared.insn.Insn.TheVariants as insns
 use Rattle.jc_methods.specs.declared.insn.Flow.TheVariants as flows
 use Rattle.jc_emit.specs.Sizes as sizes
@@ -170,7 +171,7 @@ module _ (names new_names : Names) (states : List State) (first : ℕ) (wide : B
   led_by_state j lt is = record {
     before = S j;
     state_is = is;
-    fits = state_fits_same (S j);
+    fits = state_itself (S j);
     low = S_low names new_names states first wide call b b' p j lt;
     same = λ none. refl;
     into = λ i within e falls. fits_branch i j within lt (inl (falls_from i within falls, e ∙ sym (add-one i)));
@@ -195,7 +196,7 @@ module _ (names new_names : Names) (states : List State) (first : ℕ) (wide : B
       next none =
           same_Some (After i lt) (S (suc i))
           (sym (next_state names b i (old i) (S i) (After i lt) none (old_at names new_names states first wide call b b' p i lt) falls
-              (state_of_b i lt) (after_b names new_names states first wide call b b' p i lt).1)
+          (state_of_b i lt) (after_b names new_names states first wide call b b' p i lt).1)
           ∙ state_of_b (suc i) within)
 
       by : (o : Option TypeState) → F (lead (suc i)) ≡ o → Led (suc i)
@@ -211,7 +212,7 @@ module _ (names new_names : Names) (states : List State) (first : ℕ) (wide : B
         low = A_low names new_names states first wide call b b' p i lt;
         same = next;
         into = λ k also same again.
-            subst (λ t. FitState t (After i lt)) (after_one i k lt also (omega (arith, same))) (state_fits_same (After i lt));
+            subst (λ t. FitState t (After i lt)) (after_one i k lt also (omega (arith, same))) (state_itself (After i lt));
         begins = λ e. absurd (omega (arith, e));
       }
         where
@@ -246,7 +247,7 @@ module _ (names new_names : Names) (states : List State) (first : ℕ) (wide : B
           landed_by i lt l
           (λ e. ap N (sym place)
           ∙ next_is names new_names states first wide call b b' p (lead i + 1 + 1 + 1) (probe_store id i true)
-              (with_one names new_names states first wide call b b' p l.before) (moved l.before) h.1.1.1.0 refl (ap F place ∙ e) r.state3 r.after3)
+          (with_one names new_names states first wide call b b' p l.before) (moved l.before) h.1.1.1.0 refl (ap F place ∙ e) r.state3 r.after3)
 
   -- ---- images
 
@@ -262,12 +263,12 @@ module _ (names new_names : Names) (states : List State) (first : ℕ) (wide : B
           let size = ap probe_size some in
           let place : land i + 1 + 1 + 1 + 1 ≡ q_of i = omega (arith, size) in
           let r = probe_runs names new_names states first wide call b b' p (land i) id i false (S i) h there
-                  (S_low names new_names states first wide call b b' p i lt) (S_long names new_names states first wide call b b' p i lt) in
+          (S_low names new_names states first wide call b b' p i lt) (S_long names new_names states first wide call b b' p i lt) in
           let found = early_image b first wide p.well.code i id (flow_of (old i)) some some (main_at b first wide call i lt) in
           let none = no_frame names new_names states first wide call b b' p (q_of i) (image found.0 i (Some id)) found.1 (λ l. some_none id l.2) in
           ap N (sym place)
           ∙ next_is names new_names states first wide call b b' p (land i + 1 + 1 + 1) (probe_store id i false)
-              (with_one names new_names states first wide call b b' p (S i)) (moved (S i)) h.1.1.1.0 refl (ap F place ∙ none) r.state3 r.after3
+          (with_one names new_names states first wide call b b' p (S i)) (moved (S i)) h.1.1.1.0 refl (ap F place ∙ none) r.state3 r.after3
         where
           some_none : (id : ℕ) → Some id ≡ None → ⊥
           some_none id e = cc
@@ -310,7 +311,7 @@ module _ (names new_names : Names) (states : List State) (first : ℕ) (wide : B
   inverse_frame i id lt some =
       subst (λ k. Asked (lead k) (state_at states k)) (add-one i)
       (narrow names new_names states first wide call b b' p (lead (i + 1)) (state_at states (i + 1))
-          (inr (inl (record { test = i; id = id; within = lt; probed = some; place = refl; state_is = refl }))))
+      (inr (inl (record { test = i; id = id; within = lt; probed = some; place = refl; state_is = refl }))))
 
   -- behind a conditional jump of the wide layout
   pub wide_frame : (i : ℕ) → i < length b.code → flow_of (old i) ≡ flows.Branches → wide ≡ true
@@ -379,12 +380,12 @@ module _ (names new_names : Names) (states : List State) (first : ℕ) (wide : B
             ap N two
             ∙ next_state new_names b' 1 (astore v) (E_array names new_names states first wide call b b' p) (moved (entry_of b)) (ap F (sym two) ∙ e)
             (stands names new_names states first wide call b b' p 1 init_store (prelude_at b first wide).1.0) (inl refl)
-                (state_1 names new_names states first wide call b b' p) (after_1 names new_names states first wide call b b' p);
+            (state_1 names new_names states first wide call b b' p) (after_1 names new_names states first wide call b b' p);
         fits = there_fit (Some (entry_of b)) (state_of names b 0) (entry_of b) (S 0) refl (state_of_b 0 some) p.checked.entry;
         low = omega arith;
         same = λ none. same_Some (entry_of b) (S 0) (sym (first_state names b none) ∙ state_of_b 0 some);
         into = λ i within e falls. absurd (no_zero i e);
-        begins = λ e. state_fits_same (entry_of b);
+        begins = λ e. state_itself (entry_of b);
       }
         where
           no_zero : (i : ℕ) → 0 ≡ suc i → ⊥

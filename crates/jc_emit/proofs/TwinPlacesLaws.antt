@@ -238,23 +238,28 @@ module _ (names new_names : Names) (states : List State) (first : ℕ) (wide : B
   asked_lands q s a = by (which_frame wide q s a)
     where
       by : Narrow q s ⊎ ((wide ≡ true) × Behind q s) → In q
-      by (inl (inl o)) =
-          (o.frame.at, None, subst (λ k. Lands b.code (Some b.arg_slots) (probe_of b first) items k o.frame.at None) (sym o.place)
-              (land_lands b first wide p.well.code o.frame.at (within_old o.frame o.listed)))
+      by (inl (inl o)) = (
+        o.frame.at,
+        None,
+        subst (λ k. Lands b.code (Some b.arg_slots) (probe_of b first) items k o.frame.at None) (sym o.place)
+            (land_lands b first wide p.well.code o.frame.at (within_old o.frame o.listed)),
+      )
       by (inl (inr (inl o))) =
-          let next = next_within b first wide p.well.code o.test o.within (inr (late_tests o.test o.id o.probed)) in
-          (o.test + 1, lead_probe b first (o.test + 1),
-              subst (λ k. Lands b.code (Some b.arg_slots) (probe_of b first) items k (o.test + 1) (lead_probe b first (o.test + 1))) (sym o.place)
-              (lead_lands b first wide p.well.code (o.test + 1) next))
+          let next = next_within b first wide p.well.code o.test o.within (inr (late_tests o.test o.id o.probed)) in (
+            o.test + 1,
+            lead_probe b first (o.test + 1),
+            subst (λ k. Lands b.code (Some b.arg_slots) (probe_of b first) items k (o.test + 1) (lead_probe b first (o.test + 1))) (sym o.place)
+                (lead_lands b first wide p.well.code (o.test + 1) next),
+          )
       by (inl (inr (inr o))) =
           let i = o.switch in
           let e = arms_switch i o.branch o.listed in
           let h = main_by b first wide call i flows.Switches o.within e in
           let there = arms_land b first wide p.well.code i
-                  (λ to. arm_place (probe_of b first) (land_of b first wide) (q_of i + 1) (arms_at b.code i) to) (q_of i + 1) (arms_at b.code i)
-                  (arms_by_list b i) (λ y d. refl) h.1
+          (λ to. arm_place (probe_of b first) (land_of b first wide) (q_of i + 1) (arms_at b.code i) to) (q_of i + 1) (arms_at b.code i)
+          (arms_by_list b i) (λ y d. refl) h.1
           (λ x c. listed_within b first wide p.well.code i o.within x
-              (subst (λ f. Contains (branches_by f i (targets_of (old i))) x) e (subst (λ l. Contains l x) (arms_are i e) c))) o.branch o.listed in
+          (subst (λ f. Contains (branches_by f i (targets_of (old i))) x) e (subst (λ l. Contains l x) (arms_are i e) c))) o.branch o.listed in
           (to_of o.branch, probe_of b first o.branch, subst (λ k. Lands b.code (Some b.arg_slots) (probe_of b first) items k (to_of o.branch) (probe_of b first o.branch)) (sym o.place) there)
       by (inr (w, o)) = behind_at (late_probe b first o.test) refl
         where
@@ -266,18 +271,23 @@ module _ (names new_names : Names) (states : List State) (first : ℕ) (wide : B
               let next = next_within b first wide p.well.code o.test o.within (inr o.tests) in
               let size = tests_size o.test None o.tests none in
               let at = o.place in let up = leads_up o.test in
-              let place : lead (o.test + 1) ≡ q = omega (arith, at, up, size, one) in
-              (o.test + 1, lead_probe b first (o.test + 1),
-                  subst (λ k. Lands b.code (Some b.arg_slots) (probe_of b first) items k (o.test + 1) (lead_probe b first (o.test + 1))) place
-                  (lead_lands b first wide p.well.code (o.test + 1) next))
+              let place : lead (o.test + 1) ≡ q = omega (arith, at, up, size, one) in (
+                o.test + 1,
+                lead_probe b first (o.test + 1),
+                subst (λ k. Lands b.code (Some b.arg_slots) (probe_of b first) items k (o.test + 1) (lead_probe b first (o.test + 1))) place
+                    (lead_lands b first wide p.well.code (o.test + 1) next),
+              )
           behind_at (Some id) some =
               let h = hop_at b first wide call o.test id o.within o.tests some in
               let same : wide_size b wide o.test ≡ 1 = ap (λ f. wide_by f wide) o.tests ∙ one in
               let at = o.place in
               let place : q_of o.test + 1 + wide_size b wide o.test ≡ q = omega (arith, at, same) in
-              let to = jump_target (old o.test) in
-              (to, Some id, subst (λ k. Lands b.code (Some b.arg_slots) (probe_of b first) items k to (Some id)) place
-                  (late_lands b first wide p.well.code (q_of o.test + 1 + wide_size b wide o.test) id to h.0))
+              let to = jump_target (old o.test) in (
+                to,
+                Some id,
+                subst (λ k. Lands b.code (Some b.arg_slots) (probe_of b first) items k to (Some id)) place
+                    (late_lands b first wide p.well.code (q_of o.test + 1 + wide_size b wide o.test) id to h.0),
+              )
 
   pub no_frame : (q : ℕ) (x : Item) → slice_get items q ≡ Some x → (Landing x → ⊥) → frame_at (frames_of new_names b') q ≡ None
   no_frame q x here not = by (frame_at (frames_of new_names b') q) refl

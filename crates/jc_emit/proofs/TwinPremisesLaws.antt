@@ -86,9 +86,9 @@ premises names new_names states first b b' well checked are free t =
       frames =
           subst (λ f. AreTwinFrames names new_names b.arg_slots (image_of b first t.wide) (IsFrame b first states (image_of b first t.wide) (land_of b first t.wide) f t.wide) b'.frames) leads
           (subst (λ f. AreTwinFrames names new_names b.arg_slots (image_of b first t.wide)
-              (IsFrame b first states (image_of b first t.wide) f (marks.lead_place b first t.marks.own) t.wide) b'.frames) lands
+          (IsFrame b first states (image_of b first t.wide) f (marks.lead_place b first t.marks.own) t.wide) b'.frames) lands
           (subst (λ f. AreTwinFrames names new_names b.arg_slots f
-              (IsFrame b first states f (marks.land_place b first t.marks.own) (marks.lead_place b first t.marks.own) t.wide) b'.frames) images t.frames));
+          (IsFrame b first states f (marks.land_place b first t.marks.own) (marks.lead_place b first t.marks.own) t.wide) b'.frames) images t.frames));
       max_stack = t.max_stack;
       max_locals = t.max_locals;
     }

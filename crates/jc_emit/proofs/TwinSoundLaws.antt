@@ -20,12 +20,13 @@ use Rattle.jc_kinds_after.specs.Shift.{with_slot, shifted}
 use Rattle.jc_kinds_after.proofs.ApplyLaws.{after_is}
 use Rattle.jc_bytes.proofs.BooleanLaws.{which_in, none_in, first_in, later_in, of_map}
 use Rattle.jc_kinds.proofs.EntryShiftLaws.{fits_shift}
+use Rattle.jc_kinds.proofs.WalkLaws.{state_itself}
 use Rattle.jc_plan.specs.declared.branch.Branch.{Branch}
 use Rattle.jc_plan.specs.Edges.{branches_by}
 use Rattle.jc_plan.specs.Probed.{probe_of}
 use Rattle.jc_plan.specs.Plan.{lead_probe}
-use Rattle.jc_plan.proofs.ListedLaws.{all_listed}
 use Rattle.jc_bytes.proofs.FirstSeenLaws.{first_seen_listed}
+use Rattle.jc_bytes.proofs.ListLaws.{each_in}
 use Rattle.jc_emit.proofs.PlacedLaws.{no_fall_goto, never, only, inverse_targets, placed_targets, targets_placed, no_targets, goto_stops, switch_stops}
 use Rattle.jc_emit.proofs.StateLaws.{slots-renamed}
 use Rattle.jc_emit.specs.Sizes.{early_probe, late_probe, arms_at, probe_size, hop_size, arm_sizes, wide_by}
@@ -42,7 +43,7 @@ use Rattle.jc_emit.proofs.StepLaws.{moves_nothing}
 use Rattle.jc_emit.proofs.ConditionalBranchLaws.{left_is}
 use Rattle.jc_emit.proofs.TwinPremisesLaws.{Premises, stands, code_long, asked_frame, asked_has, frame_asked, old_at, leads_grow}
 use Rattle.jc_emit.proofs.TwinPlacesLaws.{no_frame, narrow, tests_size, asked_piece, arms_switch, arms_are}
-use Rattle.jc_emit.proofs.TwinStatesLaws.{fit_there, frame_state_is, next_state, state_fits_same, fits_same, after_b, A, push_is, image_after, S_low, A_low, S_long, goes, next_is, probe_runs, with_array, with_id, with_one}
+use Rattle.jc_emit.proofs.TwinStatesLaws.{fit_there, frame_state_is, next_state, fits_same, after_b, A, push_is, image_after, S_low, A_low, S_long, goes, next_is, probe_runs, with_array, with_id, with_one}
 use Rattle.jc_emit.proofs.TwinLeadsLaws.{slot_flow, placed_flow, framed, fits_branch, landing_frame, led_long, stopped_frame, inverse_frame, wide_frame, all_led, all_landed, all_imaged}
 use Rattle.jc_methods.specs.declared.insn.Insn.TheVariants as insns
 use Rattle.jc_methods.specs.declared.insn.Flow.TheVariants as flows
@@ -103,7 +104,7 @@ module _ (names new_names : Names) (states : List State) (first : ℕ) (wide : B
   Fine i q x = (w : Sound q) × Near i w.before
 
   same_fits : (o : Option TypeState) (s : TypeState) → o ≡ Some s → FitsThere (Some s) o
-  same_fits o s e = fit_there o s s e (state_fits_same s)
+  same_fits o s e = fit_there o s s e (state_itself s)
 
   -- one that goes on
   going : (i q : ℕ) (x : Item) (s t : TypeState) → slice_get items q ≡ Some x → flow_of (insn_of call v x) ≡ flows.GoesOn → N q ≡ Some s
@@ -179,20 +180,22 @@ module _ (names new_names : Names) (states : List State) (first : ℕ) (wide : B
       let here = h.1.1.1.1.0 in
       let none = no_frame names new_names states first wide call b b' p (q + 1 + 1 + 1 + 1) (hop (land to) to None) here (λ l. l.3) in
       let at_hop = next_is names new_names states first wide call b b' p (q + 1 + 1 + 1) (probe_store id to true)
-              (with_one names new_names states first wide call b b' p X) (moved X) h.1.1.1.0 refl none r.state3 r.after3 in
+      (with_one names new_names states first wide call b b' p X) (moved X) h.1.1.1.0 refl none r.state3 r.after3 in
       let five : q + 5 ≡ q + 1 + 1 + 1 + 1 + 1 = omega arith in
       let four : q + 1 + 1 + 1 + 1 ≡ q + 4 = omega arith in
       each_append (Fine i) q (probe id to true) (hop (land to) to None ∷ [])
-      (probe_fine i q id to true X front before low long near (same_fits (N (q + 1 + 1 + 1 + 1)) (moved X) at_hop))
-      (subst (λ k. Fine i k (hop (land to) to None)) four
-          (hop_fine i (q + 1 + 1 + 1 + 1) (land to) to None X here at_hop low near there (subst (λ k. k < length b'.code → HasFrame b' k) five stop)), tt)
+      (probe_fine i q id to true X front before low long near (same_fits (N (q + 1 + 1 + 1 + 1)) (moved X) at_hop)) (
+        subst (λ k. Fine i k (hop (land to) to None)) four
+            (hop_fine i (q + 1 + 1 + 1 + 1) (land to) to None X here at_hop low near there (subst (λ k. k < length b'.code → HasFrame b' k) five stop)),
+        tt,
+      )
 
   -- ---- where the instruction goes on
 
   target_jump : (i t : ℕ) (lt : i < length b.code) → Contains (targets_of (old i)) t
       → HasFrame b' (land t) × FitsThere (Some (moved (After i lt))) (N (land t))
   target_jump i t lt c =
-      let within = all_listed (λ to. to < length b.code) (targets_of (old i)) t (p.well.code.places i (insns.Simple 0) lt) c in
+      let within = each_in (λ to. to < length b.code) (targets_of (old i)) t (p.well.code.places i (insns.Simple 0) lt) c in
       let jumps : JumpsTo b i t = record { insn = old i; stands = old_at names new_names states first wide call b b' p i lt; target = c } in
       let frame = framed names new_names states first wide call b b' p t within (inl (i, jumps)) in
       let a = landing_frame names new_names states first wide call b b' p t frame in (
@@ -282,7 +285,7 @@ module _ (names new_names : Names) (states : List State) (first : ℕ) (wide : B
       let up = add-one (q_of i) in
       ap N up
       ∙ next_state new_names b' (q_of i) new (moved (S i)) (moved (After i lt)) (ap F (sym up) ∙ none)
-          (stands names new_names states first wide call b b' p (q_of i) (image new i None) here) (inr flow)
+      (stands names new_names states first wide call b b' p (q_of i) (image new i None) here) (inr flow)
       (all_imaged names new_names states first wide call b b' p i lt) (image_after names new_names states first wide call b b' p i lt)
 
   -- no frame stands behind a conditional jump of the narrow layout
@@ -347,8 +350,8 @@ module _ (names new_names : Names) (states : List State) (first : ℕ) (wide : B
       let placed = placed_flow (old i) (land_of b first wide) e in
       let j = test_is (old i) e in
       let flow : flow_of new ≡ flows.Branches =
-              subst (λ o. flow_of (inverse_jump (q_of i + 2) (with_places (land_of b first wide) o)) ≡ flows.Branches) (sym j.is)
-              (subst (λ o. flow_of (inverse_jump (q_of i + 2) o) ≡ flows.Branches) j.is (inverse_flow i (q_of i + 2) lt e)) in
+      subst (λ o. flow_of (inverse_jump (q_of i + 2) (with_places (land_of b first wide) o)) ≡ flows.Branches) (sym j.is)
+      (subst (λ o. flow_of (inverse_jump (q_of i + 2) o) ≡ flows.Branches) j.is (inverse_flow i (q_of i + 2) lt e)) in
       let to = jump_target (with_places (land_of b first wide) (old i)) in
       let to_is : to ≡ land (jump_target (old i)) = placed_target (old i) (land_of b first wide) e in
       let hop_here = h.1.0 in
@@ -394,7 +397,7 @@ module _ (names new_names : Names) (states : List State) (first : ℕ) (wide : B
       let good = subst IsWellFormed j.is (p.well.code.well_formed i (insns.Simple 0) lt) in
       let old_flow : flow_of (insns.Jump j.op j.to) ≡ flows.Branches = subst (λ o. flow_of o ≡ flows.Branches) j.is e in
       let back : new ≡ insns.Jump j.op (q_of i + 2) = ap (λ o. inverse_jump (q_of i + 2) (inverse_jump (lead (i + 1)) o)) j.is
-              ∙ ap (λ op. insns.Jump op (q_of i + 2)) (twice_inverse j.op j.to good old_flow) in
+      ∙ ap (λ op. insns.Jump op (q_of i + 2)) (twice_inverse j.op j.to good old_flow) in
       let flow : flow_of new ≡ flows.Branches = ap flow_of back ∙ old_flow in
       let to = jump_target inner in
       let to_is : to ≡ lead (i + 1) = inverted_target (old i) (lead (i + 1)) e in
@@ -431,7 +434,7 @@ module _ (names new_names : Names) (states : List State) (first : ℕ) (wide : B
   arm_asked i lt x id c some =
       let s = left_by (old i) (state_at states i) in
       let a = narrow names new_names states first wide call b b' p (whole i (to_of x)) s
-              (inr (inr (record { switch = i; branch = x; id = id; within = lt; listed = c; probed = some; place = refl; state_is = refl }))) in (
+      (inr (inr (record { switch = i; branch = x; id = id; within = lt; listed = c; probed = some; place = refl; state_is = refl }))) in (
         asked_has names new_names states first wide call b b' p (whole i (to_of x)) s a,
         frame_state_is new_names b' (whole i (to_of x)) (moved (type_state names s)) (asked_frame names new_names states first wide call b b' p (whole i (to_of x)) s a)
             ∙ ap (λ t. Some (moved t)) (sym (left i lt (inr (arms_switch names new_names states first wide call b b' p i x c)))),
@@ -471,7 +474,7 @@ module _ (names new_names : Names) (states : List State) (first : ℕ) (wide : B
       subst (HasFrame b') (sym place) (stopped i lt (never (old i) flows.Switches e (λ x. cc) (λ x. cc)) (subst (λ k. k < length b'.code) place short))
   arms_frame i lt e here (x ∷ xs) arms a listed end short =
       by (λ at. arms_frame i lt e (here + hop_size (probe_of b first x)) xs arms.3
-          (agrees_rest (probe_of b first) (land_of b first wide) (whole i) here x xs arms.0 a) (λ y d. listed y (later_in x xs y d)) (omega (arith, end)) at)
+      (agrees_rest (probe_of b first) (land_of b first wide) (whole i) here x xs arms.0 a) (λ y d. listed y (later_in x xs y d)) (omega (arith, end)) at)
       (probe_of b first x) refl
     where
       by : (here + hop_size (probe_of b first x) < length b'.code → HasFrame b' (here + hop_size (probe_of b first x))) → (o : Option ℕ)
@@ -489,7 +492,7 @@ module _ (names new_names : Names) (states : List State) (first : ℕ) (wide : B
   arm_target i x e c =
       first_seen_listed (targets_of (old i)) (to_of x)
       (arm_listed i 0 (first_seen (targets_of (old i))) x
-          (subst (λ f. Contains (branches_by f i (targets_of (old i))) x) e (subst (λ l. Contains l x) (arms_are names new_names states first wide call b b' p i e) c)))
+      (subst (λ f. Contains (branches_by f i (targets_of (old i))) x) e (subst (λ l. Contains l x) (arms_are names new_names states first wide call b b' p i e) c)))
 
   arms_fine : (i : ℕ) (lt : i < length b.code) → flow_of (old i) ≡ flows.Switches → (here : ℕ) (xs : List Branch) → Arms i xs
       → Agrees (probe_of b first) (land_of b first wide) (whole i) here xs
@@ -520,7 +523,7 @@ module _ (names new_names : Names) (states : List State) (first : ℕ) (wide : B
           let size = ap hop_size some in
           let five : here + hop_size (probe_of b first x) ≡ here + 5 = omega (arith, size) in
           hop_part_fine i here id (to_of x) (After i lt) h at_arm (A_low names new_names states first wide call b b' p i lt) (left_long i lt (inr e))
-              (left_near i lt (inr e)) (target_jump i (to_of x) lt (arm_target i x e c))
+          (left_near i lt (inr e)) (target_jump i (to_of x) lt (arm_target i x e c))
           (subst (λ k. k < length b'.code → HasFrame b' k) five stop)
 
   -- ---- all images
@@ -590,7 +593,7 @@ module _ (names new_names : Names) (states : List State) (first : ℕ) (wide : B
           let fits = fits_shift (image_of b first wide) v l.before (S i) l.fits in
           probe_fine i (lead i) id i true l.before h l.state_is l.low (led_long names new_names states first wide call b b' p i lt l) fits.locals
           (subst (λ k. FitsThere (Some (moved l.before)) (N k)) (sym place)
-              (fit_there (N (land i)) (moved l.before) (moved (S i)) (all_landed names new_names states first wide call b b' p i lt) fits))
+          (fit_there (N (land i)) (moved l.before) (moved (S i)) (all_landed names new_names states first wide call b b' p i lt) fits))
 
   early_fine : (i : ℕ) (lt : i < length b.code) → Each (Fine i) (land i) (early_part (early_probe b first i) i)
   early_fine i lt = by (early_probe b first i) refl (early_at b first wide call i lt)
@@ -601,7 +604,7 @@ module _ (names new_names : Names) (states : List State) (first : ℕ) (wide : B
           let size = ap probe_size some in
           let place : land i + 1 + 1 + 1 + 1 ≡ q_of i = omega (arith, size) in
           probe_fine i (land i) id i false (S i) h (all_landed names new_names states first wide call b b' p i lt)
-              (S_low names new_names states first wide call b b' p i lt) (S_long names new_names states first wide call b b' p i lt)
+          (S_low names new_names states first wide call b b' p i lt) (S_long names new_names states first wide call b b' p i lt)
           (fits_same (moved (S i)).locals)
           (subst (λ k. FitsThere (Some (moved (S i))) (N k)) (sym place) (same_fits (N (q_of i)) (moved (S i)) (all_imaged names new_names states first wide call b b' p i lt)))
 

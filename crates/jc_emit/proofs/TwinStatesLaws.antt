@@ -54,9 +54,6 @@ pub fits_same : (xs : List VerificationType) → FitEach xs xs
 fits_same [] = tt
 fits_same (x ∷ xs) = (inr (inl refl), fits_same xs)
 
-pub state_fits_same : (s : TypeState) → FitState s s
-state_fits_same s = record { locals = fits_same s.locals; stack = fits_same s.stack }
-
 fits_on : (a b c : VerificationType) → Fits a b → Fits b c → Fits a c
 fits_on a b c f (inl e) = inl e
 fits_on a b c f (inr (inl e)) = subst (Fits a) e f

@@ -16,7 +16,7 @@ use Rattle.jc_methods.specs.declared.insn.Flow.{Flow}
 use Rattle.jc_methods.specs.declared.body.Handler.{Handler}
 use Rattle.jc_plan.specs.Edges.{branches_by}
 use Rattle.jc_bytes.proofs.FirstSeenLaws.{first_seen_listed}
-use Rattle.jc_plan.proofs.ListedLaws.{all_listed}
+use Rattle.jc_bytes.proofs.ListLaws.{each_in}
 use Rattle.jc_plan.proofs.ByBranchLaws.{last_parts}
 use Rattle.jc_emit.specs.Sizes.{insn_at, early_by}
 use Rattle.jc_emit.specs.TwinCode.{to_of}
@@ -133,7 +133,7 @@ module _ (code : List Insn) (is_code : IsCode code) where
     place = λ to. to;
     same = sym (places_same (old i));
     each = λ x c.
-        lands (to_of x) (all_listed (λ to. to < length code) (targets_of (old i)) (to_of x) (is_code.places i (insns.Simple 0) lt)
+        lands (to_of x) (each_in (λ to. to < length code) (targets_of (old i)) (to_of x) (is_code.places i (insns.Simple 0) lt)
         (first_seen_listed (targets_of (old i)) (to_of x) (arm_listed i 0 (first_seen (targets_of (old i))) x (subst (λ f. Contains (branches_by f i (targets_of (old i))) x) e c))));
   }
   image_by i flows.Returns lt e = refl

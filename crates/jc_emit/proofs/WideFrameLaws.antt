@@ -132,8 +132,8 @@ module _ (b : Body) (first : ℕ) (states : List State) (array : ℕ) (names : L
       ⊎_elim
       (λ middle.
       let h = if_listed (has_frame b first states array
-              (suc i) || (has_inverse b first states array (suc i) && is_none (lead_probe b first (suc i))))
-              (frame (land (suc i)) (moved (state_at states (suc i)))) f middle in
+      (suc i) || (has_inverse b first states array (suc i) && is_none (lead_probe b first (suc i))))
+      (frame (land (suc i)) (moved (state_at states (suc i)))) f middle in
       let same : land (suc i) ≡ f.at = ap (λ x. x.at) h.1 in
       let size : probe_size (lead_probe b first (suc i)) ≡ 0 = omega (arith, same, at) in
       and_from (has_frame b first states array (suc i)) (is_none (lead_probe b first (suc i)))
@@ -195,9 +195,11 @@ module _ (b : Body) (first : ℕ) (states : List State) (array : ℕ) (names : L
       let e = further_tests i (late_probe b first i) (flow_of (insn_at b.code i)) h.0 in
       let s = state_behind b states i (late_probe b first i) in
       let t : is_further b first states array i (late_probe b first i) flows.Branches ≡ true = ap (is_further b first states array i (late_probe b first i)) (sym e) ∙ h.0 in
-      subst (λ g. (s : State) × (Behind g.at s × (HasFrameAt g.at frames → ⊥)) × IsSeenAs g s) h.1
-      (s, (record { test = i; within = p.within; tests = e; place = refl; state_is = refl }, not_there i e (late_probe b first i) refl t),
-          seen_is b first states array names is_code are_frames fit named s)
+      subst (λ g. (s : State) × (Behind g.at s × (HasFrameAt g.at frames → ⊥)) × IsSeenAs g s) h.1 (
+        s,
+        (record { test = i; within = p.within; tests = e; place = refl; state_is = refl }, not_there i e (late_probe b first i) refl t),
+        seen_is b first states array names is_code are_frames fit named s,
+      )
 
   further_is : (i : ℕ) → i < length b.code → flow_of (insn_at b.code i) ≡ flows.Branches → (o : Option ℕ) → late_probe b first i ≡ o
       → (HasFrameAt (q_of i + 1) frames → ⊥) → is_further b first states array i o flows.Branches ≡ true
@@ -208,7 +210,7 @@ module _ (b : Body) (first : ℕ) (states : List State) (array : ℕ) (names : L
       let both = and_parts (has_frame b first states array (i + 1)) (is_none (lead_probe b first (i + 1))) t in
       let next = next_within b first false is_code i lt (inr e) in
       let here = landing b first states array names is_code are_frames fit named (i + 1) next
-              (or_left (has_frame b first states array (i + 1)) (has_inverse b first states array (i + 1) && is_none (lead_probe b first (i + 1))) both.0) in
+      (or_left (has_frame b first states array (i + 1)) (has_inverse b first states array (i + 1) && is_none (lead_probe b first (i + 1))) both.0) in
       let up = ap lead (add-one i) in
       let size = behind_is i e ∙ ap hop_size none in
       let lead_size = ap probe_size (none_is (lead_probe b first (i + 1)) both.1) in
@@ -288,7 +290,7 @@ module _ (b : Body) (first : ℕ) (states : List State) (array : ℕ) (names : L
         (layout_told b first states array names well.code well.frames fit named);
     wide_frames =
         at_own (λ image land lead. AreTwinFrames names names b.arg_slots image (IsFurtherFrame b first states (emission b first states array))
-            (pieces (wide_frames_at b first states array) (length b.code)))
+        (pieces (wide_frames_at b first states array) (length b.code)))
         (record {
           rising = wide_rise b first states array names well.code well.frames fit named;
           each = λ f c.

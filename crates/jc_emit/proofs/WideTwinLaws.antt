@@ -28,8 +28,9 @@ use Rattle.jc_emit.proofs.LocalLaws.{next_within}
 use Rattle.jc_emit.proofs.FrameListsLaws.{of_piece, listed_if}
 use Rattle.jc_emit.proofs.FrameLaws.{all_moved, landing, none_is, frames_told, seen_is}
 use Rattle.jc_emit.proofs.WideFrameLaws.{each_behind, behind_is, wide_frame}
-use Rattle.jc_emit.proofs.WidenedLaws.{W, lead_is, land_is, arm_places, inside, within_main, behind_end, place_zero, main_test}
+use Rattle.jc_emit.proofs.WidenedLaws.{W, lead_is, land_is, arm_places, inside, within_main, behind_end, main_test}
 use Rattle.jc_methods.specs.declared.insn.Flow.TheVariants as flows
+use Rattle.jc_methods.proofs.WidenedLaws.{first_place}
 use Rattle.jc_bytes.proofs.BooleanLaws.{none_in}
 
 -- ---- states
@@ -65,7 +66,7 @@ seen_widened names v place image wide state s e h =
           ∙ ap (map (renamed place)) locals
           ∙ map-insert (renamed place) (map (renamed image) (map (verification_type names) s.locals)) v (object probe_array_class)
           ∙ ap (λ l. insert l v (object probe_array_class)) (images_twice place image (map (verification_type names) s.locals)
-              ∙ ap (λ f. map (renamed f) (map (verification_type names) s.locals)) e)) k;
+          ∙ ap (λ f. map (renamed f) (map (verification_type names) s.locals)) e)) k;
       stack =
           (all_moved names place state.stack
           ∙ ap (map (renamed place)) stack
@@ -95,7 +96,7 @@ module _ (b : Body) (first : ℕ) (states : List State) (array : ℕ) (names : L
       ap P place
       ∙ inside b first 0 is_code i (probe_size (lead_probe b first i) + (probe_size (early_probe b first i) + 0)) below (omega (arith, sized b first false i))
       ∙ ap (λ x. lead_of b first true i + x) (within_main b first 0 is_code i 0)
-      ∙ omega (arith, place_zero (map (insn_of 0 b.arg_slots) (image_part b first false i (insn_at b.code i) (flow_of (insn_at b.code i))))))
+      ∙ omega (arith, first_place (map (insn_of 0 b.arg_slots) (image_part b first false i (insn_at b.code i) (flow_of (insn_at b.code i))))))
       (λ above.
       let e : i ≡ n + (i - n) = omega arith in
       ap (λ j. P (image_of b first false j)) e
@@ -174,8 +175,11 @@ module _ (b : Body) (first : ℕ) (states : List State) (array : ℕ) (names : L
   to_narrow : (q : ℕ) (s : State) → IsNarrowFrame b first states (image_of b first true) (land_of b first true) (lead_of b first true) q s
       → FromNarrow q s
   to_narrow q s (inl o) =
-      record { place = land_of b first false o.frame.at;
-          asked = inl (record { frame = o.frame; listed = o.listed; place = refl; state_is = o.state_is }); is = land_is b first 0 is_code o.frame.at ∙ sym o.place }
+      record {
+        place = land_of b first false o.frame.at;
+        asked = inl (record { frame = o.frame; listed = o.listed; place = refl; state_is = o.state_is });
+        is = land_is b first 0 is_code o.frame.at ∙ sym o.place;
+      }
   to_narrow q s (inr (inl o)) = record {
     place = lead_of b first false (o.test + 1);
     asked = inr (inl (record { test = o.test; id = o.id; within = o.within; probed = o.probed; place = refl; state_is = o.state_is }));
@@ -210,10 +214,22 @@ module _ (b : Body) (first : ℕ) (states : List State) (array : ℕ) (names : L
         (λ plain. let h = told.each g plain in (h.0, to_wide g.at h.0 h.1, shift g.state h.0 h.2))
         (λ more.
         let h = each_behind b first states array names is_code are_frames fit named g more in
-        let o = h.1.0 in
-        (h.0, inr (record { behind =
-            record { test = o.test; within = o.within; tests = o.tests; place = ap P o.place ∙ behind_is_two o.test o.within o.tests; state_is =
-              o.state_is }; layout = refl }), shift g.state h.0 h.2))
+        let o = h.1.0 in (
+          h.0,
+          inr (record {
+            behind =
+                record {
+                  test = o.test;
+                  within = o.within;
+                  tests = o.tests;
+                  place = ap P o.place ∙ behind_is_two o.test o.within o.tests;
+                  state_is =
+                      o.state_is;
+                };
+            layout = refl;
+          }),
+          shift g.state h.0 h.2,
+        ))
         from.1)
 
     abbrev IsThere : ℕ → State → Type 0
@@ -235,7 +251,7 @@ module _ (b : Body) (first : ℕ) (states : List State) (array : ℕ) (names : L
         (inr (of_piece (wide_frames_at b first states array) n i g lt (listed_if (is_further b first states array i (late_probe b first i) (flow_of (insn_at b.code i))) g t)))
         (behind_is_two i lt e)
         (seen_is b first states array names is_code are_frames fit named (state_behind b states i (late_probe b first i))
-            ∙ ap (λ p. shifted (image_of b first false) b.arg_slots (type_state names (state_behind b states i p))) late))
+        ∙ ap (λ p. shifted (image_of b first false) b.arg_slots (type_state names (state_behind b states i p))) late))
         (λ plain. stands o late plain)
         (cases_Bool (is_further b first states array i o flows.Branches))
       where
@@ -247,10 +263,10 @@ module _ (b : Body) (first : ℕ) (states : List State) (array : ℕ) (names : L
         stands (Some id) late h = absurd (true_false h)
         stands None late h =
             let both = and_parts (has_frame b first states array (i + 1)) (is_none (lead_probe b first (i + 1)))
-                    (not-false (has_frame b first states array (i + 1) && is_none (lead_probe b first (i + 1))) h) in
+            (not-false (has_frame b first states array (i + 1) && is_none (lead_probe b first (i + 1))) h) in
             let next = next_within b first false is_code i lt (inr e) in
             let here = landing b first states array names is_code are_frames fit named (i + 1) next
-                    (or_left (has_frame b first states array (i + 1)) (has_inverse b first states array (i + 1) && is_none (lead_probe b first (i + 1))) both.0) in
+            (or_left (has_frame b first states array (i + 1)) (has_inverse b first states array (i + 1) && is_none (lead_probe b first (i + 1))) both.0) in
             let up = ap (lead_of b first false) (add-one i) in
             let size = behind_is b first states array names is_code are_frames fit named i e ∙ ap hop_size late in
             let lead_size = ap probe_size (none_is (lead_probe b first (i + 1)) both.1) in

@@ -27,16 +27,13 @@ use Rattle.jc_emit.proofs.InverseLaws.{inverse_tests_too}
 use Rattle.jc_methods.specs.declared.insn.Insn.TheVariants as insns
 use Rattle.jc_methods.specs.declared.insn.Flow.TheVariants as flows
 use Rattle.jc_methods.proofs.PlacedInsnLaws.{flow_placed}
+use Rattle.jc_methods.proofs.WidenedLaws.{first_place}
 
 -- ---- lists
 
 abbrev widths : List Insn → ℕ
 widths [] = 0
 widths (x ∷ xs) = widths_by (flow_of x) + widths xs
-
-pub place_zero : (xs : List Insn) → wide_place xs 0 ≡ 0
-place_zero [] = refl
-place_zero (x ∷ xs) = refl
 
 place_behind : (xs ys : List Insn) (k : ℕ) → wide_place (xs ++ ys) (length xs + k) ≡ widths xs + wide_place ys k
 place_behind [] ys k = let e : 0 + k ≡ k = zero-add k in ap (wide_place ys) e ∙ omega arith
@@ -45,7 +42,7 @@ place_behind (x ∷ xs) ys k =
     ap (wide_place (x ∷ xs ++ ys)) e ∙ omega (arith, place_behind xs ys k)
 
 place_in_front : (xs ys : List Insn) (k : ℕ) → k ≤ length xs → wide_place (xs ++ ys) k ≡ wide_place xs k
-place_in_front [] ys k le = let e : k ≡ 0 = omega arith in ap (wide_place ys) e ∙ place_zero ys ∙ sym e
+place_in_front [] ys k le = let e : k ≡ 0 = omega arith in ap (wide_place ys) e ∙ first_place ys ∙ sym e
 place_in_front (x ∷ xs) ys zero le = refl
 place_in_front (x ∷ xs) ys (suc k) le = ap (λ n. widths_by (flow_of x) + n) (place_in_front xs ys k (omega arith))
 
@@ -277,7 +274,7 @@ module _ (b : Body) (first : ℕ) (call : ℕ) (is_code : IsCode b.code) where
   within_lead i =
       let rest = early_part (early_probe b first i) i ++ main_n i (flow_of (old i)) in
       let long : probe_size (lead_probe b first i) ≡ length (code_of (lead_part (lead_probe b first i) i)) =
-              sym (length-map (lead_part (lead_probe b first i) i) (insn_of call b.arg_slots) ∙ length-lead (lead_probe b first i) i) in
+      sym (length-map (lead_part (lead_probe b first i) i) (insn_of call b.arg_slots) ∙ length-lead (lead_probe b first i) i) in
       ap (λ l. wide_place l (probe_size (lead_probe b first i))) (code_both (lead_part (lead_probe b first i) i) rest)
       ∙ place_in_front (code_of (lead_part (lead_probe b first i) i)) (code_of rest) (probe_size (lead_probe b first i)) (omega (arith, long))
       ∙ ones_place (code_of (lead_part (lead_probe b first i) i)) (probe_size (lead_probe b first i)) (lead_ones (lead_probe b first i) i)
@@ -303,7 +300,7 @@ module _ (b : Body) (first : ℕ) (call : ℕ) (is_code : IsCode b.code) where
   pub lead_is : (i : ℕ) → W (lead_n i) ≡ lead_w i
   lead_is i =
       ⊎_elim
-      (λ below. let e : lead_n i ≡ lead_n i + 0 = omega arith in ap W e ∙ inside i 0 below (omega arith) ∙ ap (λ k. lead_w i + k) (place_zero (code_of (seg_n i))) ∙ omega arith)
+      (λ below. let e : lead_n i ≡ lead_n i + 0 = omega arith in ap W e ∙ inside i 0 below (omega arith) ∙ ap (λ k. lead_w i + k) (first_place (code_of (seg_n i))) ∙ omega arith)
       (λ above.
       let e : i ≡ n + (i - n) = omega arith in
       ap (λ j. W (lead_n j)) e

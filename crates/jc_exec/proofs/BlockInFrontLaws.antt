@@ -3,10 +3,11 @@ use Rattle.std.proofs.Common.{◌≡◌, ◌≢◌, ◌⊎◌, inl, inr, ℕ, �
 use Rattle.std.proofs.lemmas.Bool.{eqb-true, eqb-false, false≢true}
 use Rattle.std.proofs.lemmas.List.{take_at, take-append-drop}
 use Rattle.std.proofs.lemmas.Slice.Eq.{bytes_eq-Decides}
+use Rattle.std.proofs.lemmas.Option.{same_Some}
 use Rattle.jc_bytes.specs.Modified.{IsModified}
 use Rattle.jc_bytes.specs.Deciding.{is_modified_text}
 use Rattle.jc_bytes.proofs.DecidingLaws.{Decides, modified_decided}
-use Rattle.jc_bytes.proofs.DecoderLaws.{some_is, some_none}
+use Rattle.jc_bytes.proofs.OptionLaws.{some_none}
 use Rattle.jc_exec.specs.declared.hits.ClassHits.{ClassHits}
 use Rattle.jc_exec.specs.declared.session.Session.{Session}
 use Rattle.jc_exec.specs.Format.{Block, header, session, class, header_text, IsSessionBlock, IsClassBlock, IsBlock}
@@ -45,7 +46,7 @@ other_header_decided text = by (version_at text) refl
         version : (b : Bool) → nat_eq v 0x1007 ≡ b → ((found : ℕ) × HasOtherHeader text found) ⊎ ((found : ℕ) → HasOtherHeader text found → ⊥)
         version true own = inr
             (λ found h. h.other (ap (λ (r : ℕ × List ℕ). r.0)
-                (some_is (found, h.more) (v, more) (sym (version_again text h.version h.more found h.parts h.value) ∙ is)) ∙ eqb-true v 0x1007 own))
+            (same_Some (found, h.more) (v, more) (sym (version_again text h.version h.more found h.parts h.value) ∙ is)) ∙ eqb-true v 0x1007 own))
         version false other = let t = version_takes text v more is in inl (v, record { version = t.0; more = more; parts = t.1; value = t.2; other = eqb-false v 0x1007 other })
 
 -- ---- the block in front
@@ -76,7 +77,7 @@ session_decided text = by (session_at text) refl
     by (Some (s, more)) is = elim (modified_or_not s.id) [
       | inl valid ↦ (let t = session_takes text (s, more) is in inl (record { block = session s; front = t.text; more = more; parts = t.parts; is = t.block valid }))
       | inr other ↦ inr (λ x front rest parts block.
-          let same : (x, rest) ≡ (s, more) = some_is (x, rest) (s, more) (sym (session_again front rest x block) ∙ ap session_at (sym parts) ∙ is) in
+          let same : (x, rest) ≡ (s, more) = same_Some (x, rest) (s, more) (sym (session_again front rest x block) ∙ ap session_at (sym parts) ∙ is) in
           other (subst (λ (r : Session × List ℕ). IsModified r.0.id) same block.2.text))
     ]
 
@@ -88,7 +89,7 @@ class_decided text = by (class_at text) refl
     by (Some (c, more)) is = elim (modified_or_not c.name) [
       | inl valid ↦ (let t = class_takes text (c, more) is in inl (record { block = class c; front = t.text; more = more; parts = t.parts; is = t.block valid }))
       | inr other ↦ inr (λ x front rest parts block.
-          let same : (x, rest) ≡ (c, more) = some_is (x, rest) (c, more) (sym (class_again front rest x block) ∙ ap class_at (sym parts) ∙ is) in
+          let same : (x, rest) ≡ (c, more) = same_Some (x, rest) (c, more) (sym (class_again front rest x block) ∙ ap class_at (sym parts) ∙ is) in
           other (subst (λ (r : ClassHits × List ℕ). IsModified r.0.name) same block.2.text))
     ]
 

@@ -2,13 +2,14 @@
 use Rattle.std.proofs.Common.{◌≡◌, ℕ, ◌<◌, List, [], ◌∷◌, ◌++◌, ◌↔◌, Bool, true, false, get_or, Option, Some, None, Err, refl, sym, ◌∙◌, ap, subst, arith}
 use Rattle.std.specs.Prelude.{IsTrue}
 use Rattle.std.proofs.lemmas.Bool.{false≢true}
+use Rattle.std.proofs.lemmas.Option.{same_Some}
 use Rattle.jc_bytes.specs.declared.fail.Fail.{Fail}
 use Rattle.jc_bytes.specs.declared.fail.Fail.TheVariants as fails
 use Rattle.jc_bytes.specs.declared.fail.Unfit.{Unfit}
 use Rattle.jc_bytes.specs.Decoder.{Gives, SameEnd, first}
 use Rattle.jc_bytes.specs.Modified.{IsModified}
 use Rattle.jc_bytes.specs.Reader.{Reading}
-use Rattle.jc_bytes.proofs.DecoderLaws.{some_is, some_none}
+use Rattle.jc_bytes.proofs.OptionLaws.{some_none}
 use Rattle.jc_exec.specs.declared.hits.ClassHits.{ClassHits}
 use Rattle.jc_exec.specs.declared.session.Session.{Session}
 use Rattle.jc_exec.specs.declared.refusal.ExecRefusal.{ExecRefusal}
@@ -73,7 +74,7 @@ no_session at offset here kind none = unfit_session at offset here kind (λ s fr
 pub no_id : (at : Reading) (offset : ℕ) (read : Session × List ℕ) → offset ≡ at.place → get_or at.left 0 0 ≡ 0x10 → session_at at.left ≡ Some read
     → (IsModified read.0.id → ⊥) → IsUnfit at (bad_exec offset)
 no_id at offset read here kind found apart = unfit_session at offset here kind (λ s front more parts block.
-    let same = some_is (s, more) read (sym (session_again front more s block) ∙ sym (ap session_at parts) ∙ found) in
+    let same = same_Some (s, more) read (sym (session_again front more s block) ∙ sym (ap session_at parts) ∙ found) in
     apart (subst (λ (r : Session × List ℕ). IsModified r.0.id) same block.2.text))
 
 unfit_class : (at : Reading) (offset : ℕ) → offset ≡ at.place → get_or at.left 0 0 ≡ 0x11
@@ -92,7 +93,7 @@ no_class at offset here kind none = unfit_class at offset here kind (λ c front 
 pub no_name : (at : Reading) (offset : ℕ) (read : ClassHits × List ℕ) → offset ≡ at.place → get_or at.left 0 0 ≡ 0x11 → class_at at.left ≡ Some read
     → (IsModified read.0.name → ⊥) → IsUnfit at (bad_exec offset)
 no_name at offset read here kind found apart = unfit_class at offset here kind (λ c front more parts block.
-    let same = some_is (c, more) read (sym (class_again front more c block) ∙ sym (ap class_at parts) ∙ found) in
+    let same = same_Some (c, more) read (sym (class_again front more c block) ∙ sym (ap class_at parts) ∙ found) in
     apart (subst (λ (r : ClassHits × List ℕ). IsModified r.0.name) same block.2.text))
 
 -- the first block of all is no header

@@ -157,16 +157,20 @@ pub gathered_only : (text : List ℕ) (ss more : List Session) (known fresh : En
 gathered_only text ss more known fresh keyed g read s blocks u =
     let before = blocks_of (store_of ss known) in
     let own : IsUnion (before ++ g.read) (store_with ss known more fresh) = union_blocks before g.read (store_of ss known)
-            (store_with ss known more fresh) (own_union (store_of ss known) (keyed_apart known keyed)) (g.union ss) in
+    (store_with ss known more fresh) (own_union (store_of ss known) (keyed_apart known keyed)) (g.union ss) in
     one_union (before ++ read) (store_with ss known more fresh) s (subst (λ (l : List Block). IsUnion (before ++ l) (store_with ss known more fresh)) (one_list text g.read read g.blocks blocks) own) u
 
 pub gathered_not_refused : (text : List ℕ) (ss more : List Session) (known fresh : Entries) → Keyed known → Gathers known text more fresh
     → (why : Refused) → FirstRefusal (store_of ss known) text why → ⊥
 gathered_not_refused text ss more known fresh keyed g why refused =
     let before = blocks_of (store_of ss known) in
-    not_both (store_of ss known) text why
-    (g.read, store_with ss known more fresh, g.blocks, union_blocks before g.read (store_of ss known) (store_with ss known more fresh)
-        (own_union (store_of ss known) (keyed_apart known keyed)) (g.union ss)) refused
+    not_both (store_of ss known) text why (
+      g.read,
+      store_with ss known more fresh,
+      g.blocks,
+      union_blocks before g.read (store_of ss known) (store_with ss known more fresh)
+          (own_union (store_of ss known) (keyed_apart known keyed)) (g.union ss),
+    ) refused
 
 -- a text whose blocks have a union is refused for want of memory alone
 pub refused_not_taken : (e : Fail ExecRefusal) (before : Store) (text : List ℕ) → Refuses e before text → (read : List Block) (s : Store)

@@ -3,10 +3,11 @@ use Rattle.std.proofs.Common.{◌≡◌, ℕ, List, [], ◌∷◌, ◌++◌, Som
 use Rattle.std.specs.Int.{w64, cast_signed}
 use Rattle.std.proofs.lemmas.Bool.{eqb-true}
 use Rattle.std.proofs.lemmas.List.{append-nil, append_cancel_left}
+use Rattle.std.proofs.lemmas.Option.{same_Some}
 use Rattle.byteorder.specs.Endian.{big_number}
 use Rattle.jc_bytes.specs.Decoder.{byte_at, number_at}
 use Rattle.jc_bytes.specs.Modified.{IsModified}
-use Rattle.jc_bytes.proofs.DecoderLaws.{bind_some, guard_some, some_is, number_takes, number_again, byte_takes, byte_again}
+use Rattle.jc_bytes.proofs.DecoderLaws.{bind_some, guard_some, number_takes, number_again, byte_takes, byte_again}
 use Rattle.jc_exec.specs.declared.session.Session.{Session}
 use Rattle.jc_exec.specs.declared.hits.ClassHits.{ClassHits}
 use Rattle.jc_exec.specs.Format.{Block, header, session, class, header_text, SessionParts, session_joined, SpellsSession, IsSessionBlock, IsBlock, AreBlocks, Blocks}
@@ -56,7 +57,7 @@ session_takes left read e =
     let id_is = text_takes kind.0.1 id.0.0 id.0.1 id.1 in
     let start_is = number_takes 8 id.0.1 start.0.0 start.0.1 start.1 in
     let dump_is = number_takes 8 start.0.1 dump.0.0 dump.0.1 dump.1 in
-    subst (λ (r : Session × List ℕ). TookSession left r.0 r.1) (some_is _ read dump.2)
+    subst (λ (r : Session × List ℕ). TookSession left r.0 r.1) (same_Some _ read dump.2)
     (took_session left kind.0.1 id.0.1 start.0.1 dump.0.1
     (record { size = id_is.0; id = id.0.0; start = start_is.0; dump = dump_is.0 })
     (record { id = id.0.0; start = cast_signed w64 start.0.0; dump = cast_signed w64 dump.0.0 })
@@ -91,13 +92,13 @@ one_front a b text front rest other later x y p q = by a b x y (sym (kind_first 
     by header (class c) x y kinds = absurd (omega (arith, kinds))
     by (session s) header x y kinds = absurd (omega (arith, kinds))
     by (session s) (session t) x y kinds =
-        let same = some_is (s, rest) (t, later) (sym (session_again front rest s x) ∙ ap session_at (sym p ∙ q) ∙ session_again other later t y) in
+        let same = same_Some (s, rest) (t, later) (sym (session_again front rest s x) ∙ ap session_at (sym p ∙ q) ∙ session_again other later t y) in
         (ap (λ (r : Session × List ℕ). session r.0) same, ap (λ (r : Session × List ℕ). r.1) same)
     by (session s) (class c) x y kinds = absurd (omega (arith, kinds))
     by (class c) header x y kinds = absurd (omega (arith, kinds))
     by (class c) (session s) x y kinds = absurd (omega (arith, kinds))
     by (class c) (class d) x y kinds =
-        let same = some_is (c, rest) (d, later) (sym (class_again front rest c x) ∙ ap class_at (sym p ∙ q) ∙ class_again other later d y) in
+        let same = same_Some (c, rest) (d, later) (sym (class_again front rest c x) ∙ ap class_at (sym p ∙ q) ∙ class_again other later d y) in
         (ap (λ (r : ClassHits × List ℕ). class r.0) same, ap (λ (r : ClassHits × List ℕ). r.1) same)
 
 pub no_block : (b : Block) (text front rest : List ℕ) → IsBlock front b → text ≡ front ++ rest → text ≡ [] → ⊥

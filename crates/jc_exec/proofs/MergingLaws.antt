@@ -5,7 +5,7 @@ use Rattle.std.proofs.lemmas.Bool.{eqb-true, eqb-false, eq-eqb, and_parts, or_ca
 use Rattle.std.proofs.lemmas.List.{append-nil, map-append}
 use Rattle.std.proofs.lemmas.List.Elements.{Contains-append_left, Contains-push, Contains-push_cases}
 use Rattle.std.proofs.lemmas.Slice.Eq.{bytes_eq-Decides}
-use Rattle.jc_bytes.proofs.DecoderLaws.{some_is}
+use Rattle.std.proofs.lemmas.Option.{same_Some}
 use Rattle.jc_exec.specs.declared.hits.ClassHits.{ClassHits}
 use Rattle.jc_exec.specs.declared.session.Session.{Session}
 use Rattle.jc_exec.specs.Format.{Block, header, session, class}
@@ -81,13 +81,13 @@ first_step c r cs ds e = by (nat_eq c.id r.id) (agree c r) (with_record cs r) re
   where
     by : (a b : Bool) (rest : Option (List ClassHits)) → nat_eq c.id r.id ≡ a → agree c r ≡ b → with_record cs r ≡ rest
         → with_first c r cs a b rest ≡ Some ds → MergedAtFirst c r cs ds ⊎ MergedBehind c r cs ds
-    by true true rest id agrees is e = inl (eqb-true c.id r.id id, agree_agrees c r agrees, sym (some_is (either_hits c r ∷ cs) ds e))
+    by true true rest id agrees is e = inl (eqb-true c.id r.id id, agree_agrees c r agrees, sym (same_Some (either_hits c r ∷ cs) ds e))
     by true false rest id agrees is e = absurd cc
-    by false b (Some es) id agrees is e = inr (id, es, is, sym (some_is (c ∷ es) ds e))
+    by false b (Some es) id agrees is e = inr (id, es, is, sym (same_Some (c ∷ es) ds e))
     by false b None id agrees is e = absurd cc
 
 ids_with : (cs ds : List ClassHits) (r : ClassHits) → with_record cs r ≡ Some ds → ids_of ds ≡ ids_of cs ++ cond (among r.id (ids_of cs)) [] (r.id ∷ [])
-ids_with [] ds r e = ap ids_of (sym (some_is (r ∷ []) ds e))
+ids_with [] ds r e = ap ids_of (sym (same_Some (r ∷ []) ds e))
 ids_with (c ∷ cs) ds r e = elim (first_step c r cs ds e) [
   | inl same ↦
       let here : nat_eq c.id r.id ≡ true = eq-eqb c.id r.id same.0 in
@@ -99,7 +99,7 @@ ids_with (c ∷ cs) ds r e = elim (first_step c r cs ds e) [
 
 merged_with : (rs cs ds : List ClassHits) (r : ClassHits) → OneOfEachId cs → AllByRecursion (IsMerged rs) cs
     → (among r.id (ids_of cs) ≡ false → among r.id (ids_of rs) ≡ false) → with_record cs r ≡ Some ds → AllByRecursion (IsMerged (rs ++ r ∷ [])) ds
-merged_with rs [] ds r apart a none e = subst (AllByRecursion (IsMerged (rs ++ r ∷ []))) (some_is (r ∷ []) ds e) (merged_first rs r (none refl), tt)
+merged_with rs [] ds r apart a none e = subst (AllByRecursion (IsMerged (rs ++ r ∷ []))) (same_Some (r ∷ []) ds e) (merged_first rs r (none refl), tt)
 merged_with rs (c ∷ cs) ds r apart a none e = elim (first_step c r cs ds e) [
   | inl same ↦ subst (AllByRecursion (IsMerged (rs ++ r ∷ []))) (sym same.2) (merged_same rs r c same.0 same.1 a.0, all_merged_other rs cs r (subst (λ (id : ℕ). IsNew id cs) same.0 apart.0) a.1)
   | inr other ↦
@@ -173,16 +173,16 @@ union_record bs s r ds u e =
     }
 
 pub union_block : (bs : List Block) (b : Block) (s t : Store) → IsUnion bs s → with_block s b ≡ Some t → IsUnion (bs ++ b ∷ []) t
-union_block bs header s t u e = subst (IsUnion (bs ++ header ∷ [])) (some_is s t e) (union_header bs s u)
-union_block bs (session x) s t u e = subst (IsUnion (bs ++ session x ∷ [])) (some_is (record { sessions = s.sessions ++ x ∷ []; classes = s.classes }) t e) (union_session bs s x u)
+union_block bs header s t u e = subst (IsUnion (bs ++ header ∷ [])) (same_Some s t e) (union_header bs s u)
+union_block bs (session x) s t u e = subst (IsUnion (bs ++ session x ∷ [])) (same_Some (record { sessions = s.sessions ++ x ∷ []; classes = s.classes }) t e) (union_session bs s x u)
 union_block bs (class r) s t u e = by (with_record s.classes r) refl e
   where
     by : (o : Option (List ClassHits)) → with_record s.classes r ≡ o → option_map (λ (cs : List ClassHits). record s { classes = cs }) o ≡ Some t → IsUnion (bs ++ class r ∷ []) t
-    by (Some ds) is e = subst (IsUnion (bs ++ class r ∷ [])) (some_is (record { sessions = s.sessions; classes = ds }) t e) (union_record bs s r ds u is)
+    by (Some ds) is e = subst (IsUnion (bs ++ class r ∷ [])) (same_Some (record { sessions = s.sessions; classes = ds }) t e) (union_record bs s r ds u is)
     by None is e = absurd cc
 
 pub union_blocks : (bs more : List Block) (s t : Store) → IsUnion bs s → union_of s more ≡ Some t → IsUnion (bs ++ more) t
-union_blocks bs [] s t u e = subst (λ (l : List Block). IsUnion l t) (sym (append-nil bs)) (subst (IsUnion bs) (some_is s t e) u)
+union_blocks bs [] s t u e = subst (λ (l : List Block). IsUnion l t) (sym (append-nil bs)) (subst (IsUnion bs) (same_Some s t e) u)
 union_blocks bs (b ∷ more) s t u e = by (with_block s b) refl e (λ s1 u1 e1. union_blocks (bs ++ b ∷ []) more s1 t u1 e1)
   where
     by : (o : Option Store) → with_block s b ≡ o → option_and_then (λ (x : Store). union_of x more) o ≡ Some t
@@ -239,12 +239,12 @@ merging_runs bs (header ∷ more) s u same = merging_runs (bs ++ header ∷ []) 
     (subst (λ (l : List Block). Consistent (records_of l)) (sym (append_assoc bs (header ∷ []) more)) same)
 merging_runs bs (session x ∷ more) s u same =
     merging_runs (bs ++ session x ∷ []) more (record { sessions = s.sessions ++ x ∷ []; classes = s.classes }) (union_session bs s x u)
-        (subst (λ (l : List Block). Consistent (records_of l)) (sym (append_assoc bs (session x ∷ []) more)) same)
+    (subst (λ (l : List Block). Consistent (records_of l)) (sym (append_assoc bs (session x ∷ []) more)) same)
 merging_runs bs (class r ∷ more) s u same =
     let rs = records_of bs in
     let later : Consistent (records_of ((bs ++ class r ∷ []) ++ more)) = subst (λ (l : List Block). Consistent (records_of l)) (sym (append_assoc bs (class r ∷ []) more)) same in
     let one : Consistent (rs ++ r ∷ []) = subst Consistent (records-append bs (class r ∷ []))
-            (front_consistent (records_of (bs ++ class r ∷ [])) (records_of more) (subst Consistent (records-append (bs ++ class r ∷ []) more) later)) in
+    (front_consistent (records_of (bs ++ class r ∷ [])) (records_of more) (subst Consistent (records-append (bs ++ class r ∷ []) more) later)) in
     let there : AllByRecursion (HasRecord rs) (ids_of s.classes) = subst (AllByRecursion (HasRecord rs)) (sym u.ids) (seen_has_record rs) in
     let fits = record_fits s.classes r (agrees_all rs s.classes r one u.merged there) in
     let rest = merging_runs (bs ++ class r ∷ []) more (record { sessions = s.sessions; classes = fits.0 }) (union_record bs s r fits.0 u fits.1) later in

@@ -5,11 +5,12 @@ use denote.Bor.{Bor}
 use Rattle.std.specs.Option.{option_copied}
 use Rattle.std.proofs.lemmas.Map.Steps.{set_value_same}
 use Rattle.std.specs.Map.{lookup, set_value}
+use Rattle.std.proofs.lemmas.Option.{same_Some}
 use Rattle.indexmap.specs.IndexMap.{insert_entry, insert_all}
 use Rattle.jc_bytes.specs.declared.fail.Fail.{Fail}
 use Rattle.jc_bytes.specs.declared.fail.Fail.TheVariants as fails
 use Rattle.jc_bytes.specs.Modified.{IsModified}
-use Rattle.jc_bytes.proofs.DecoderLaws.{some_is, some_none}
+use Rattle.jc_bytes.proofs.OptionLaws.{some_none}
 use Rattle.jc_exec.specs.declared.hits.ClassHits.{ClassHits}
 use Rattle.jc_exec.specs.declared.refusal.ExecRefusal.{ExecRefusal}
 use Rattle.jc_exec.specs.Adding.{Entries, over, Merges, Puts, RefusesMerging, GivesMerged, MergesInto}
@@ -32,7 +33,7 @@ found k [] c keyed is = absurd cc
 found k (e ∷ es) c keyed is = by (nat_eq k e.0) refl is (λ later. found k es c keyed.4 later)
   where
     by : (b : Bool) → nat_eq k e.0 ≡ b → cond b (Some e.1) (lookup (nat_eq k) es) ≡ Some c → (lookup (nat_eq k) es ≡ Some c → Found k es c) → Found k (e ∷ es) c
-    by true same is rest = subst (Found k (e ∷ es)) (some_is e.1 c is) (record { there = (0, omega arith, refl); id = sym keyed.0 ∙ sym (eqb-true k e.0 same); small = keyed.1; text = keyed.2 })
+    by true same is rest = subst (Found k (e ∷ es)) (same_Some e.1 c is) (record { there = (0, omega arith, refl); id = sym keyed.0 ∙ sym (eqb-true k e.0 same); small = keyed.1; text = keyed.2 })
     by false same is rest = let r = rest is in record { there = (suc r.there.0, omega (arith, r.there.1), r.there.2); id = r.id; small = r.small; text = r.text }
 
 -- nothing was found at the first, nor behind it
@@ -121,7 +122,7 @@ insert_past k w es [] keyed new some = refl
 insert_past k w es (f ∷ fs) keyed new some =
     let apart : nat_eq k f.0 ≡ false = ne_eqb k f.0 (λ same. new.0 (same ∙ keyed.0)) in
     let still : is_some (lookup (nat_eq k) (insert_entry nat_eq es f.0 f.1)) ≡ true =
-            ap is_some (lookup_insert k f.0 f.1 es ∙ ap (λ (b : Bool). cond b (Some f.1) (lookup (nat_eq k) es)) apart) ∙ some in
+    ap is_some (lookup_insert k f.0 f.1 es ∙ ap (λ (b : Bool). cond b (Some f.1) (lookup (nat_eq k) es)) apart) ∙ some in
     ap (λ (l : Entries). insert_all nat_eq l fs) (insert_swap k f.0 f.1 w es apart some) ∙ insert_past k w (insert_entry nat_eq es f.0 f.1) fs keyed.4 new.1 still
 
 -- to gather a record is to put it into the whole
@@ -135,7 +136,7 @@ insert_gathered k w es (f ∷ fs) keyed = by (nat_eq k f.0) refl (insert_gathere
     by true is rest =
         let same : k ≡ f.0 = eqb-true k f.0 is in
         let some : is_some (lookup (nat_eq k) (insert_entry nat_eq es k f.1)) ≡ true =
-                ap is_some (lookup_insert k k f.1 es ∙ ap (λ (b : Bool). cond b (Some f.1) (lookup (nat_eq k) es)) (eq-eqb k k refl)) in
+        ap is_some (lookup_insert k k f.1 es ∙ ap (λ (b : Bool). cond b (Some f.1) (lookup (nat_eq k) es)) (eq-eqb k k refl)) in
         ap (λ (n : ℕ). insert_all nat_eq (insert_entry nat_eq es n w) fs) (sym same)
         ∙ ap (λ (l : Entries). insert_all nat_eq l fs) (sym (insert_again k f.1 w es))
         ∙ insert_past k w (insert_entry nat_eq es k f.1) fs keyed.4 (subst (λ (n : ℕ). IsNew n (classes_of fs)) (sym keyed.0 ∙ sym same) keyed.3) some
@@ -208,7 +209,7 @@ record_known (e ∷ es) r c keyed is agrees = by (nat_eq r.id e.0) refl is (λ l
         → (lookup (nat_eq r.id) es ≡ Some c → with_record (classes_of es) r ≡ Some (classes_of (insert_entry nat_eq es r.id (either_hits c r))))
         → with_record (classes_of (e ∷ es)) r ≡ Some (classes_of (cond b ((e.0, either_hits c r) ∷ es) (e ∷ insert_entry nat_eq es r.id (either_hits c r))))
     by true same is rest =
-        let here : e.1 ≡ c = some_is e.1 c is in
+        let here : e.1 ≡ c = same_Some e.1 c is in
         let id : nat_eq e.1.id r.id ≡ true = eq-eqb e.1.id r.id (sym keyed.0 ∙ sym (eqb-true r.id e.0 same)) in
         let agrees_here : agree e.1 r ≡ true = ap (λ (x : ClassHits). agree x r) here ∙ agrees in
         rw (id, agrees_here) (ap (λ (x : ClassHits). Some (either_hits x r ∷ classes_of es)) here)
@@ -335,7 +336,7 @@ got (Some c) id es keyed is = let f = found id es c.now keyed (sym is) in (f.the
 pub got_only : (r : Option (Bor ClassHits)) (id : ℕ) (es : Entries) → Keyed es → option_copied r ≡ lookup (nat_eq id) es → (c : ClassHits)
     → Contains (classes_of es) c → c.id ≡ id → IsSomeAnd r (λ d. d.now ≡ c)
 got_only None id es keyed is c there same = some_none (sym (there_is_found id es c keyed there same) ∙ sym is)
-got_only (Some d) id es keyed is c there same = some_is d.now c (is ∙ there_is_found id es c keyed there same)
+got_only (Some d) id es keyed is c there same = same_Some d.now c (is ∙ there_is_found id es c keyed there same)
 
 refused_record : (es : Entries) (r c : ClassHits) → Keyed es → lookup (nat_eq r.id) es ≡ Some c → agree c r ≡ false → with_record (classes_of es) r ≡ None
 refused_record [] r c keyed is apart = absurd cc
@@ -344,7 +345,7 @@ refused_record (e ∷ es) r c keyed is apart = by (nat_eq r.id e.0) refl is (λ 
     by : (b : Bool) → nat_eq r.id e.0 ≡ b → cond b (Some e.1) (lookup (nat_eq r.id) es) ≡ Some c
         → (lookup (nat_eq r.id) es ≡ Some c → with_record (classes_of es) r ≡ None) → with_record (classes_of (e ∷ es)) r ≡ None
     by true same is rest =
-        let here : e.1 ≡ c = some_is e.1 c is in
+        let here : e.1 ≡ c = same_Some e.1 c is in
         let id : nat_eq e.1.id r.id ≡ true = eq-eqb e.1.id r.id (sym keyed.0 ∙ sym (eqb-true r.id e.0 same)) in
         let differ : agree e.1 r ≡ false = ap (λ (x : ClassHits). agree x r) here ∙ apart in
         rw (id, differ) refl
@@ -362,7 +363,7 @@ says_conflict es c r fails.Memory keyed conflict why = tt
 says_conflict es c r (fails.Said refusal) keyed conflict why =
     let one = there_is_found r.id es why.0 keyed why.1.holds why.1.same_id in
     let other = there_is_found r.id es c keyed conflict.holds conflict.same_id in
-    why.2 ∙ ap (λ (x : ClassHits). conflict_of x r) (some_is why.0 c (sym one ∙ other))
+    why.2 ∙ ap (λ (x : ClassHits). conflict_of x r) (same_Some why.0 c (sym one ∙ other))
 
 pub put_refuses : (result : Result (Unit {0}) (Fail ExecRefusal)) (es later : Entries) (r : ClassHits) → Keyed es → OnOk result (Puts es later r)
     → IfErr result (λ e. RefusesRecord e (classes_of es) r)

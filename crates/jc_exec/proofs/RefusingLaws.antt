@@ -114,7 +114,7 @@ cut_more base done text rest x xs c =
 not_later : (base done : List Block) (text rest later : List ℕ) (y : Block) (ys : List Block) → Cut base done text [] rest → Cut base done text (y ∷ ys) later → ⊥
 not_later base done text rest later y ys a b =
     subst (λ (l : List Block). Stops base l rest) (append-nil done) a.stops y b.blocks.0 (b.blocks.1 ++ later) ys b.store
-        (sym (cut_empty base done text rest a) ∙ cut_front base done text later y ys b) b.blocks.3 (begins_front done y ys b.begins) b.union
+    (sym (cut_empty base done text rest a) ∙ cut_front base done text later y ys b) b.blocks.3 (begins_front done y ys b.begins) b.union
 
 same_cut : (base done : List Block) (text rest later : List ℕ) (xs ys : List Block) → Cut base done text xs rest → Cut base done text ys later → (xs ≡ ys) × (rest ≡ later)
 same_cut base done text rest later [] [] a b = (refl, sym (cut_empty base done text rest a) ∙ cut_empty base done text later b)
@@ -122,9 +122,9 @@ same_cut base done text rest later (x ∷ xs) [] a b = absurd (not_later base do
 same_cut base done text rest later [] (y ∷ ys) a b = absurd (not_later base done text rest later y ys a b)
 same_cut base done text rest later (x ∷ xs) (y ∷ ys) a b =
     let same = one_front x y text a.blocks.0 (a.blocks.1 ++ rest) b.blocks.0 (b.blocks.1 ++ later) a.blocks.3 b.blocks.3
-            (cut_front base done text rest x xs a) (cut_front base done text later y ys b) in
+    (cut_front base done text rest x xs a) (cut_front base done text later y ys b) in
     let next : Cut base (done ++ x ∷ []) (a.blocks.1 ++ rest) ys later = subst (λ (l : List ℕ). Cut base (done ++ x ∷ []) l ys later) (sym same.1)
-            (subst (λ (z : Block). Cut base (done ++ z ∷ []) (b.blocks.1 ++ later) ys later) (sym same.0) (cut_more base done text later y ys b)) in
+    (subst (λ (z : Block). Cut base (done ++ z ∷ []) (b.blocks.1 ++ later) ys later) (sym same.0) (cut_more base done text later y ys b)) in
     let more = same_cut base (done ++ x ∷ []) (a.blocks.1 ++ rest) rest later xs ys (cut_more base done text rest x xs a) next in
     (λ i. same.0 i ∷ more.0 i, more.1)
 
@@ -203,9 +203,9 @@ one_reason before text a b x y =
     let store : x.store ≡ y.store = one_union (blocks_of before ++ y.read) x.store y.store (subst (λ (l : List Block). IsUnion (blocks_of before ++ l) x.store) same.0 x.union) y.union in
     let offset : length x.taken ≡ length y.taken = omega (arith, ap length x.parts, length-append x.taken x.rest, ap length y.parts, length-append y.taken y.rest, ap length same.1) in
     let first : RefusedHere y.read y.store (length y.taken) y.rest a = subst (λ (l : List Block). RefusedHere l y.store (length y.taken) y.rest a)
-            same.0 (subst (λ (s : Store). RefusedHere x.read s (length y.taken) y.rest a) store
-              (subst (λ (n : ℕ). RefusedHere x.read x.store n y.rest a) offset
-                (subst (λ (l : List ℕ). RefusedHere x.read x.store (length x.taken) l a) same.1 x.refused))) in
+    same.0 (subst (λ (s : Store). RefusedHere x.read s (length y.taken) y.rest a) store
+    (subst (λ (n : ℕ). RefusedHere x.read x.store n y.rest a) offset
+    (subst (λ (l : List ℕ). RefusedHere x.read x.store (length x.taken) l a) same.1 x.refused))) in
     one_reason_here y.read y.store (length y.taken) y.rest a b (union_distinct (blocks_of before ++ y.read) y.store y.union) first y.refused
 
 pub not_both : (before : Store) (text : List ℕ) (why : Refused) → IsTaken before text → FirstRefusal before text why → ⊥

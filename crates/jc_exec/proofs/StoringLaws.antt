@@ -39,7 +39,7 @@ classes_union bs s (c ∷ cs) u one =
     subst (λ (l : List Block). IsUnion l (record { sessions = s.sessions; classes = s.classes ++ c ∷ cs })) (append_assoc bs (class c ∷ []) (map class cs))
     (subst (λ (l : List ClassHits). IsUnion ((bs ++ class c ∷ []) ++ map class cs) (record { sessions = s.sessions; classes = l })) (append_assoc s.classes (c ∷ []) cs)
     (classes_union (bs ++ class c ∷ []) (record { sessions = s.sessions; classes = s.classes ++ c ∷ [] }) cs
-        (union_class bs s c u (new_behind s.classes c cs one)) (subst OneOfEachId (sym (append_assoc s.classes (c ∷ []) cs)) one)))
+    (union_class bs s c u (new_behind s.classes c cs one)) (subst OneOfEachId (sym (append_assoc s.classes (c ∷ []) cs)) one)))
 
 pub own_union : (s : Store) → OneOfEachId s.classes → IsUnion (blocks_of s) s
 own_union s one = classes_union (map session s.sessions) (record { sessions = s.sessions; classes = [] }) s.classes

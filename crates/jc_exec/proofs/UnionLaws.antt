@@ -144,7 +144,7 @@ union_class bs s c u new =
     let records : records_of (bs ++ class c ∷ []) ≡ rs ++ c ∷ [] = records-append bs (class c ∷ []) in
     let none = new_to_records bs s c.id u new in
     let merged : AllByRecursion (IsMerged (rs ++ c ∷ [])) (s.classes ++ c ∷ []) = all_push (IsMerged (rs ++ c ∷ [])) s.classes c
-            (all_merged_other rs s.classes c new u.merged) (merged_first rs c none) in
+    (all_merged_other rs s.classes c new u.merged) (merged_first rs c none) in
     record {
       sessions = u.sessions ∙ sym (sessions-append bs (class c ∷ []) ∙ append-nil (sessions_of bs));
       ids =

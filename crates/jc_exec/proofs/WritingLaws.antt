@@ -116,8 +116,16 @@ class_text_is_block c small text =
     let count = count_is_count (length c.bits) small.bits in (
       record { id = id_text c.id; size = size_text (length c.name); name = c.name; count = count_text (length c.bits); bits = packed c.bits },
       refl,
-      record { id = id_is_big c.id small.id; size = size_is_big (length c.name) small.name; name = refl; text = text; count = count.0; few = count.1;
-          small = omega (arith, small.bits); bits = packed_is_packed c.bits },
+      record {
+        id = id_is_big c.id small.id;
+        size = size_is_big (length c.name) small.name;
+        name = refl;
+        text = text;
+        count = count.0;
+        few = count.1;
+        small = omega (arith, small.bits);
+        bits = packed_is_packed c.bits;
+      },
     )
 
 -- ---- sessions

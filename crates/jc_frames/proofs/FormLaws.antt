@@ -72,11 +72,11 @@ frame_behind_agrees frame_forms.SameFar =
 frame_behind_agrees (frame_forms.Append count) =
     agrees_followed (number 2) _ (item (number_at 2)) (λ delta left. times_at count type_at left >>= λ added. Good (frames.Append delta added.0) added.1) (agrees_number 2) (λ delta.
     agrees_followed (times count type_item) _ (times_at count type_at) (λ added left. Good (frames.Append delta added) left)
-        (agrees_times count type_item type_at type_agrees) (λ added. agrees_nothing (frames.Append delta added)))
+    (agrees_times count type_item type_at type_agrees) (λ added. agrees_nothing (frames.Append delta added)))
 frame_behind_agrees frame_forms.Full =
     agrees_followed (number 2) _ (item (number_at 2))
-        (λ delta left. counted_at type_at left >>= λ locals.
-          (counted_at type_at locals.1 >>= λ stack. Good (frames.Full delta locals.0 stack.0) stack.1)) (agrees_number 2) (λ delta.
+    (λ delta left. counted_at type_at left >>= λ locals.
+    (counted_at type_at locals.1 >>= λ stack. Good (frames.Full delta locals.0 stack.0) stack.1)) (agrees_number 2) (λ delta.
     agrees_followed (counted type_item) _ (counted_at type_at) (λ locals left. counted_at type_at left >>= λ stack. Good (frames.Full delta locals stack.0) stack.1) types_agree (λ locals.
     agrees_followed (counted type_item) _ (counted_at type_at) (λ stack left. Good (frames.Full delta locals stack) left) types_agree (λ stack. agrees_nothing (frames.Full delta locals stack))))
 frame_behind_agrees frame_forms.NoFrame = agrees_nowhere

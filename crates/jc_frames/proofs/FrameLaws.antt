@@ -3,18 +3,16 @@ use Rattle.std.proofs.Common.{◌≡◌, ◌⊎◌, inl, inr, ⊎_elim, ℕ, zer
 use Rattle.std.proofs.lemmas.Bool.{and_cases, ltb-false, leb-false, le-ltb, lt-leb}
 use Rattle.std.proofs.lemmas.List.Elements.{Contains-append_left, Contains-append_right, Contains-append_cases}
 use Rattle.std.specs.List.{Contains}
+use Rattle.std.proofs.lemmas.Option.{same_Some}
 use Rattle.jc_methods.specs.VerificationTypes.{VerificationType, object, uninit, slots}
 use Rattle.jc_methods.specs.Starts.{insn_number}
-use Rattle.jc_bytes.proofs.DecoderLaws.{some_is}
+use Rattle.jc_bytes.proofs.OptionLaws.{none_some}
 use Rattle.jc_pool.specs.Lookup.{class_name_of}
 use Rattle.jc_frames.specs.declared.items.TypeItem.{TypeItem}
 use Rattle.jc_frames.specs.declared.items.TypeItem.TheVariants as types
 use Rattle.jc_frames.specs.declared.items.FrameItem.{FrameItem}
 use Rattle.jc_frames.specs.declared.items.FrameItem.TheVariants as frames
 use Rattle.jc_frames.specs.Frames.{Ground, Before, is_new, insn_from, type_of, in_front, types_of, offset_of, values_of, stack_of, is_start, found, fits_slots, found_if, frame_of, items_of, chopped_by, FrameFault, astray, chops_too_many, no_class, no_new, too_many_locals, too_much_stack}
-
-none_some : {X : Type 0} {x : X} → None ≡ Some x → ⊥
-none_some e = cc
 
 -- ---- types that name nothing
 
@@ -184,11 +182,11 @@ fault_says_nothing g before item (no_class place has none) = item_nothing g befo
 fault_says_nothing g before item (no_new offset has none) = item_nothing g before item (types.Uninit offset, has, record { which = inr (offset, refl, none) })
 fault_says_nothing g before item (too_many_locals values is lt) =
     refused g (offset_of before item) (values_of g before item) (stack_of g item) (λ vs stack i j.
-    let same : values ≡ vs = some_is values vs (sym is ∙ i) in
+    let same : values ≡ vs = same_Some values vs (sym is ∙ i) in
     and_right (is_start g (offset_of before item)) (fits_slots g vs stack)
     (ap (λ (b : Bool). b && nat_le (slots stack) g.max_stack) (lt-leb (slots vs) g.max_locals (subst (λ (l : List VerificationType). g.max_locals < slots l) same lt))))
 fault_says_nothing g before item (too_much_stack stack is lt) =
     refused g (offset_of before item) (values_of g before item) (stack_of g item) (λ vs ss i j.
-    let same : stack ≡ ss = some_is stack ss (sym is ∙ j) in
+    let same : stack ≡ ss = same_Some stack ss (sym is ∙ j) in
     and_right (is_start g (offset_of before item)) (fits_slots g vs ss)
     (and_right (nat_le (slots vs) g.max_locals) (nat_le (slots ss) g.max_stack) (lt-leb (slots ss) g.max_stack (subst (λ (l : List VerificationType). g.max_stack < slots l) same lt))))

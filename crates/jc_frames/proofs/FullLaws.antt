@@ -53,12 +53,22 @@ module _ (g : Ground) (p : Places) where
   type_spelled long has = (4, 4 ∷ [], [], refl, tag_spells 4 (omega arith), (refl, refl))
   type_spelled null has = (5, 5 ∷ [], [], refl, tag_spells 5 (omega arith), (refl, refl))
   type_spelled uninit_this has = (6, 6 ∷ [], [], refl, tag_spells 6 (omega arith), (refl, refl))
-  type_spelled (object name) has =
-      (7, 7 ∷ [], short (p.class name), refl, tag_spells 7 (omega arith),
-        (p.class name, short (p.class name), [], sym (append-nil (short (p.class name))), short_spells (p.class name) has.0, (refl, refl)))
-  type_spelled (uninit at) has =
-      (8, 8 ∷ [], short (p.start at), refl, tag_spells 8 (omega arith),
-        (p.start at, short (p.start at), [], sym (append-nil (short (p.start at))), short_spells (p.start at) has.0.few, (refl, refl)))
+  type_spelled (object name) has = (
+    7,
+    7 ∷ [],
+    short (p.class name),
+    refl,
+    tag_spells 7 (omega arith),
+    (p.class name, short (p.class name), [], sym (append-nil (short (p.class name))), short_spells (p.class name) has.0, (refl, refl)),
+  )
+  type_spelled (uninit at) has = (
+    8,
+    8 ∷ [],
+    short (p.start at),
+    refl,
+    tag_spells 8 (omega arith),
+    (p.start at, short (p.start at), [], sym (append-nil (short (p.start at))), short_spells (p.start at) has.0.few, (refl, refl)),
+  )
 
   times_spelled : (hs : List VerificationType) → AllByRecursion (HasPlaces g p) hs → (times (length hs) type_item).Text (flat_map (type_text p) hs) (map (item_of p) hs)
   times_spelled [] all = (refl, refl)
@@ -138,8 +148,10 @@ module _ (g : Ground) (p : Places) where
       ∙ ap₂ (λ o q. found_if g (p.start f.at) o q) (types_say values w.local_places) (types_say f.state.stack w.stack_places)
       ∙ ap (λ (b : Bool). if b then Some (found g (p.start f.at) values f.state.stack) else None) tests
       ∙ ap₂ (λ (at : ℕ) (locals : List VerificationType). Some
-          (record { frame = record { at = at; state = record { locals = locals; stack = f.state.stack } };
-              next = record { base = p.start f.at + 1; values = values } })) w.starts.number locals
+      (record {
+        frame = record { at = at; state = record { locals = locals; stack = f.state.stack } };
+        next = record { base = p.start f.at + 1; values = values };
+      })) w.starts.number locals
     where
       locals : in_locals g.max_locals (values_in f.state.locals) ≡ f.state.locals
       locals = ap (λ (n : ℕ). in_locals n (values_in f.state.locals)) (sym w.locals) ∙ values_back f.state.locals w.paired

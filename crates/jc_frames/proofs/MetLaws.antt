@@ -7,6 +7,7 @@ use Rattle.std.proofs.lemmas.Slice.Eq.{bytes_eq-Decides}
 use Rattle.std.specs.HashMap.{get, HashMap}
 use Rattle.std.specs.List.{list_any}
 use Rattle.std.specs.Str.{bytes_eq}
+use Rattle.std.proofs.lemmas.Option.{same_Some}
 use Rattle.jc_methods.specs.declared.body.FrameAt.{FrameAt}
 use Rattle.jc_methods.specs.declared.kind.Kind.{Kind}
 use Rattle.jc_methods.specs.declared.kind.Kind.TheVariants as kinds
@@ -15,7 +16,6 @@ use Rattle.jc_methods.specs.VerificationTypes.{Names, VerificationType, TypeStat
 use Rattle.jc_bytes.specs.Names.{with_name, met}
 use Rattle.jc_methods.proofs.MetNamesLaws.{met_more}
 use Rattle.jc_methods.proofs.SeenLaws.{frames_stay, kinds_stay}
-use Rattle.jc_bytes.proofs.DecoderLaws.{some_is}
 use Rattle.jc_pool.specs.Pool.{PoolValue}
 use Rattle.jc_frames.specs.declared.method.Value.{Value}
 use Rattle.jc_frames.specs.declared.method.Value.TheVariants as values
@@ -32,7 +32,7 @@ use Rattle.jc_frames.proofs.BuildingLaws.{take_more}
 is_any : (names : Names) (n : ℕ) (name : List ℕ) → slice_get names n ≡ Some name → list_any (bytes_eq name) names ≡ true
 is_any [] n name e = absurd cc
 is_any (x ∷ names) zero name e =
-    let same = (bytes_eq-Decides name x).1 (sym (some_is x name e)) in
+    let same = (bytes_eq-Decides name x).1 (sym (same_Some x name e)) in
     ap (λ (b : Bool). b || list_any (bytes_eq name) names) same
 is_any (x ∷ names) (suc n) name e = or_right (bytes_eq name x) (list_any (bytes_eq name) names) (is_any names n name e)
 
@@ -170,7 +170,7 @@ module _ {S : Type 0} (pool : PoolValue) where
 
 pub got : (names : Names) (n : ℕ) (name : List ℕ) → slice_get names n ≡ Some name → (n < length names) × (get_or names n [] ≡ name)
 got [] n name e = absurd cc
-got (x ∷ names) zero name e = (omega arith, some_is x name e)
+got (x ∷ names) zero name e = (omega arith, same_Some x name e)
 got (x ∷ names) (suc n) name e = let g = got names n name e in (let lt = g.0 in omega (arith, lt), g.1)
 
 pub got_later : (a b : Names) (n : ℕ) (name : List ℕ) → Grows a b → slice_get a n ≡ Some name → get_or b n [] ≡ name

@@ -9,6 +9,7 @@ use Rattle.jc_frames.specs.TableReading.{frame_item_at}
 use Rattle.jc_frames.specs.Frames.{Ground, Before, first_before, Found, frame_of}
 use Rattle.jc_frames.specs.Table.{FrameBefore, AreFrames, StandsFor, NoFrame, FaultFrom, TableFault, Outcome, stands_for, at_fault, behind_frame, at_end, with_found, with_item, frames_from, with_count, outcome_of}
 use Rattle.jc_bytes.proofs.CountedLaws.{agrees_number}
+use Rattle.jc_bytes.proofs.DescriptorLaws.{cons_nil}
 use Rattle.jc_frames.proofs.FormLaws.{frame_agrees}
 use Rattle.jc_frames.proofs.FrameLaws.{says_nothing, fault_says_nothing}
 
@@ -59,9 +60,6 @@ empty_frame : (g : Ground) (before : Before) (bytes rest : List ℕ) (x : FrameI
 empty_frame g before bytes rest x is none = let t = frame_agrees.good bytes x rest is in inr (x, t.0, rest, t.1, t.2, says_nothing g before x none)
 
 -- ---- frames
-
-cons_nil : {x : ℕ} {xs : List ℕ} → x ∷ xs ≡ [] → ⊥
-cons_nil e = cc
 
 abbrev Good_from : Ground → ℕ → ℕ → Type 0
 Good_from g this n = (before : Before) (bytes : List ℕ) (frames : List TypeStateAt) → frames_from g this n before bytes ≡ stands_for frames → AreFrames g before n bytes frames
@@ -151,8 +149,10 @@ table_bad g entry table place e = by (item (number_at 2) table) refl e
     by (Good count rest) is e = let t = (agrees_number 2).good table count rest is in
         inr (record { count = count; front = t.0; rest = rest; parts = t.1; counted = t.2; fault = frames_bad g 0 count (first_before entry) rest place e })
     by (Bad left) is e =
-        inl (record { at = sym (fault_is 0 place e);
-            fault = λ front rest count parts text. good_bad (sym ((agrees_number 2).again front rest count text) ∙ (ap (item (number_at 2)) (sym parts) ∙ is)) })
+        inl (record {
+          at = sym (fault_is 0 place e);
+          fault = λ front rest count parts text. good_bad (sym ((agrees_number 2).again front rest count text) ∙ (ap (item (number_at 2)) (sym parts) ∙ is));
+        })
 
 pub table_fails : (g : Ground) (entry : TypeState) (table : List ℕ) (place : ℕ) → TableFault g entry table place → outcome_of g entry table ≡ at_fault place
 unfolding outcome_of

@@ -1,5 +1,5 @@
 -- What a constant pool takes, class by class.
-use Rattle.std.proofs.Common.{◌≡◌, inl, inr, ℕ, ◌+◌, ◌<◌, ◌≤◌, Bool, true, false, cond, List, [], ◌∷◌, ◌++◌, length, map, drop, get_or, Option, Some, Err, IfSome, IsTrue, nat_eq, refl, sym, ◌∙◌, ap, subst, true≢false, append_assoc}
+use Rattle.std.proofs.Common.{◌≡◌, inl, inr, ℕ, ◌+◌, ◌<◌, ◌≤◌, Bool, true, false, cond, List, [], ◌∷◌, ◌++◌, length, map, drop, get_or, Option, Some, Err, IfSome, IsTrue, nat_eq, refl, sym, ap, subst, true≢false}
 use Rattle.std.proofs.lemmas.Bool.{eqb-true}
 use Rattle.std.proofs.lemmas.List.{append-nil, drop_all}
 use Rattle.std.specs.HashMap.{HashMap, get}
@@ -96,9 +96,6 @@ pub frames_done : (names : Names) (fs : List FrameAt) (i : ℕ) → length fs �
 frames_done names fs i le = ap (λ (l : List FrameAt). named_by_all (map (type_state_at names) l)) (drop_all i fs le)
 
 -- ---- pools that grow
-
-pub extends_both : (a b c : PoolValue) → Extends a b → Extends b c → Extends a c
-extends_both a b c p q = (p.0 ++ q.0, q.1 ∙ ap (λ (l : PoolValue). l ++ q.0) p.1 ∙ append_assoc a p.0 q.0)
 
 pub extends_itself : (a : PoolValue) → Extends a a
 extends_itself a = ([], sym (append-nil a))

@@ -1,6 +1,7 @@
 -- Values in local variables, each of them once and in its slots.
 use Rattle.std.proofs.Common.{◌≡◌, ◌⊎◌, inl, inr, ⊎_elim, ℕ, suc, ◌+◌, ◌-◌, ◌≤◌, Bool, true, false, List, [], ◌∷◌, ◌++◌, length, replicate, refl, sym, ◌∙◌, ap, ap₂, arith, length-append, if◌then◌else◌, zero}
 use Rattle.std.specs.List.{AllByRecursion}
+use Rattle.std.proofs.lemmas.Bool.{false≢true}
 use Rattle.jc_methods.specs.VerificationTypes.{VerificationType, top, int, float, double, long, null, uninit_this, object, uninit, is_pair, width, slots}
 use Rattle.jc_methods.specs.EntryState.{spread_one, spread, in_locals}
 use Rattle.jc_frames.specs.Frames.{without_last_top, trimmed, values_from, values_in}
@@ -110,9 +111,6 @@ values_back (h ∷ x ∷ rest) paired = ⊎_elim
 
 -- ---- pairs
 
-pair_not : false ≡ true → ⊥
-pair_not e = cc
-
 tops_paired : (n : ℕ) → ArePaired (replicate n top)
 tops_paired zero = tt
 tops_paired (suc n) = (λ pair. absurd cc, tops_paired n)
@@ -123,7 +121,7 @@ spread_paired (h ∷ values) tail p = by (spread_paired values tail p) (is_pair 
   where
     by : ArePaired (spread values ++ tail) → (b : Bool) → is_pair h ≡ b → ArePaired (((if b then h ∷ top ∷ [] else h ∷ []) ++ spread values) ++ tail)
     by more true is = (λ pair. tt, (λ pair. absurd cc, more))
-    by more false is = (λ pair. absurd (pair_not (sym is ∙ pair)), more)
+    by more false is = (λ pair. absurd (false≢true (sym is ∙ pair)), more)
 
 -- behind each long and each double stands `top`
 pub paired_in : (n : ℕ) (values : List VerificationType) → ArePaired (in_locals n values)

@@ -4,6 +4,7 @@ use Rattle.std.proofs.lemmas.List.{length-map, length-replicate}
 use Rattle.std.proofs.lemmas.List.Sums.{sum_by-cons}
 use Rattle.std.proofs.lemmas.Bool.{and_parts, eqb-true, ltb-true, leb-true, cases_lt}
 use Rattle.std.specs.List.{AllByRecursion, All, slice_get, sum_by}
+use Rattle.std.proofs.lemmas.Option.{same_Some}
 use Rattle.jc_methods.specs.declared.insn.Insn.{Insn}
 use Rattle.jc_methods.specs.declared.insn.Insn.TheVariants as insns
 use Rattle.jc_methods.specs.declared.kind.Kind.{Kind}
@@ -15,7 +16,7 @@ use Rattle.jc_methods.specs.Opcode as opcode
 use Rattle.jc_methods.specs.Starts.{insn_number}
 use Rattle.jc_methods.specs.VerificationTypes.{Names, VerificationType, top, int, float, double, long, null, uninit_this, object, uninit, TypeStateAt, verification_type, type_state_at, is_pair, slots, width}
 use Rattle.jc_methods.specs.EntryState.{spread_one, spread, in_locals}
-use Rattle.jc_bytes.proofs.DecoderLaws.{some_is}
+use Rattle.jc_bytes.proofs.OptionLaws.{none_some}
 use Rattle.jc_pool.specs.Lookup.{class_name_of}
 use Rattle.jc_frames.specs.declared.items.TypeItem.{TypeItem}
 use Rattle.jc_frames.specs.declared.items.TypeItem.TheVariants as types
@@ -26,11 +27,8 @@ use Rattle.jc_frames.specs.Table.{AreFrames}
 use Rattle.jc_frames.specs.WellMade.{AreOffsets, HasNew, FramesAreWellMade, IsValue, ArgumentsAreFirst}
 use Rattle.jc_frames.proofs.ValuesLaws.{paired_in, pair_values, single_values, spread_slots, in_values}
 
-none_some : {X : Type 0} {x : X} → None ≡ Some x → ⊥
-none_some e = cc
-
 if_some : {X : Type 0} (b : Bool) (x y : X) → (if b then Some x else None) ≡ Some y → (b ≡ true) × (x ≡ y)
-if_some true x y e = (refl, some_is x y e)
+if_some true x y e = (refl, same_Some x y e)
 if_some false x y e = absurd (none_some e)
 
 -- ---- offsets
@@ -84,33 +82,33 @@ module _ (g : Ground) where
   HaveNew hs = AllByRecursion (HasNew g) hs
 
   type_new : (item : TypeItem) (h : VerificationType) → type_of g item ≡ Some h → HasNew g h
-  type_new types.Top h e = subst (HasNew g) (some_is top h e) tt
-  type_new types.Int h e = subst (HasNew g) (some_is int h e) tt
-  type_new types.Float h e = subst (HasNew g) (some_is float h e) tt
-  type_new types.Double h e = subst (HasNew g) (some_is double h e) tt
-  type_new types.Long h e = subst (HasNew g) (some_is long h e) tt
-  type_new types.Null h e = subst (HasNew g) (some_is null h e) tt
-  type_new types.UninitThis h e = subst (HasNew g) (some_is uninit_this h e) tt
+  type_new types.Top h e = subst (HasNew g) (same_Some top h e) tt
+  type_new types.Int h e = subst (HasNew g) (same_Some int h e) tt
+  type_new types.Float h e = subst (HasNew g) (same_Some float h e) tt
+  type_new types.Double h e = subst (HasNew g) (same_Some double h e) tt
+  type_new types.Long h e = subst (HasNew g) (same_Some long h e) tt
+  type_new types.Null h e = subst (HasNew g) (same_Some null h e) tt
+  type_new types.UninitThis h e = subst (HasNew g) (same_Some uninit_this h e) tt
   type_new (types.Object place) h e = by (class_name_of g.pool place) e
     where
       by : (o : Option (List ℕ)) → option_map object o ≡ Some h → HasNew g h
       by None e = absurd (none_some e)
-      by (Some name) e = subst (HasNew g) (some_is (object name) h e) tt
+      by (Some name) e = subst (HasNew g) (same_Some (object name) h e) tt
   type_new (types.Uninit offset) h e = by (is_new (insn_from g offset)) refl e
     where
       by : (b : Bool) → is_new (insn_from g offset) ≡ b → (if b then Some (uninit (insn_number g.starts offset)) else None) ≡ Some h → HasNew g h
       by false is e = absurd (none_some e)
-      by true is e = subst (HasNew g) (some_is (uninit (insn_number g.starts offset)) h e) is
+      by true is e = subst (HasNew g) (same_Some (uninit (insn_number g.starts offset)) h e) is
 
   types_new : (items : List TypeItem) (hs : List VerificationType) → types_of g items ≡ Some hs → HaveNew hs
-  types_new [] hs e = subst HaveNew (some_is [] hs e) tt
+  types_new [] hs e = subst HaveNew (same_Some [] hs e) tt
   types_new (item ∷ items) hs e = by (λ more f. types_new items more f) (type_of g item) (types_of g items) refl refl e
     where
       by : ((more : List VerificationType) → types_of g items ≡ Some more → HaveNew more)
           → (o : Option VerificationType) (p : Option (List VerificationType)) → type_of g item ≡ o → types_of g items ≡ p → in_front o p ≡ Some hs → HaveNew hs
       by more None p i j e = absurd (none_some e)
       by more (Some h) None i j e = absurd (none_some e)
-      by more (Some h) (Some rest) i j e = subst HaveNew (some_is (h ∷ rest) hs e) (type_new item h i, more rest j)
+      by more (Some h) (Some rest) i j e = subst HaveNew (same_Some (h ∷ rest) hs e) (type_new item h i, more rest j)
 
   both_new : (a b : List VerificationType) → HaveNew a → HaveNew b → HaveNew (a ++ b)
   both_new [] b p q = q
@@ -122,29 +120,29 @@ module _ (g : Ground) where
   take_new (suc n) (h ∷ a) p = (p.0, take_new n a p.1)
 
   values_new : (before : Before) (item : FrameItem) (values : List VerificationType) → HaveNew before.values → values_of g before item ≡ Some values → HaveNew values
-  values_new before (frames.Same delta) values p e = subst HaveNew (some_is before.values values e) p
-  values_new before (frames.OneItem delta item) values p e = subst HaveNew (some_is before.values values e) p
+  values_new before (frames.Same delta) values p e = subst HaveNew (same_Some before.values values e) p
+  values_new before (frames.OneItem delta item) values p e = subst HaveNew (same_Some before.values values e) p
   values_new before (frames.Chop delta count) values p e = by (nat_le count (length before.values)) e
     where
       by : (b : Bool) → (if b then Some (take (length before.values - count) before.values) else None) ≡ Some values → HaveNew values
       by false e = absurd (none_some e)
-      by true e = subst HaveNew (some_is _ values e) (take_new (length before.values - count) before.values p)
+      by true e = subst HaveNew (same_Some _ values e) (take_new (length before.values - count) before.values p)
   values_new before (frames.Append delta added) values p e = by (types_of g added) refl e
     where
       by : (o : Option (List VerificationType)) → types_of g added ≡ o → option_map (λ more. before.values ++ more) o ≡ Some values → HaveNew values
       by None i e = absurd (none_some e)
-      by (Some more) i e = subst HaveNew (some_is (before.values ++ more) values e) (both_new before.values more p (types_new added more i))
+      by (Some more) i e = subst HaveNew (same_Some (before.values ++ more) values e) (both_new before.values more p (types_new added more i))
   values_new before (frames.Full delta locals stack) values p e = types_new locals values e
 
   stack_new : (item : FrameItem) (stack : List VerificationType) → stack_of g item ≡ Some stack → HaveNew stack
-  stack_new (frames.Same delta) stack e = subst HaveNew (some_is [] stack e) tt
+  stack_new (frames.Same delta) stack e = subst HaveNew (same_Some [] stack e) tt
   stack_new (frames.OneItem delta item) stack e = by (type_of g item) refl e
     where
       by : (o : Option VerificationType) → type_of g item ≡ o → in_front o (Some []) ≡ Some stack → HaveNew stack
       by None i e = absurd (none_some e)
-      by (Some h) i e = subst HaveNew (some_is (h ∷ []) stack e) (type_new item h i, tt)
-  stack_new (frames.Chop delta count) stack e = subst HaveNew (some_is [] stack e) tt
-  stack_new (frames.Append delta added) stack e = subst HaveNew (some_is [] stack e) tt
+      by (Some h) i e = subst HaveNew (same_Some (h ∷ []) stack e) (type_new item h i, tt)
+  stack_new (frames.Chop delta count) stack e = subst HaveNew (same_Some [] stack e) tt
+  stack_new (frames.Append delta added) stack e = subst HaveNew (same_Some [] stack e) tt
   stack_new (frames.Full delta locals stack) stack' e = types_new stack stack' e
 
   tops_new : (n : ℕ) → HaveNew (replicate n top)

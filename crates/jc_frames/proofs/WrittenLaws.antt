@@ -47,7 +47,7 @@ number_of (start ∷ next ∷ starts) end (suc k) rising lt =
 
 -- ---- kinds
 
-top_begins : (names : Names) (ks : List Kind) → made.BeginsWithTop ks → BeginsWithTop (map (verification_type names) ks)
+pub top_begins : (names : Names) (ks : List Kind) → made.BeginsWithTop ks → BeginsWithTop (map (verification_type names) ks)
 top_begins names [] b = b
 top_begins names (k ∷ ks) b = subst (λ (k : Kind). BeginsWithTop (map (verification_type names) (k ∷ ks))) (sym b) tt
 

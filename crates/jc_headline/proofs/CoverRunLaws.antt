@@ -90,10 +90,10 @@ module _ (landed : Landed) (c : Cover) where
       let a = both landed (writing csv) _ w steps (stops done) (through (writing csv) _ steps (quiet_writing csv) is) fits in
       let made = writing_over landed w csv a.value a.front a.first in
       let b = both landed (writing out) _ (after_write landed w csv) a.behind (stops done)
-              (through (writing out) _ a.behind (quiet_writing out) a.next) (subst (λ (v : Outside). Fit landed v a.behind) made a.fits') in
+      (through (writing out) _ a.behind (quiet_writing out) a.next) (subst (λ (v : Outside). Fit landed v a.behind) made a.fits') in
       let made' = writing_over landed (after_write landed w csv) out b.value b.front b.first in
       a.stands ∙ ap (λ (v : Outside). after landed v a.behind) made ∙ b.stands ∙ ap (λ (v : Outside). after landed v b.behind) made'
-          ∙ no_more b.behind (after_write landed (after_write landed w csv) out) b.next
+      ∙ no_more b.behind (after_write landed (after_write landed w csv) out) b.next
     where
       no_more : (steps : List Step) (v : Outside) → ending {X = ⊥} done steps (stops done) → after landed v steps ≡ v
       no_more [] v is = refl

@@ -3,18 +3,13 @@ use Rattle.std.proofs.Common.{◌≡◌, ℕ, Bool, true, false, cond, ◌||◌,
 use Rattle.std.specs.List.{list_any}
 use Rattle.std.specs.Str.{bytes_eq}
 use Rattle.std.proofs.lemmas.List.{append_cancel_left}
-use Rattle.std.proofs.lemmas.Slice.Eq.{bytes_eq-Decides}
+use Rattle.std.proofs.lemmas.Bool.{true≢false}
+use Rattle.jc_bytes.proofs.TextEqualLaws.{same_bytes}
 use Rattle.jc_command_work.specs.Step.{Word}
 use Rattle.jc_paths.specs.Paths.{ends_with_slash, in_folder}
 use Rattle.jc_command_work.specs.Folders.{once}
 use Rattle.jc_headline.specs.CoverWork.{LookedFile, AreLooked, paths_in}
 use Rattle.jc_headline.specs.CoverRun.{IsNone, AreDistinct}
-
-true_or_false : true ≡ false → ⊥
-true_or_false e = cc
-
-same_bytes : (a b : List ℕ) → a ≡ b → bytes_eq a b ≡ true
-same_bytes a b e = (bytes_eq-Decides a b).1 e
 
 or_true : (a b : Bool) → b ≡ true → (a || b) ≡ true
 or_true true b e = refl
@@ -32,7 +27,7 @@ none_seen seen (p ∷ ps) q is = by (was_seen seen p) refl (none_seen seen ps q 
   where
     by : (b : Bool) → was_seen seen p ≡ b → IsNone q (once seen ps) → IsNone q (once (p ∷ seen) ps) → IsNone q (cond b (once seen ps) (p ∷ once (p ∷ seen) ps))
     by true e old new = old
-    by false e old new = ((λ same. true_or_false (sym is ∙ ap (was_seen seen) same ∙ e)), new)
+    by false e old new = ((λ same. true≢false (sym is ∙ ap (was_seen seen) same ∙ e)), new)
 
 pub distinct_once : (seen paths : List Word) → AreDistinct (once seen paths)
 distinct_once seen [] = tt

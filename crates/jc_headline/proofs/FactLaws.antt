@@ -1,5 +1,5 @@
 -- A file of a report, the class that is linked of it, and that of what was written of it.
-use Rattle.std.proofs.Common.{◌≡◌, ◌⊎◌, inl, inr, ℕ, ◌+◌, Bool, true, false, ◌||◌, List, [], ◌∷◌, ◌++◌, map, Some, Contains, refl, sym, ◌∙◌, ap, subst}
+use Rattle.std.proofs.Common.{◌≡◌, ◌⊎◌, inl, inr, ℕ, ◌+◌, Bool, true, false, ◌||◌, List, [], ◌∷◌, map, Some, Contains, refl, sym, ◌∙◌, ap, subst}
 use Rattle.std.specs.List.{AllByRecursion, list_any, sum_by}
 use Rattle.std.proofs.lemmas.Bool.{or_left, or_right}
 use Rattle.std.proofs.lemmas.Option.{same_Some}
@@ -21,13 +21,13 @@ use Rattle.jc_pool.specs.Lookup.{class_name_of}
 use Rattle.jc_emit.specs.TwinProgram.{AreTwinBodies}
 use Rattle.jc_instrument.specs.Analysis.{IsAnalysis}
 use Rattle.jc_instrument.specs.Bodies.{AreBodies, AreBodiesUnless}
-use Rattle.jc_instrument.specs.Causes.{Cause, NoCause}
 use Rattle.jc_instrument.specs.LeftAlone.{is_left_alone}
 use Rattle.jc_instrument.specs.Reasons.{AnalysisReason, analysis_causes}
 use Rattle.jc_instrument.specs.Refused.{IsAccepted, StaysBy}
 use Rattle.jc_instrument.specs.SameAnalysis.{without_frames}
 use Rattle.jc_instrument.proofs.OneReasonLaws.{none_or_some}
 use Rattle.jc_instrument.proofs.SameAnalysisLaws.{same_bodies}
+use Rattle.jc_instrument.proofs.PassingLaws.{none_in_front}
 use Rattle.jc_link_programs.specs.Linking.{AreLinkedClasses, IsLinkedClass}
 use Rattle.jc_link_laws.specs.TwinFiles.{AreWrittenOf, IsShortFile, IsWrittenOf, IsWrittenTwin}
 use Rattle.jc_link_laws.proofs.ChangedPairLaws.{changed_pair, probes_new}
@@ -79,10 +79,6 @@ FileFacts l n (refused_class why) = ⊥
 FileFacts l n unchanged_class = declares_init n ≡ false
 FileFacts l n (changed_class a) = ChangedFacts l n a
 
-no_cause_front : (xs ys : List Cause) → NoCause (xs ++ ys) → NoCause xs
-no_cause_front [] ys none = tt
-no_cause_front (x ∷ xs) ys none = (none.0, no_cause_front xs ys none.1)
-
 not_both : (t : Bool) → t ≡ true → t ≡ false → ⊥
 not_both t p q = true_or_false (sym p ∙ q)
   where
@@ -95,7 +91,7 @@ module _ (names new_names : Names) (o w : List ℕ) (l n : Linked) (short : IsSh
   accepted = accepted_of o w wr
 
   not_refused : (why : Refusal) → AnalysisReason o (Some why) → ⊥
-  not_refused why reason = none_or_some analysis_causes o why (accepted.0, accepted.1, no_cause_front (analysis_causes accepted.0) _ accepted.2) reason
+  not_refused why reason = none_or_some analysis_causes o why (accepted.0, accepted.1, none_in_front (analysis_causes accepted.0) _ accepted.2) reason
 
   -- a file doesn't both stay and change
   stays_so : (t s : Bool) (a : Analysed) (is : IsAnalysis o a) → is_left_alone is.file ≡ t → StaysBy s o → s ≡ t

@@ -1,55 +1,24 @@
 -- Hits of a run plan, and lists of bits that tell them.
-use Rattle.std.proofs.Common.{◌≡◌, ◌⊎◌, inl, inr, ◌↔◌, ℕ, zero, suc, ◌+◌, ◌<◌, ◌≤◌, Bool, true, false, ◌||◌, ◌&&◌, nat_eq, List, [], ◌∷◌, map, Some, Contains, refl, sym, ◌∙◌, ap, subst, arith}
+use Rattle.std.proofs.Common.{◌≡◌, ◌⊎◌, inl, inr, ◌↔◌, ℕ, zero, suc, ◌+◌, ◌<◌, ◌≤◌, Bool, true, false, ◌&&◌, nat_eq, List, [], ◌∷◌, map, Some, Contains, refl, sym, ◌∙◌, ap, arith}
 use Rattle.std.specs.Prelude.{slice_get, slice_index_or, IsTrue}
 use Rattle.std.specs.List.{range_with_len}
-use Rattle.std.proofs.lemmas.Bool.{cases_lt, and_parts, and_from, or_cases, or_left, or_right, eqb-true, eq-eqb}
+use Rattle.std.proofs.lemmas.Bool.{cases_lt}
 use Rattle.std.proofs.lemmas.Option.{none-some, same_Some}
-use Rattle.jc_bytes.proofs.BooleanLaws.{first_in, later_in, which_in, none_in}
+use Rattle.jc_bytes.proofs.BooleanLaws.{which_in, none_in}
+use Rattle.jc_bytes.proofs.ListLaws.{flat_in, flat_cases}
 use Rattle.jc_programs.specs.declared.program.Program.{Program}
 use Rattle.jc_programs.specs.declared.program.Linked.{Linked}
 use Rattle.jc_programs.specs.declared.program.ProbeInit.{ProbeInit}
 use Rattle.jc_programs.specs.declared.run_plan.RunPlan.{RunPlan}
 use Rattle.jc_cover.specs.Covered.{is_hit}
 use Rattle.jc_twin_exact.specs.Exact.{TellHits}
-use Rattle.jc_twin_exact.proofs.CameLaws.{flat_cases, flat_in}
 use Rattle.jc_machine_model.specs.Run.{IsHit, case_hits, hits_of}
 use Rattle.jc_machine_model.specs.World.{Hit}
 use Rattle.jc_command_run.specs.RunStore.{is_hit_in}
+use Rattle.jc_command_run.proofs.HitLaws.{probe, in_list, from_list}
 use Rattle.jc_headline.specs.Headline.{bits_with, bits_from, bits_of}
 
 -- ---- a hit in a list
-
-abbrev pub probe : (class id : ℕ) → Hit
-probe class id = record { class = class; id = id }
-
-abbrev is_that : (class id : ℕ) → Hit → Bool
-is_that class id h = nat_eq h.class class && nat_eq h.id id
-
-that_is : (class id : ℕ) (h : Hit) → is_that class id h ≡ true → h ≡ probe class id
-that_is class id h e =
-    let both = and_parts (nat_eq h.class class) (nat_eq h.id id) e in
-    λ i. record { class = eqb-true h.class class both.0 i; id = eqb-true h.id id both.1 i }
-
-in_list : (hits : List Hit) (class id : ℕ) → is_hit_in hits class id ≡ true → Contains hits (probe class id)
-in_list [] class id e = absurd (false_or_true e)
-  where
-    false_or_true : false ≡ true → ⊥
-    false_or_true e = cc
-in_list (h ∷ hits) class id e = by (or_cases (is_that class id h) (is_hit_in hits class id) e) (in_list hits class id)
-  where
-    by : (is_that class id h ≡ true) ⊎ (is_hit_in hits class id ≡ true) → (is_hit_in hits class id ≡ true → Contains hits (probe class id)) → Contains (h ∷ hits) (probe class id)
-    by (inl is) later = subst (Contains (h ∷ hits)) (that_is class id h is) (first_in h hits)
-    by (inr behind) later = later_in h hits (probe class id) (later behind)
-
-from_list : (hits : List Hit) (class id : ℕ) → Contains hits (probe class id) → is_hit_in hits class id ≡ true
-from_list [] class id there = absurd (none_in (probe class id) there)
-from_list (h ∷ hits) class id there = by (which_in h hits (probe class id) there) (from_list hits class id)
-  where
-    by : (h ≡ probe class id) ⊎ Contains hits (probe class id) → (Contains hits (probe class id) → is_hit_in hits class id ≡ true) → (is_that class id h || is_hit_in hits class id) ≡ true
-    by (inl same) later =
-        or_left (is_that class id h) (is_hit_in hits class id)
-        (and_from (nat_eq h.class class) (nat_eq h.id id) (eq-eqb h.class class (ap (λ (x : Hit). x.class) same)) (eq-eqb h.id id (ap (λ (x : Hit). x.id) same)))
-    by (inr behind) later = or_right (is_that class id h) (is_hit_in hits class id) (later behind)
 
 pub hit_there : (p : Program) (plan : RunPlan) (class id : ℕ) → IsTrue (is_hit_in (hits_of p plan) class id) ↔ IsHit p plan (probe class id)
 hit_there p plan class id = (

@@ -4,7 +4,6 @@ use Rattle.std.specs.List.{AllByRecursion}
 use Rattle.std.specs.Option.{option_map}
 use Rattle.std.proofs.lemmas.List.{take_all}
 use Rattle.std.proofs.lemmas.Option.{none-some, same_Some}
-use Rattle.jc_bytes.specs.declared.refusal.Refusal.{Refusal}
 use Rattle.jc_programs.specs.declared.program.Program.{Program}
 use Rattle.jc_programs.specs.declared.program.ProbeInit.{ProbeInit}
 use Rattle.jc_programs.specs.declared.run_plan.RunPlan.{RunPlan}
@@ -12,18 +11,11 @@ use Rattle.jc_programs.specs.declared.run_plan.ThreadLine.{ThreadLine}
 use Rattle.jc_exec.specs.Store.{Store}
 use Rattle.jc_exec.specs.Writing.{exec_text}
 use Rattle.jc_exec.specs.declared.refusal.ExecRefusal.{ExecRefusal}
-use Rattle.jc_instrument.specs.InstrumentedFile.{IsInstrumentedFile}
-use Rattle.jc_instrument.specs.Refused.{Reason}
-use Rattle.jc_instrument.specs.declared.whole.Instrumented.{Instrumented}
-use Rattle.jc_instrument_laws.proofs.EachFileLaws.{each_file}
-use Rattle.jc_instrument.proofs.OneTwinLaws.{one_file, file_or_reason}
-use Rattle.jc_instrument.proofs.RoomCauseLaws.{one_reason}
 use Rattle.jc_run_plans.specs.Plans.{IsPlanText, FirstUnfit}
-use Rattle.jc_link_programs.specs.Linking.{HasId, HasName, IsLinkedClass, IsProgramOf, IsLinkRefusal, refused, one_name, one_id}
+use Rattle.jc_link_programs.specs.Linking.{IsProgramOf, IsLinkRefusal, refused, one_name, one_id}
 use Rattle.jc_link_programs.specs.declared.link_refusal.LinkRefusal.{LinkRefusal}
 use Rattle.jc_link_programs.specs.declared.link_refusal.LinkRefusal.TheVariants as refusals
 use Rattle.jc_link_programs.proofs.OneRefusalLaws.{one_refusal, program_or_refusal, same_program}
-use Rattle.jc_link_programs.proofs.SameLinkedLaws.{same_linked}
 use Rattle.jc_link_laws.specs.TwinFiles.{IsShortFile}
 use Rattle.jc_link_laws.proofs.PlaceLaws.{class_at}
 use Rattle.jc_link_laws.proofs.SomeProgramLaws.{program_or_reason}
@@ -37,15 +29,17 @@ use Rattle.jc_command_work.specs.Folders.{files_of}
 use Rattle.jc_command_work.specs.OneWay.{IsOver, OneDecision, HasOne}
 use Rattle.jc_command_work.proofs.AnsweredLaws.{texts_read, has_files, all_files}
 use Rattle.jc_command_work.proofs.OneWork.{one_giving, one_ending, one_deciding, one_writing, one_reading, has_then, has_then_if, has_reading_all, has_writing_all}
-use Rattle.jc_command_classes.specs.Instrument.{Decision, refused_file, accepted_file, IsDecision}
+use Rattle.jc_command_classes.specs.Instrument.{Decision}
 use Rattle.jc_command_classes.specs.Report.{ReportedFile, AreItems, first_clash, changed_of, first_of_each_id, report_text}
 use Rattle.jc_command_classes.specs.ReportSteps.{counted_classes}
 use Rattle.jc_command_classes.proofs.CountedLaws.{are_counted, all_counted}
 use Rattle.jc_command_classes.proofs.ReportLaws.{one_items, some_items, one_clash, no_clash_in_front}
+use Rattle.jc_command_classes.proofs.InstrumentLaws.{one_decision, some_decision}
 use Rattle.jc_command_run.specs.PairTexts.{same_name_text, same_id_text}
 use Rattle.jc_command_run.specs.RunAnswers.{IsPlanEnd, IsRunProgram}
 use Rattle.jc_command_run.specs.RunStore.{threads_of, first_without, run_store}
 use Rattle.jc_command_run.proofs.StoreLaws.{same_frameless}
+use Rattle.jc_command_run.proofs.RunLaws.{one_id as one_with_id, one_name as one_named}
 use Rattle.jc_headline.specs.CoverWork.{Cover, LookedFile, AreLooked, all_file_writes, accepted, texts_in, targets, place_of, path_of, EndsAmongAll, IsLinkEnd, HaveEntries, IsEntryEnd, IsReportText, IsClashEnd, instrumenting, running, cover_work}
 use Rattle.jc_headline.proofs.CoverRunLaws.{last_part, report_part, entry_part, link_part, look_part}
 use Rattle.jc_headline.proofs.OriginalLaws.{all_short}
@@ -70,19 +64,6 @@ decides {X} Is Ends one one_end apart (inr (e, ends)) = record { decision = stop
     only (stops f) over so = ap (λ (z : End). let p : Outcome X = stops z in p) (one_end f e so ends)
 
 -- ---- class files
-
-one_decision : (bytes : List ℕ) (a b : Decision) → IsDecision bytes a → IsDecision bytes b → a ≡ b
-one_decision bytes (refused_file r) (refused_file s) p q = ap refused_file (same_Some r s (one_reason bytes (Some r) (Some s) p q))
-one_decision bytes (refused_file r) (accepted_file b) p q = absurd (file_or_reason bytes b r q p)
-one_decision bytes (accepted_file a) (refused_file s) p q = absurd (file_or_reason bytes a s p q)
-one_decision bytes (accepted_file a) (accepted_file b) p q = ap accepted_file (one_file bytes a b p q)
-
-some_decision : (bytes : List ℕ) → IsFile bytes → (d : Decision) × IsDecision bytes d
-some_decision bytes file = by (each_file bytes file.are_bytes file.short)
-  where
-    by : ((a : Instrumented) × IsInstrumentedFile bytes a) ⊎ ((r : Refusal) × Reason bytes (Some r)) → (d : Decision) × IsDecision bytes d
-    by (inl a) = (accepted_file a.0, a.1)
-    by (inr r) = (refused_file r.0, r.1)
 
 abbrev looked_file : Word → List ℕ → Decision → LookedFile
 looked_file f t d = record { file = f; bytes = t; decision = d }
@@ -135,29 +116,16 @@ plans laws path text =
 
 -- ---- programs
 
-one_named : (files : List (List ℕ)) (index : ℕ) (a b : List ℕ) → HasName files index a → HasName files index b → a ≡ b
-one_named files index a b p q =
-    let bytes = same_Some p.bytes q.bytes (sym p.stands ∙ q.stands) in
-    let same = same_linked p.names q.names q.bytes p.linked q.linked (subst (λ (t : List ℕ). IsLinkedClass p.names t p.linked) bytes p.is) q.is in
-    p.named ∙ sym same.name ∙ sym q.named
-
-one_with_id : (files : List (List ℕ)) (index a b : ℕ) → HasId files index a → HasId files index b → a ≡ b
-one_with_id files index a b p q =
-    let bytes = same_Some p.bytes q.bytes (sym p.stands ∙ q.stands) in
-    let same = same_linked p.names q.names q.bytes p.linked q.linked (subst (λ (t : List ℕ). IsLinkedClass p.names t p.linked) bytes p.is) q.is in
-    let init = same_Some p.init q.init (sym p.probes ∙ sym same.probes ∙ q.probes) in
-    p.id_is ∙ ap (λ (i : ProbeInit). i.id) init ∙ sym q.id_is
-
 module _ (looked : List LookedFile) (written : List (List ℕ)) where
   one_end_as : (r : LinkRefusal) (e f : End) → EndsAmongAll looked written r e → EndsAmongAll looked written r f → e ≡ f
   one_end_as (refusals.Class index why) e f p q = p ∙ sym q
   one_end_as (refusals.SameName first second) e f p q =
       p.2 ∙ ap (λ (n : List ℕ). refused_end (fault.SameName (place_of looked first) (place_of looked second))
-          (same_name_text (path_of looked first) (path_of looked second) n)) (one_named written first p.0 q.0 p.1 q.1)
+      (same_name_text (path_of looked first) (path_of looked second) n)) (one_named written first p.0 q.0 p.1 q.1)
       ∙ sym q.2
   one_end_as (refusals.SameId first second) e f p q =
       p.2 ∙ ap (λ (n : ℕ). refused_end (fault.SameId (place_of looked first) (place_of looked second))
-          (same_id_text (path_of looked first) (path_of looked second) n)) (one_with_id written first p.0 q.0 p.1 q.1)
+      (same_id_text (path_of looked first) (path_of looked second) n)) (one_with_id written first p.0 q.0 p.1 q.1)
       ∙ sym q.2
 
   some_end : (r : LinkRefusal) → IsLinkRefusal written r → (e : End) × EndsAmongAll looked written r e
@@ -252,7 +220,7 @@ module _ (laws : PlansAreOne) (landed : Landed) (c : Cover) where
   has_entry : (plan : RunPlan) (looked : List LookedFile) (program : Program) → AllByRecursion IsFile (texts_in (accepted looked)) → HasOne landed (entry_part c plan looked program)
   has_entry plan looked program files =
       has_then landed (deciding (HaveEntries program plan) (IsEntryEnd c.plan program plan)) _ (λ w told. one_deciding landed
-          w _ _ (begins c.plan program plan)) (λ _. has_report plan looked program files)
+      w _ _ (begins c.plan program plan)) (λ _. has_report plan looked program files)
 
   has_link : (plan : RunPlan) (looked : List LookedFile) (written : List (List ℕ)) → AllByRecursion IsFile (texts_in (accepted looked)) → AllByRecursion IsShortFile written
       → HasOne landed (link_part c plan looked written)
@@ -264,7 +232,7 @@ module _ (laws : PlansAreOne) (landed : Landed) (c : Cover) where
       has_then_if landed (reading_all (targets c.dest looked)) (λ written. link_part c plan looked written)
       (has_reading_all landed (targets c.dest looked))
       (λ w steps written over fits. has_link plan looked written files
-          (short_texts written (all_files (targets c.dest looked) written (texts_read landed w (targets c.dest looked) steps written over fits))))
+      (short_texts written (all_files (targets c.dest looked) written (texts_read landed w (targets c.dest looked) steps written over fits))))
 
   has_instrumenting : (paths : List Word) (read : List (List ℕ)) → AreTexts paths read → HasOne landed (instrumenting c.dest paths read)
   has_instrumenting paths read are =
@@ -276,7 +244,7 @@ module _ (laws : PlansAreOne) (landed : Landed) (c : Cover) where
       has_then_if landed (instrumenting c.dest paths read) (λ looked. running c plan looked) (has_instrumenting paths read are)
       (λ w steps looked over fits.
       has_run plan looked (file_texts (texts_in (accepted looked))
-          (all_short paths read looked (instrumenting_over landed w c.dest paths read looked steps over fits).0 (short_texts read (all_files paths read are)))))
+      (all_short paths read looked (instrumenting_over landed w c.dest paths read looked steps over fits).0 (short_texts read (all_files paths read are)))))
 
   has_look : (text : List ℕ) (paths : List Word) (read : List (List ℕ)) → AreTexts paths read → HasOne landed (look_part c text paths read)
   has_look text paths read are =

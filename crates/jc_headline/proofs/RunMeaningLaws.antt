@@ -4,6 +4,7 @@ use Rattle.std.specs.FinMap.{get, insert}
 use Rattle.std.specs.List.{AllByRecursion}
 use Rattle.jc_bytes.specs.ByteLists.{AreBytes}
 use Rattle.jc_outside.specs.Outside.{FileMap}
+use Rattle.jc_outside.proofs.HeldLaws.{get_there, get_here}
 use Rattle.jc_programs.specs.declared.program.Program.{Program}
 use Rattle.jc_programs.specs.declared.run_plan.Case.{Case}
 use Rattle.jc_programs.specs.declared.run_end.Entry.{Entry}
@@ -36,7 +37,7 @@ use Rattle.jc_headline.specs.Headline.{as_written, NamesConstants, all_written, 
 use Rattle.jc_headline.proofs.DistinctLaws.{distinct_targets, looked_files}
 use Rattle.jc_headline.proofs.EntryLaws.{case_entries, entries_alike}
 use Rattle.jc_headline.proofs.OriginalLaws.{all_written_of, all_short, original_program}
-use Rattle.jc_headline.proofs.WriteLaws.{all_targets, contents_after, out_after, err_after, out-append, err-append, map_after, map_after-append, get_here, get_there, stored, Stand, stand, same_back}
+use Rattle.jc_headline.proofs.WriteLaws.{all_targets, contents_after, out_after, err_after, out-append, err-append, map_after, map_after-append, stored, Stand, stand, same_back}
 
 -- ---- what was read
 
@@ -182,7 +183,7 @@ module _ (c : Cover) (old new : Outside) (m : FileMap) (told : old.contents ≡ 
     unfolding twin
     entries case there =
         let none : first_without twin (threads_of r.plan) ≡ None = sym (same_without twin (threads_of r.plan))
-                ∙ ap (λ (p : Program). first_without p (threads_of r.plan)) (sym r.links.2) ∙ r.entries in
+        ∙ ap (λ (p : Program). first_without p (threads_of r.plan)) (sym r.links.2) ∙ r.entries in
         let es = case_entries twin r.plan.cases none case there in
         let s = have_sides original twin marks twins are_marks in
         (es.0, entries_alike original twin (entry_alike original twin s.0 s.1) case.threads es.0 es.1)

@@ -1,12 +1,9 @@
 -- What the writes of `cover` leave, where files read back as they were written.
-use Rattle.std.proofs.Common.{◌≡◌, ◌≢◌, ℕ, Bool, true, false, cond, List, [], ◌∷◌, ◌++◌, map, Option, Some, option_map, unwrap_or, refl, sym, ◌∙◌, ap, subst, append_assoc, append-nil}
+use Rattle.std.proofs.Common.{◌≡◌, ℕ, List, [], ◌∷◌, ◌++◌, map, Option, Some, option_map, unwrap_or, refl, sym, ◌∙◌, ap, subst, append_assoc, append-nil}
 use Rattle.std.specs.List.{AllByRecursion}
-use Rattle.std.proofs.lemmas.Slice.Eq.{bytes_eq-Decides}
-use Rattle.std.proofs.lemmas.Map.Text.{is_eq-slice_cmp}
-use Rattle.std.proofs.lemmas.Cmp.{nat_list_cmp_total}
-use Rattle.std.specs.Str.{bytes_eq}
-use Rattle.std.specs.FinMap.{get, insert, get-insert}
+use Rattle.std.specs.FinMap.{get, insert}
 use Rattle.jc_outside.specs.Outside.{FileMap}
+use Rattle.jc_outside.proofs.HeldLaws.{get_there, get_here}
 use Rattle.jc_paths.specs.Paths.{in_folder}
 use Rattle.jc_command_work.specs.Step.{Word, Outside, Landed, Write, to_file, to_out, to_err, after_write, grown}
 use Rattle.jc_command_work.specs.Prefix.{after_writes}
@@ -20,31 +17,6 @@ abbrev pub all_targets : Word → List LookedFile → List Word
 all_targets dest looked = map (in_folder dest) (paths_in looked)
 
 -- ---- maps
-
-same_bytes : (a b : List ℕ) → a ≡ b → bytes_eq a b ≡ true
-same_bytes a b e = (bytes_eq-Decides a b).1 e
-
-turned : (a b : List ℕ) → bytes_eq a b ≡ bytes_eq b a
-turned a b = by (bytes_eq a b) (bytes_eq b a) refl refl
-  where
-    by : (x y : Bool) → bytes_eq a b ≡ x → bytes_eq b a ≡ y → x ≡ y
-    by true true p q = refl
-    by false false p q = refl
-    by true false p q = sym (same_bytes b a (sym ((bytes_eq-Decides a b).0 p))) ∙ q
-    by false true p q = sym p ∙ same_bytes a b (sym ((bytes_eq-Decides b a).0 q))
-
-get_inserted : (m : FileMap) (path bytes q : List ℕ) → get (insert m path bytes) q ≡ cond (bytes_eq path q) (Some bytes) (get m q)
-get_inserted m path bytes q = get-insert nat_list_cmp_total m path bytes q ∙ ap (λ b. cond b (Some bytes) (get m q)) (is_eq-slice_cmp q path ∙ turned q path)
-
-pub get_here : (m : FileMap) (path bytes : List ℕ) → get (insert m path bytes) path ≡ Some bytes
-get_here m path bytes = get_inserted m path bytes path ∙ ap (λ b. cond b (Some bytes) (get m path)) (same_bytes path path refl)
-
-pub get_there : (m : FileMap) (path bytes q : List ℕ) → q ≢ path → get (insert m path bytes) q ≡ get m q
-get_there m path bytes q other = get_inserted m path bytes q ∙ ap (λ b. cond b (Some bytes) (get m q)) (differ (bytes_eq path q) refl)
-  where
-    differ : (b : Bool) → bytes_eq path q ≡ b → bytes_eq path q ≡ false
-    differ true e = absurd (other (sym ((bytes_eq-Decides path q).0 e)))
-    differ false e = e
 
 -- ---- what writes leave, where files read back as they were written
 
@@ -117,7 +89,7 @@ module _ (dest : Word) where
   stays m q [] none = refl
   stays m q (l ∷ ls) none =
       ap (λ (n : FileMap). get n q) (first_file m l ls) ∙ stays (insert m (in_folder dest l.file) (stored l l.decision)) q ls none.1
-          ∙ get_there m (in_folder dest l.file) (stored l l.decision) q none.0
+      ∙ get_there m (in_folder dest l.file) (stored l l.decision) q none.0
 
   -- each file stands in the folder
   abbrev pub Stand : FileMap → List LookedFile → Type 0

@@ -4,7 +4,6 @@ use Rattle.std.proofs.lemmas.List.{append-nil}
 use Rattle.std.proofs.lemmas.List.Elements.{All-push, All-nil}
 use Rattle.jc_bytes.specs.Reader.{Reading}
 use Rattle.jc_bytes.specs.Decoder.{SameEnd}
-use Rattle.jc_bytes.proofs.DecoderLaws.{some_none}
 use Rattle.jc_bytes.specs.declared.refusal.Refusal.{Refusal}
 use Rattle.jc_bytes.specs.declared.refusal.RefusalKind.{RefusalKind}
 use Rattle.jc_bytes.specs.declared.refusal.RefusalKind.TheVariants as kinds
@@ -16,6 +15,7 @@ use Rattle.jc_insn.specs.Reading.{item_at}
 use Rattle.jc_insn.specs.Spells.{SpellsFrom, IsFault, FaultBehind}
 use Rattle.jc_bytes.specs.declared.fail.Fail.{Fail}
 use Rattle.jc_bytes.specs.declared.fail.Fail.TheVariants as fails
+use Rattle.jc_bytes.proofs.OptionLaws.{some_none}
 use Rattle.jc_insn.specs.Decoding.{Stops, Refuses, GivesNext}
 use Rattle.jc_insn.proofs.ItemReadingLaws.{reads_item}
 

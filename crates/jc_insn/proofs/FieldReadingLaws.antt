@@ -1,8 +1,10 @@
 -- Reading functions that agree with forms of bytes, field by field.
 use Rattle.std.proofs.Common.{◌≡◌, ℕ, Bool, cond, List, [], ◌∷◌, ◌++◌, take, Option, Some, None, refl, sym, ◌∙◌, ap, append_assoc}
 use Rattle.std.proofs.lemmas.List.{take_at}
+use Rattle.std.proofs.lemmas.Option.{same_Some}
 use Rattle.jc_bytes.specs.Decoder.{◌>>=◌, byte_at, number_at}
-use Rattle.jc_bytes.proofs.DecoderLaws.{bind_some, guard_some, some_is, some_none, first_takes, first_again, number_takes, number_again, byte_takes, byte_again}
+use Rattle.jc_bytes.proofs.DecoderLaws.{bind_some, guard_some, first_takes, first_again, number_takes, number_again, byte_takes, byte_again}
+use Rattle.jc_bytes.proofs.OptionLaws.{some_none}
 use Rattle.jc_insn.specs.Fields.{nothing, byte, piece, Then, only_if}
 use Rattle.jc_insn.specs.Items.{number}
 use Rattle.jc_insn.specs.Reading.{piece_at}
@@ -14,7 +16,7 @@ pub record IsReadBy {X : Type 0} (F : List ℕ → X → Type 0) (read : List �
 
 pub reads_nothing : {X : Type 0} (x : X) → IsReadBy (nothing x) (λ left. Some (x, left))
 reads_nothing {X} x = record {
-  takes = λ left y rest e. let same = some_is (x, left) (y, rest) e in ([], ap (λ (p : X × List ℕ). p.1) same, (refl, sym (ap (λ (p : X × List ℕ). p.0) same)));
+  takes = λ left y rest e. let same = same_Some (x, left) (y, rest) e in ([], ap (λ (p : X × List ℕ). p.1) same, (refl, sym (ap (λ (p : X × List ℕ). p.0) same)));
   again = λ text rest y text_is. again text rest y text_is.0 text_is.1;
 }
   where

@@ -3,6 +3,7 @@ use Rattle.std.proofs.Common.{◌≡◌, ℕ, ◌*◌, ◌&&◌, List, ◌++◌,
 use Rattle.std.specs.Prelude.{int_le}
 use Rattle.std.proofs.lemmas.List.{append_cancel_right}
 use Rattle.std.specs.Int.{w8, w16, w32, cast_signed}
+use Rattle.std.proofs.lemmas.Option.{same_Some}
 use Rattle.jc_methods.specs.Opcode as opcode
 use Rattle.jc_bytes.specs.Decoder.{◌>>=◌, byte_at, number_at}
 use Rattle.jc_methods.specs.declared.form.Form.{Form}
@@ -10,7 +11,6 @@ use Rattle.jc_methods.specs.declared.form.Form.TheVariants as forms
 use Rattle.jc_methods.specs.InsnForm.{form_of}
 use Rattle.jc_methods.specs.declared.insn.Insn.{Insn}
 use Rattle.jc_methods.specs.declared.insn.Insn.TheVariants as insns
-use Rattle.jc_bytes.proofs.DecoderLaws.{some_is}
 use Rattle.jc_insn.specs.declared.item.CodeItem.{CodeItem}
 use Rattle.jc_insn.specs.declared.item.CodeItem.TheVariants as items
 use Rattle.jc_insn.specs.Fields.{nothing, byte, piece, Then}
@@ -102,6 +102,6 @@ not_subroutine a e = cc
 pub same_item : (at : ℕ) (a b x y : List ℕ) (i j : CodeItem) → IsItem at a i → IsItem at b j → a ++ x ≡ b ++ y → (a ≡ b) × (i ≡ j)
 same_item at a b x y i j p q e =
     let r = reads_item at in
-    let same = some_is (i, x) (j, y) (sym (r.again a x i p) ∙ ap (item_at at) e ∙ r.again b y j q) in
+    let same = same_Some (i, x) (j, y) (sym (r.again a x i p) ∙ ap (item_at at) e ∙ r.again b y j q) in
     let rest : x ≡ y = ap (λ (s : CodeItem × List ℕ). s.1) same in
     (append_cancel_right a b x (e ∙ ap (λ (l : List ℕ). b ++ l) (sym rest)), ap (λ (s : CodeItem × List ℕ). s.0) same)

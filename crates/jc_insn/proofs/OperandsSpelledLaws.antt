@@ -2,14 +2,16 @@
 use Rattle.std.proofs.Common.{◌≡◌, ◌⊎◌, inl, inr, ℕ, ◌+◌, ◌-◌, ◌*◌, ◌/◌, ◌%◌, ◌<◌, ◌≤◌, Bool, true, false, ◌&&◌, List, [], ◌∷◌, ◌++◌, length, All, nat_lt, refl, sym, ◌∙◌, ap, subst, arith, w8, w16, w32, ℤ, pos, negsuc, length-append}
 use Rattle.std.proofs.lemmas.List.Elements.{All-head, All-tail}
 use Rattle.std.specs.Int.Signed.{le_z_yes}
-use Rattle.std.specs.Prelude.{T, FitsSigned, int_le, ◌≤ℤ◌}
+use Rattle.std.specs.Prelude.{FitsSigned, int_le, ◌≤ℤ◌}
 use Rattle.std.specs.List.{flat_map}
 use Rattle.std.specs.Int.{cast_signed, cast_unsigned}
 use Rattle.std.proofs.lemmas.List.{append-nil, drop_at}
 use Rattle.std.proofs.lemmas.Bool.{and_parts, cases_lt, lt-ltb, le-ltb}
+use Rattle.std.proofs.lemmas.Float.{T_from_true}
 use Rattle.jc_methods.specs.Opcode as opcode
 use Rattle.jc_bytes.specs.Decoder.{IsBig}
 use Rattle.jc_bytes.proofs.DecoderLaws.{big_front}
+use Rattle.jc_bytes.proofs.BooleanLaws.{test_true}
 use Rattle.jc_methods.specs.declared.form.Form.{Form}
 use Rattle.jc_methods.specs.declared.form.Form.TheVariants as forms
 use Rattle.jc_methods.specs.InsnForm.{form_of}
@@ -126,19 +128,11 @@ local_is at op slot is fits = by (cases_lt slot 4) (cases_lt slot 256)
         (subst (λ (f : Form). wide_operands f op (short slot) (items.Insn (insns.Local op slot))) (sym is)
         (one_number 2 (λ v. items.Insn (insns.Local op v)) slot (short slot) (items.Insn (insns.Local op slot)) (big_short slot fits) refl))))
 
-pub test_true : (b : Bool) → T b → b ≡ true
-test_true true h = refl
-test_true false h = absurd h
-
-pub true_test : (b : Bool) → b ≡ true → T b
-true_test true e = tt
-true_test false e = absurd cc
-
 pub le_true : (a b : ℤ) → a ≤ℤ b → int_le a b ≡ true
 le_true a b h = test_true (int_le a b) h.le
 
 pub true_le : (a b : ℤ) → int_le a b ≡ true → a ≤ℤ b
-true_le a b e = le_z_yes (true_test (int_le a b) e)
+true_le a b e = le_z_yes (T_from_true (int_le a b) e)
 
 pub short_fits : (z : ℤ) → FitsSigned w16 z → cast_unsigned w16 z < 65536
 short_fits (pos n) fits = omega (arith, fits.sfits)

@@ -6,6 +6,7 @@ use Rattle.std.specs.Int.Signed.{lt_z_yes}
 use Rattle.std.proofs.lemmas.Int.{ints}
 use Rattle.std.proofs.lemmas.Bool.{and_parts, lt-ltb, ltb-true, ltb-false}
 use Rattle.std.proofs.lemmas.Bool.Decides.{nat_tests}
+use Rattle.std.proofs.lemmas.Float.{T_from_true}
 use Rattle.jc_methods.specs.Opcode as opcode
 use Rattle.jc_methods.specs.declared.form.Form.{Form}
 use Rattle.jc_methods.specs.declared.form.Form.TheVariants as forms
@@ -21,7 +22,7 @@ use Rattle.jc_insn.specs.Items.{number, padding, key_count, target_of, in_pieces
 use Rattle.jc_insn.specs.Sizes.{size_of, push_size, local_size, is_narrow_inc, IsShortest, IsJump}
 use Rattle.jc_insn.proofs.TextSizesLaws.{same_size}
 use Rattle.jc_insn.proofs.ItemReadingLaws.{insn_is, not_subroutine}
-use Rattle.jc_insn.proofs.OperandsSpelledLaws.{true_test, le_true, true_le}
+use Rattle.jc_insn.proofs.OperandsSpelledLaws.{le_true, true_le}
 
 -- what is known of an instruction behind whose opcode these bytes stand
 pub record Facts (at : ℕ) (rest : List ℕ) (insn : Insn) : Type 0 where
@@ -102,7 +103,7 @@ ascending_is [] e = tt
 ascending_is (a ∷ []) e = tt
 ascending_is (a ∷ b ∷ arms) e =
     let both = and_parts (int_lt a.key b.key) (ascending (b ∷ arms)) e in
-    (lt_z_yes (true_test (int_lt a.key b.key) both.0), ascending_is (b ∷ arms) both.1)
+    (lt_z_yes (T_from_true (int_lt a.key b.key) both.0), ascending_is (b ∷ arms) both.1)
 
 keys_end : (low high : ℤ) → low ≤ℤ high → high ≤ℤ pos 2147483647 → (low +ℤ pos (key_count low high)) ≤ℤ pos 2147483648
 keys_end low high up fits = by (high -ℤ low) refl

@@ -234,9 +234,6 @@ all_states names bodies n most h = λ k d less. h k (get_or bodies k d) (omega (
 
 -- ---- the end
 
-none_is_some : {X : Type 0} (x : X) → None ≡ Some x → ⊥
-none_is_some x e = cc
-
 pub frames_fine : (missing clash : Option Refusal) → first_of missing clash ≡ None → (missing ≡ None) × (clash ≡ None)
 frames_fine (Some q) clash is = absurd (some_is_none q is)
 frames_fine None clash is = (refl, is)
@@ -249,7 +246,7 @@ module _ (names : Names) (bodies : List Body) where
     found.0,
     subst (InBodies kinds.FrameClash (FirstClash names) bodies) (same_Some q r is) found.1,
   )
-  frame_found None None r all is = absurd (none_is_some r is)
+  frame_found None None r all is = absurd (none-some r is)
 
   pub all_checked : (missing clash : Option Refusal) → first_of missing clash ≡ None → FramesSoFar names bodies missing clash
       → (i : ℕ) (b : Body) → slice_get bodies i ≡ Some b → Checked names b

@@ -3,7 +3,7 @@ use Rattle.std.proofs.Common.{◌≡◌, ℕ, ℤ, List, Option, Some, None, ref
 use Rattle.std.proofs.lemmas.Option.{none-some}
 use Rattle.std.specs.Option.{option_map}
 use Rattle.jc_bytes.specs.Decoder.{◌>>=◌}
-use Rattle.jc_bytes.proofs.DecoderLaws.{some_is}
+use Rattle.jc_bytes.proofs.OptionLaws.{map_some}
 use Rattle.jc_pool.specs.Adding.{IsNowhere, Extends}
 use Rattle.jc_pool.specs.Index.{entry_naming}
 use Rattle.jc_pool.specs.Lookup.{entry_of, utf8_in, utf8_of, class_name_of, string_of, long_in, long_of, signature_of, Member, member_in, member_of}
@@ -26,10 +26,6 @@ IsFound pool place (signature_entry s) = signature_of pool place ≡ Some s
 IsFound pool place (member_entry m) = member_of pool place ≡ Some m
 
 -- ---- from the one to the other
-
-map_some : {X Y : Type 0} (f : X → Y) (o : Option X) (y : Y) → option_map f o ≡ Some y → (x : X) × (o ≡ Some x) × (f x ≡ y)
-map_some f None y is = absurd (none-some y is)
-map_some f (Some x) y is = (x, refl, some_is (f x) y is)
 
 read_some : {X : Type 0} (f : Entry → Option X) (o : Option Entry) (x : X) → (o >>= f) ≡ Some x → (e : Entry) × (o ≡ Some e) × (f e ≡ Some x)
 read_some f None x is = absurd (none-some x is)

@@ -3,11 +3,10 @@ use Rattle.std.proofs.Common.{◌≡◌, inl, inr, ⊎_elim, ℕ, ℤ, ◌<◌, 
 use Rattle.std.proofs.Math.Seq.{get_or-append_seam}
 use Rattle.std.proofs.lemmas.Bool.{cases_lt}
 use Rattle.std.proofs.lemmas.List.Elements.{Contains-append_left, Contains-append_right}
-use Rattle.std.proofs.lemmas.Option.{none-some}
+use Rattle.std.proofs.lemmas.Option.{none-some, same_Some}
 use Rattle.std.specs.Bool.{⊤}
 use Rattle.std.specs.List.{flat_map, AllByRecursion}
 use Rattle.std.specs.Prelude.{Contains}
-use Rattle.jc_bytes.proofs.DecoderLaws.{some_is}
 use Rattle.jc_bytes.proofs.BooleanLaws.{first_in, which_in, none_in}
 use Rattle.jc_pool.specs.Adding.{IsNowhere, IsPut, Extends, HasUtf8, HasClass, HasString, HasLong, HasSignature, HasMember, IsMemberTag, entry_of_member}
 use Rattle.jc_pool.specs.Lookup.{entry_of, long_of, Signature, signature, Member}
@@ -43,7 +42,7 @@ entry_before : (old new : PoolValue) (place : ℕ) → Extends old new → place
 entry_before old new place more less = ap (λ (l : PoolValue). entry_of l place) more.1 ∙ entry_stays old more.0 place less
 
 same_content : (pool : PoolValue) (place : ℕ) (c d : Content) → content_of pool place ≡ Some c → content_of pool place ≡ Some d → c ≡ d
-same_content pool place c d p q = some_is c d (sym p ∙ q)
+same_content pool place c d p q = same_Some c d (sym p ∙ q)
 
 -- an entry that is put stands at the first of its places, and none at the second
 abbrev last_place : (pool : PoolValue) (e : Entry) (slots : PoolValue) → Type 0

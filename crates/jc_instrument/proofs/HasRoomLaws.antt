@@ -8,7 +8,7 @@ use Rattle.jc_class.specs.declared.class_file.ClassFile.{ClassFile}
 use Rattle.jc_emit.specs.Straddling.{NoneStraddles}
 use Rattle.jc_plan.specs.Analysed.{all_probes}
 use Rattle.jc_instrument.specs.Bodies.{AreBodiesOf}
-use Rattle.jc_instrument.specs.Causes.{Cause, NoCause, of_class}
+use Rattle.jc_instrument.specs.Causes.{NoCause, of_class}
 use Rattle.jc_instrument.specs.LeftAlone.{is_left_alone}
 use Rattle.jc_instrument.specs.ReadyClass.{making_causes}
 use Rattle.jc_instrument.specs.Reasons.{code_causes}
@@ -16,15 +16,12 @@ use Rattle.jc_instrument.specs.RoomCauses.{HasTooLargeCode, early_room_causes}
 use Rattle.jc_instrument.proofs.RoomDecidedLaws.{has_local_room, has_stack_room, none_straddles, short_code}
 use Rattle.jc_instrument.proofs.RoomLaws.{of_class_are}
 use Rattle.jc_instrument.proofs.WrittenCodeLaws.{HasRoom}
-
-rest_none : (Cs Ds : List Cause) → NoCause (Cs ++ Ds) → NoCause Ds
-rest_none [] Ds none = none
-rest_none (C ∷ Cs) Ds none = rest_none Cs Ds none.1
+use Rattle.jc_instrument.proofs.DecidedLaws.{none_behind}
 
 module _ (c : ClassFile) (bodies : List Body) (is : IsClassFile c) (changes : is_left_alone c ≡ false) (are : AreBodiesOf c bodies)
     (none : NoCause (making_causes c)) where
   room : NoCause (early_room_causes c ++ (HasTooLargeCode c ∷ []))
-  room = rest_none (code_causes c) (early_room_causes c ++ (HasTooLargeCode c ∷ [])) none
+  room = none_behind (code_causes c) (early_room_causes c ++ (HasTooLargeCode c ∷ [])) none
 
   probes_few : all_probes bodies ≤ 32767
   probes_few = by (cases_lt 32767 (all_probes bodies))

@@ -1,6 +1,5 @@
 -- Bodies of a class that are looked at, one after the other.
 use Rattle.std.proofs.Common.{◌≡◌, ◌⊎◌, inl, inr, ℕ, ◌+◌, ◌<◌, ◌≤◌, List, [], ◌∷◌, ◌++◌, length, Option, Some, None, slice_get, refl, sym, ◌∙◌, ap, subst, arith, length-append}
-use Rattle.std.specs.Prelude.{unwrap_or}
 use Rattle.std.specs.List.{sum_by}
 use Rattle.std.proofs.lemmas.List.{take-append-le, take_all}
 use Rattle.std.proofs.lemmas.List.Elements.{All-push}
@@ -18,7 +17,7 @@ use Rattle.jc_emit.specs.Straddling.{IsEmitReason}
 use Rattle.jc_layout.specs.Layout.{chosen_length}
 use Rattle.jc_plan.specs.Analysed.{all_probes}
 use Rattle.jc_plan.specs.Probed.{first_id, probe_count}
-use Rattle.jc_instrument.specs.Found.{AreFramesFine, FramesSoFar, HasRoomSoFar, KeepsLack, noted}
+use Rattle.jc_instrument.specs.Found.{AreFramesFine, FramesSoFar, HasRoomSoFar, KeepsLack}
 use Rattle.jc_instrument.specs.Looking.{AreLookedAt, LooksAtBody, LooksOn, PassesOn, PlannedSoFar, PlansOn, PutsPlanned, RefusedOn, RoomSoFar}
 use Rattle.jc_instrument.specs.Probing.{AreShortBelow, IsFirstTooLong, IsTooLong}
 use Rattle.jc_instrument.specs.Ready.{ArePlanned, IsPlannedAt, IsPlannedBody}

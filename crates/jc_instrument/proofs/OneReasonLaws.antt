@@ -33,14 +33,14 @@ one_instrumented c r s a b = a.refusal ∙ sym b.refusal
 one_interface : (c : ClassFile) → IsSingle (IsInterfaceWithBody c)
 one_interface c r s a b = one_method kinds.InterfaceBody (HasCodeAt c) (λ number p q x y. x.3 ∙ sym y.3) r s a.method b.method
 
-one_faulty : (c : ClassFile) (kind : RefusalKind) (number p q : ℕ) → IsFaulty c kind number p → IsFaulty c kind number q → p ≡ q
+pub one_faulty : (c : ClassFile) (kind : RefusalKind) (number p q : ℕ) → IsFaulty c kind number p → IsFaulty c kind number q → p ≡ q
 one_faulty c kind number p q a b = ap (λ (r : Refusal). r.place) (one_fault c number (of_method kind number p) (of_method kind number q) a b)
 
-one_lack : (c : ClassFile) (number p q : ℕ) → OfBody c (λ _ b place. FirstMissing b place) number p → OfBody c (λ _ b place. FirstMissing b place) number q → p ≡ q
+pub one_lack : (c : ClassFile) (number p q : ℕ) → OfBody c (λ _ b place. FirstMissing b place) number p → OfBody c (λ _ b place. FirstMissing b place) number q → p ≡ q
 one_lack c number p q a b =
     one_missing b.body p q (same_missing a.names b.names a.body b.body (same_body a.names b.names c number a.body b.body a.is b.is) p a.holds) b.holds
 
-one_of_clashes : (c : ClassFile) (number p q : ℕ) → OfBody c FirstClash number p → OfBody c FirstClash number q → p ≡ q
+pub one_of_clashes : (c : ClassFile) (number p q : ℕ) → OfBody c FirstClash number p → OfBody c FirstClash number q → p ≡ q
 one_of_clashes c number p q a b =
     one_clash b.names b.body p q (same_clash a.names b.names a.body b.body (same_body a.names b.names c number a.body b.body a.is b.is) p a.holds) b.holds
 

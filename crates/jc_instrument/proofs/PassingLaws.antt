@@ -38,7 +38,7 @@ use Rattle.jc_instrument.proofs.WrittenCodeLaws.{HasRoom, code_places, written_c
 
 -- ---- causes
 
-none_in_front : (Cs Ds : List Cause) → NoCause (Cs ++ Ds) → NoCause Cs
+pub none_in_front : (Cs Ds : List Cause) → NoCause (Cs ++ Ds) → NoCause Cs
 none_in_front [] Ds none = tt
 none_in_front (C ∷ Cs) Ds none = (none.0, none_in_front Cs Ds none.1)
 

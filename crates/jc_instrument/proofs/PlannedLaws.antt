@@ -15,7 +15,6 @@ use Rattle.jc_bytes.specs.declared.fail.Fail.TheVariants as fails
 use Rattle.jc_class.specs.declared.class_file.ClassFile.{ClassFile}
 use Rattle.jc_body.specs.BodyOf.{BodyOf}
 use Rattle.jc_plan.specs.Plan.{plan_of}
-use Rattle.jc_plan.specs.Probed.{first_id}
 use Rattle.jc_kinds.specs.Answers.{AreStates}
 use Rattle.jc_kinds.specs.Checked.{Checked}
 use Rattle.jc_emit.specs.Emission.{emission}

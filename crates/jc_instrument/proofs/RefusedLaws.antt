@@ -1,19 +1,16 @@
 -- What isn't analysed isn't instrumented, and the causes have one order.
-use Rattle.std.proofs.Common.{inl, inr, ℕ, List, [], ◌∷◌, ◌++◌, Some, None}
+use Rattle.std.proofs.Common.{inl, inr, ℕ, List, Some, None}
 use Rattle.jc_bytes.specs.declared.refusal.Refusal.{Refusal}
 use Rattle.jc_class.specs.ClassId.{class_id}
 use Rattle.jc_class.specs.declared.class_file.ClassFile.{ClassFile}
-use Rattle.jc_instrument.specs.Causes.{Cause, NoCause, unless}
+use Rattle.jc_instrument.specs.Causes.{Cause, unless}
 use Rattle.jc_instrument.specs.LeftAlone.{is_left_alone}
 use Rattle.jc_instrument.specs.Reasons.{analysis_causes, AnalysisReason}
 use Rattle.jc_instrument.specs.Refused.{probe_causes, Reason}
 use Rattle.jc_instrument.specs.RoomCauses.{room_causes}
 use Rattle.jc_instrument.proofs.CauseLaws.{first_in_front}
 use Rattle.jc_instrument.proofs.OneReasonLaws.{none_or_some}
-
-none_in_front : (Cs Ds : List Cause) → NoCause (Cs ++ Ds) → NoCause Cs
-none_in_front [] Ds none = tt
-none_in_front (C ∷ Cs) Ds none = (none.0, none_in_front Cs Ds none.1)
+use Rattle.jc_instrument.proofs.PassingLaws.{none_in_front}
 
 -- the causes that stand behind those of an analysis
 abbrev behind : List ℕ → ClassFile → List Cause

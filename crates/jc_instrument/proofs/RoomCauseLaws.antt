@@ -37,7 +37,7 @@ use Rattle.jc_instrument.proofs.SameItemsLaws.{same_code}
 
 -- ---- a long or a double at the last argument
 
-no_frames : {s : TypeStateAt} {ss : List TypeStateAt} → s ∷ ss ≡ [] → ⊥
+pub no_frames : {s : TypeStateAt} {ss : List TypeStateAt} → s ∷ ss ≡ [] → ⊥
 no_frames e = cc
 
 -- a frame of the one list has one of the other that says the same

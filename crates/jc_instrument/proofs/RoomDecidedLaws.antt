@@ -38,7 +38,7 @@ use Rattle.jc_instrument.proofs.TooLargeLaws.{none_too_large, too_large_found}
 
 -- ---- facts
 
-both_or_not : (A B : Type 0) → OrNot A → OrNot B → OrNot (A × B)
+pub both_or_not : (A B : Type 0) → OrNot A → OrNot B → OrNot (A × B)
 both_or_not A B (inl a) (inl b) = inl (a, b)
 both_or_not A B (inl a) (inr never) = inr (λ both. never both.1)
 both_or_not A B (inr never) b = inr (λ both. never both.0)

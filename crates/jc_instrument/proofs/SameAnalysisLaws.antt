@@ -75,7 +75,7 @@ same_way b (Jumps n) = refl
 same_way b (Switches n) = refl
 same_way b Exits = refl
 
-same_count : (b : Body) → probe_count b ≡ probe_count (without_frames b)
+pub same_count : (b : Body) → probe_count b ≡ probe_count (without_frames b)
 same_count b = λ i. count_by (λ x. same_way b x.way i) (branches b.code)
 
 pub same_before : (b : Body) (p : Position) → probes_before b p ≡ probes_before (without_frames b) p

@@ -27,7 +27,7 @@ use Rattle.jc_bytes.proofs.ListLaws.{put_cases}
 use Rattle.jc_kinds_after.specs.After.{insn_at, after_of}
 use Rattle.jc_kinds_after.specs.Answers.{IsStateOf}
 use Rattle.jc_kinds_after.proofs.LeaveLaws.{left_whole}
-use Rattle.jc_kinds_after.proofs.PairLaws.{Paired, of_pairs}
+use Rattle.jc_kinds_after.proofs.PairLaws.{Paired, of_pairs, suc_plus}
 use Rattle.jc_kinds.specs.Answers.{AreStates}
 use Rattle.jc_kinds.specs.Checked.{Checked}
 use Rattle.jc_kinds.specs.Frames.{frame_in}
@@ -173,9 +173,6 @@ spread_others (h ∷ values) all = by (is_pair h) (spread_others values all.1)
     by : (t : Bool) → AllByRecursion IsOther (spread values) → AllByRecursion IsOther ((if t then h ∷ top ∷ [] else h ∷ []) ++ spread values)
     by true rest = (all.0, (tt, rest))
     by false rest = (all.0, rest)
-
-suc_plus : (i : ℕ) → suc i + 1 ≡ suc (i + 1)
-suc_plus i = omega arith
 
 single_paired : (h : VerificationType) (ls : List VerificationType) → is_pair h ≡ false → Paired ls → Paired (h ∷ ls)
 single_paired h ls single pairs zero e = absurd (true≢false (sym e ∙ single))

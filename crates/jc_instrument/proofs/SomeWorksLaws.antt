@@ -1,22 +1,15 @@
 -- The bodies of a class have works, under more names.
 use Rattle.std.proofs.Common.{◌≡◌, ◌⊎◌, inl, inr, ℕ, zero, suc, ◌+◌, ◌≤◌, List, [], ◌∷◌, ◌++◌, length, take, Some, slice_get, refl, sym, ◌∙◌, ap, ap₂, subst, arith}
-use Rattle.std.specs.Prelude.{Option, IsSome}
-use Rattle.std.specs.Option.{option_and_then}
 use Rattle.std.proofs.lemmas.List.{length-map, length-take-le, map-append, take_all, take_more}
 use Rattle.std.proofs.lemmas.Option.{slice_get_within, get_or_from_slice_get}
-use Rattle.jc_methods.specs.VerificationTypes.{Names, TypeState, AreNumberedFrames, Grows}
-use Rattle.jc_methods.specs.EntryState.{entry_of}
+use Rattle.jc_methods.specs.VerificationTypes.{Names, AreNumberedFrames, Grows}
 use Rattle.jc_methods.specs.WellMade.{IsWellMade}
 use Rattle.jc_methods.specs.declared.body.Body.{Body}
 use Rattle.jc_methods.proofs.MetNamesLaws.{grows_none, grows_both}
 use Rattle.jc_methods.proofs.NumberedLaws.{grown_count, frames_numbered}
 use Rattle.jc_bytes.proofs.ListLaws.{put_last, put_cases, item_at}
 use Rattle.jc_class.specs.declared.class_file.ClassFile.{ClassFile}
-use Rattle.jc_kinds_after.specs.After.{after_of}
-use Rattle.jc_kinds.specs.Checked.{Checked, at_handler}
-use Rattle.jc_kinds.specs.Fits.{FitsThere}
-use Rattle.jc_kinds.specs.States.{state_of}
-use Rattle.jc_kinds.proofs.GrowLaws.{states_stay}
+use Rattle.jc_kinds.specs.Checked.{Checked}
 use Rattle.jc_plan.specs.Probed.{first_id}
 use Rattle.jc_emit.specs.Shift.{probe_array_class}
 use Rattle.jc_instrument.specs.Bodies.{AreBodies}
@@ -28,6 +21,7 @@ use Rattle.jc_instrument.proofs.ProbingLaws.{nothing_at, work_grown}
 use Rattle.jc_instrument.proofs.SomeBodiesLaws.{AllBodies}
 use Rattle.jc_instrument.proofs.SomeStatesLaws.{AllStates, all_states}
 use Rattle.jc_instrument.proofs.WholeLaws.{bodies_numbered}
+use Rattle.jc_instrument.proofs.PlannedLaws.{check_grown}
 
 -- works of the first n of these bodies, under more names
 record SomeWorks (first : Names) (bodies : List Body) (n : ℕ) : Type 0 where
@@ -38,21 +32,6 @@ record SomeWorks (first : Names) (bodies : List Body) (n : ℕ) : Type 0 where
   numbered : (i : ℕ) (w : BodyWithStates) → slice_get works i ≡ Some w → AreNumberedFrames (length first) w.body.frames
   each : (i : ℕ) (w : BodyWithStates) → slice_get works i ≡ Some w → IsBodyWithStates names bodies i w
 
--- the check is passed under more names
-grown_checked : (old new : Names) (b : Body) → Grows old new → AreNumberedFrames (length old) b.frames → Checked old b → Checked new b
-grown_checked old new b grows numbered checked =
-    let same : state_of new b ≡ state_of old b = λ k i. (ap (λ (l : Names). state_of l b i) grows.1 ∙ states_stay old grows.0 b numbered i) k in
-    let back = sym same in
-    record {
-      none_missing = checked.none_missing;
-      entry = subst (λ (state : ℕ → Option TypeState). FitsThere (Some (entry_of b)) (state 0)) back checked.entry;
-      after = λ i less. subst (λ (state : ℕ → Option TypeState). IsSome (option_and_then (after_of b i) (state i))) back (checked.after i less);
-      branches = λ i j leads.
-          subst (λ (state : ℕ → Option TypeState). FitsThere (option_and_then (after_of b i) (state i)) (state j)) back (checked.branches i j leads);
-      handlers = λ h i guards less.
-          subst (λ (state : ℕ → Option TypeState). FitsThere (at_handler b h (state i)) (state h.target)) back (checked.handlers h i guards less);
-    }
-
 module _ (first : Names) (bodies : List Body) (numbered : (i : ℕ) (b : Body) → slice_get bodies i ≡ Some b → AreNumberedFrames (length first) b.frames)
     (made : (i : ℕ) (b : Body) → slice_get bodies i ≡ Some b → IsWellMade b)
     (checked : (i : ℕ) (b : Body) → slice_get bodies i ≡ Some b → Checked first b) where
@@ -62,7 +41,7 @@ module _ (first : Names) (bodies : List Body) (numbered : (i : ℕ) (b : Body) �
     still_numbered = frames_numbered (length first) (length before.names) b.frames (grown_count first before.names before.grows) (numbered n b stands)
 
     still_checked : Checked before.names b
-    still_checked = grown_checked first before.names b before.grows (numbered n b stands) (checked n b stands)
+    still_checked = check_grown first before.names b before.grows (numbered n b stands) (checked n b stands)
 
     module _ (next : AllStates before.names b (made n b stands) still_numbered still_checked) where
       abbrev own : BodyWithStates

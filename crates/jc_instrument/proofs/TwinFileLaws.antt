@@ -1,10 +1,11 @@
 -- The twin class that is written is a class file where the texts of its attributes are not too long.
-use Rattle.std.proofs.Common.{◌≡◌, ◌⊎◌, inl, inr, ℕ, ◌≤◌, ◌<◌, Bool, true, false, ◌||◌, List, [], ◌∷◌, ◌++◌, length, Some, refl, sym, ◌∙◌, subst, arith}
+use Rattle.std.proofs.Common.{◌≡◌, ◌⊎◌, inl, inr, ℕ, ◌≤◌, ◌<◌, Bool, true, false, ◌||◌, List, [], ◌∷◌, ◌++◌, length, refl, sym, ◌∙◌, subst, arith}
 use Rattle.std.specs.List.{AllByRecursion, list_any}
 use Rattle.std.proofs.lemmas.Bool.{cases_lt, ltb-false}
 use Rattle.std.proofs.lemmas.List.{length-append}
-use Rattle.jc_bytes.proofs.EachLaws.{all_both, all_weaker}
-use Rattle.jc_bytes.specs.Descriptor.{Array, Boolean, IsFieldDescriptor, IsMethodDescriptor}
+use Rattle.jc_instrument_reread.proofs.KeptEntryLaws.{init_described}
+use Rattle.jc_instrument_reread.proofs.InitAgainLaws.{data_described}
+use Rattle.jc_bytes.proofs.EachLaws.{all_both, all_weaker, all_behind}
 use Rattle.jc_methods.specs.ProbeMembers.{data_name, data_type, init_name, init_type}
 use Rattle.jc_pool.specs.Adding.{Extends}
 use Rattle.jc_pool.specs.Pool.{PoolValue}
@@ -21,10 +22,6 @@ use Rattle.jc_instrument.specs.RoomCauses.{IsFull}
 use Rattle.jc_instrument.specs.SameOutside.{AreKeptAttributes, AreKeptMethods, IsSameOutside}
 
 -- ---- lists of parts
-
-all_behind : {X : Type 0} (P : X → Type 0) (xs ys : List X) → AllByRecursion P (xs ++ ys) → AllByRecursion P ys
-all_behind P [] ys all = all
-all_behind P (x ∷ xs) ys all = all_behind P xs ys all.1
 
 all_front : {X : Type 0} (P : X → Type 0) (xs ys : List X) → AllByRecursion P (xs ++ ys) → AllByRecursion P xs
 all_front P [] ys all = tt
@@ -130,21 +127,6 @@ module _ (old new : PoolValue) (more : Extends old new) where
   same_methods [] (n ∷ ns) kept = absurd kept
   same_methods (m ∷ ms) [] kept = absurd kept
   same_methods (m ∷ ms) (n ∷ ns) kept = let same = same_methods ms ns kept.1 in omega (arith, same)
-
--- ---- the descriptors of the added members
-
-data_described : IsFieldDescriptor data_type
-data_described = (Array Boolean, record { fits = record { named = tt; few = omega arith }; spelled = refl })
-
-init_described : IsMethodDescriptor init_type
-init_described = (
-  record { parameters = []; returns = Some (Array Boolean) },
-  record {
-    parameters = tt;
-    returns = record { named = tt; few = omega arith };
-    spelled = refl;
-  },
-)
 
 -- ---- the whole
 

@@ -36,8 +36,19 @@ classes_listed (name ∷ names) = (tt, classes_listed names)
 pub each_listed : (id : ℕ) (names : Names) (array : ℕ) (c : ClassFile) (works : List BodyWithStates) → AllByRecursion IsOfClass (needs_of id names array c works)
 each_listed id names array c works = (
   tt,
-  (tt, (tt, (tt, ((omega arith, omega arith),
-      ((omega arith, omega arith), ((omega arith, omega arith), (tt, (tt, (tt, (tt, (tt, classes_listed (named_by_all (all_frames names array works))))))))))))),
+  (
+    tt,
+    (
+      tt,
+      (
+        tt,
+        (
+          (omega arith, omega arith),
+          ((omega arith, omega arith), ((omega arith, omega arith), (tt, (tt, (tt, (tt, (tt, classes_listed (named_by_all (all_frames names array works))))))))),
+        ),
+      ),
+    ),
+  ),
 )
 
 -- ---- where it stands

@@ -55,7 +55,7 @@ use Rattle.jc_instrument.proofs.ProbingLaws.{array_stands, emission_code}
 
 -- ---- values
 
-array_below : (names : Names) (array : ℕ) → IsArrayNumber names array → array < length names
+pub array_below : (names : Names) (array : ℕ) → IsArrayNumber names array → array < length names
 array_below names array is = slice_get_within names array probe_array_class (array_stands names array is)
 
 module _ (P : Kind → Type 0) where

@@ -45,12 +45,11 @@ use Rattle.jc_instrument_code.specs.InitText.{init_text}
 use Rattle.jc_instrument_code.specs.TwinCode.{chosen_frames, twin_code, written_frames}
 use Rattle.jc_instrument_code.specs.declared.init.AddedPlaces.{AddedPlaces}
 use Rattle.jc_instrument_reread.specs.Again.{IsAddedAt, IsWrittenAt, AreWrittenMethods}
-use Rattle.jc_instrument_reread.specs.Written.{IsAddedMethod, IsWrittenMethod}
+use Rattle.jc_instrument_reread.specs.Written.{IsAddedMethod, IsWrittenMethod, data_field, fetch_method, init_method}
 use Rattle.jc_instrument_reread.specs.WrittenCode.{IsWrittenCode}
 use Rattle.jc_plan.specs.Analysed.{all_probes}
 use Rattle.jc_instrument.specs.Bodies.{IsListed}
 use Rattle.jc_instrument.specs.Contents.{text_entry, class_entry, string_entry, long_entry, member_entry}
-use Rattle.jc_instrument_reread.specs.Written.{data_field, fetch_method, init_method}
 use Rattle.jc_instrument.specs.Needed.{name_of, needs_of, place_list, signed_id, TakesNeeds}
 use Rattle.jc_instrument.specs.TwinText.{init_member, init_places, twin_class, twin_method, twin_methods, with_code, work_of, IsWritten}
 use Rattle.jc_instrument.specs.BodiesWithStates.{BodyWithStates, all_frames, bodies_of, emitted_of, AreBodiesWithStates}
@@ -133,7 +132,7 @@ module _ (old new : PoolValue) (extends : Extends old new) (code : List ℕ) whe
           ≡ map (λ b. code) (map (λ x. x.body) (if t then a ∷ filter (has_name old (codes "Code")) l else filter (has_name old (codes "Code")) l))
       by true is same rest =
           ap (λ (s : Bool). map (λ x. x.body) (if s then attribute a.name code ∷ filter (has_name new (codes "Code")) (map (with_code old code) l)
-              else filter (has_name new (codes "Code")) (map (with_code old code) l)))
+          else filter (has_name new (codes "Code")) (map (with_code old code) l)))
           (same ∙ is) ∙ ap (λ (r : List (List ℕ)). code ∷ r) rest
       by false is same rest =
           ap (λ (s : Bool). map (λ x. x.body) (if s then a ∷ filter (has_name new (codes "Code")) (map (with_code old code) l) else filter (has_name new (codes "Code")) (map (with_code old code) l)))

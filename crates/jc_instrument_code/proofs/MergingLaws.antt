@@ -9,6 +9,7 @@ use Rattle.jc_bytes.proofs.AppendingLaws.{drop_is}
 use Rattle.jc_methods.specs.FrameOrder.{RiseFrom}
 use Rattle.jc_methods.specs.declared.body.FrameAt.{FrameAt}
 use Rattle.jc_layout.specs.Merged.{with_frame, merged}
+use Rattle.jc_layout.proofs.LayoutFramesLaws.{is_not_below}
 use Rattle.jc_instrument_code.specs.Merging.{other_first}
 
 -- ---- frames in rising order
@@ -28,9 +29,6 @@ rising_left (f ∷ frames) (suc k) a r = rising_left frames k (f.at + 1) r.1
 abbrev BeginsFrom : ℕ → List FrameAt → Type 0
 BeginsFrom n [] = ⊤
 BeginsFrom n (f ∷ frames) = n ≤ f.at
-
-not_less : (a b : ℕ) → b ≤ a → nat_lt a b ≡ false
-not_less a b le = grind (arith, nat_tests)
 
 begins : (n : ℕ) (frames others : List FrameAt) → RiseFrom n frames → RiseFrom n others → BeginsFrom n (merged frames others)
 begins n [] [] r s = tt
@@ -60,7 +58,7 @@ frame_before f frames [] s = refl
 frame_before f frames (o ∷ others) s =
     let above = s.0 in
     ap (λ (l : List FrameAt). with_frame o l) (frame_before f frames others (rising_weaker (o.at + 1) f.at others (omega (arith, above)) s.1))
-    ∙ ap (λ (t : Bool). if t then o ∷ f ∷ merged frames others else f ∷ with_frame o (merged frames others)) (not_less o.at f.at above)
+    ∙ ap (λ (t : Bool). if t then o ∷ f ∷ merged frames others else f ∷ with_frame o (merged frames others)) (is_not_below o.at f.at above)
 
 -- ---- the test
 

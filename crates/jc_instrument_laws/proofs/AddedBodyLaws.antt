@@ -1,7 +1,5 @@
 -- The body of the added method, under names that have a number for the class of the probe array.
-use Rattle.std.proofs.Common.{◌≡◌, ◌⊎◌, inl, inr, ℕ, ℤ, ◌<◌, ◌≤◌, List, [], ◌∷◌, length, map, refl, sym, ◌∙◌, ap, arith}
-use Rattle.std.proofs.lemmas.Bool.{cases_lt}
-use Rattle.std.proofs.lemmas.List.{get_or_past}
+use Rattle.std.proofs.Common.{◌≡◌, ℕ, ℤ, List, [], ◌∷◌, length, map, refl}
 use Rattle.jc_methods.specs.VerificationTypes.{AreNumberedFrames, Names, object, type_state_at}
 use Rattle.jc_methods.specs.declared.body.Body.{Body}
 use Rattle.jc_methods.specs.declared.body.FrameAt.{FrameAt}
@@ -16,14 +14,7 @@ use Rattle.jc_emit.specs.Emission.{IsArrayNumber}
 use Rattle.jc_instrument_reread.specs.Written.{IsAddedMethod}
 use Rattle.jc_instrument_reread.proofs.InitAgainLaws.{init_body, init_is, init_is_body, init_names}
 use Rattle.jc_instrument.proofs.OneBodyLaws.{reframed}
-
--- the number is one of the names
-array_within : (names : Names) (array : ℕ) → IsArrayNumber names array → array < length names
-array_within names array is = by (cases_lt array (length names))
-  where
-    by : (array < length names) ⊎ (length names ≤ array) → array < length names
-    by (inl within) = within
-    by (inr past) = let none = ap (λ (name : List ℕ). length name) (sym (get_or_past names array [] past) ∙ is) in absurd (omega (arith, none))
+use Rattle.jc_instrument.proofs.WritableLaws.{array_below}
 
 module _ (names : Names) (array : ℕ) (array_is : IsArrayNumber names array) (twin : ClassFile) (owner : List ℕ) (id : ℤ) (count : ℕ) (p : AddedPlaces)
     (method : Member) (w : IsAddedMethod twin owner id count p method) (number : ℕ) where
@@ -41,7 +32,7 @@ module _ (names : Names) (array : ℕ) (array_is : IsArrayNumber names array) (t
   frames_same = λ i. record { at = end_place; state = record { locals = []; stack = object (array_is i) ∷ [] } } ∷ []
 
   numbered : AreNumberedFrames (length names) frames
-  numbered = (record { locals = tt; stack = (array_within names array array_is, tt) }, tt)
+  numbered = (record { locals = tt; stack = (array_below names array array_is, tt) }, tt)
 
   pub added_is_body : IsBodyOfAnySize names twin number method added_body
   added_is_body =

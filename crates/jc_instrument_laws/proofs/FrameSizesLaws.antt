@@ -12,15 +12,8 @@ use Rattle.jc_frames.specs.Frames.{trimmed, values_in}
 use Rattle.jc_frames.specs.FullFrames as full
 use Rattle.jc_frames.proofs.ValuesLaws.{trimmed_few, values_few}
 use Rattle.jc_insn.specs.Writing.{short, word}
+use Rattle.jc_insn.proofs.ReadBackLaws.{short_size, word_size}
 use Rattle.jc_instrument_code.specs.CodeText.{attribute, attribute_text, counted_text, parts_of, table_attributes}
-
-pub short_count : (x : ℕ) → length (short x) ≡ 2
-unfolding short
-short_count x = refl
-
-pub word_count : (x : ℕ) → length (word x) ≡ 4
-unfolding word
-word_count x = refl
 
 frame_short_count : (x : ℕ) → length (full.short x) ≡ 2
 unfolding full.short
@@ -93,8 +86,8 @@ module _ (p : full.Places) where
 
 pub attribute_count : (a : Attribute) → length (attribute_text a) ≡ 6 + length a.body
 attribute_count a =
-    let name = short_count a.name in
-    let size = word_count (length a.body) in
+    let name = short_size a.name in
+    let size = word_size (length a.body) in
     let both = length-append (short a.name) (word (length a.body) ++ a.body) in
     let more = length-append (word (length a.body)) a.body in
     omega (arith, name, size, both, more)
@@ -102,7 +95,7 @@ attribute_count a =
 module _ {X : Type 0} (name : ℕ) (text : X → List ℕ) where
   pub counted_count : (xs : List X) → length (counted_text text xs) ≡ 2 + length (flat_map text xs)
   counted_count xs =
-      let count = short_count (length xs) in
+      let count = short_size (length xs) in
       let both = length-append (short (length xs)) (flat_map text xs) in
       omega (arith, count, both)
 

@@ -10,7 +10,7 @@ use Rattle.jc_methods.specs.DescriptorTypes.{field_type_in, method_type_in}
 use Rattle.jc_methods.specs.EntryState.{held_of}
 use Rattle.jc_methods.specs.Flow.{is_return}
 use Rattle.jc_methods.specs.VerificationTypes.{VerificationType, top, int, float, double, long, null, uninit_this, object, uninit, TypeState, is_pair, slots}
-use Rattle.jc_methods.specs.InsnUse.{pool_place, IsOneSlotConstant, IsTwoSlotConstant, IsOfTwoSlots, IsMethod, IsCall, IsClass, IsMemberFor, Suits}
+use Rattle.jc_methods.specs.InsnUse.{pool_place, IsOneSlotConstant, IsTwoSlotConstant, IsMethod, IsCall, IsClass, IsMemberFor, Suits}
 use Rattle.jc_methods.specs.WellMade.{HasUse, what_used}
 use Rattle.jc_methods.specs.declared.body.Use.{Use}
 use Rattle.jc_methods.specs.declared.body.What.{What}
@@ -27,6 +27,7 @@ use Rattle.jc_kinds_after.specs.Wants.{is_int, accepts, accepts_all}
 use Rattle.jc_kinds_after.specs.declared.want.Want.TheVariants as wants
 use Rattle.jc_kinds_after.proofs.KeepLaws.{then_some, else_some}
 use Rattle.jc_kinds_after.proofs.AfterLaws.{all_of}
+use Rattle.jc_kinds_after.proofs.DispatchLaws.{described_constant, described_wide}
 use Rattle.jc_instrument_laws.proofs.ClassSpellingLaws.{bytes_both}
 use Rattle.jc_instrument_laws.proofs.PoolSpellingLaws.{IsText}
 
@@ -432,38 +433,6 @@ constant_named (whats.Field class name desc) t is = tt
 constant_named (whats.Method class name desc) t is = tt
 constant_named (whats.Call name desc) t is = tt
 
-one_slot_described : (what : What) → IsOneSlotConstant what → IsDescribed what
-one_slot_described (whats.Computed desc) is = is.0
-one_slot_described (whats.Int value) is = tt
-one_slot_described (whats.Long value) is = tt
-one_slot_described whats.Float is = tt
-one_slot_described whats.Double is = tt
-one_slot_described whats.Text is = tt
-one_slot_described (whats.Class name) is = tt
-one_slot_described whats.MethodKind is = tt
-one_slot_described whats.Handle is = tt
-one_slot_described (whats.Field class name desc) is = tt
-one_slot_described (whats.Method class name desc) is = tt
-one_slot_described (whats.Call name desc) is = tt
-
-letter_described : (desc : List ℕ) → IsOfTwoSlots desc → IsFieldDescriptor desc
-letter_described desc (inl is) = (Long, record { fits = record { named = tt; few = omega arith }; spelled = is })
-letter_described desc (inr is) = (Double, record { fits = record { named = tt; few = omega arith }; spelled = is })
-
-two_slots_described : (what : What) → IsTwoSlotConstant what → IsDescribed what
-two_slots_described (whats.Computed desc) is = letter_described desc is
-two_slots_described (whats.Int value) is = tt
-two_slots_described (whats.Long value) is = tt
-two_slots_described whats.Float is = tt
-two_slots_described whats.Double is = tt
-two_slots_described whats.Text is = tt
-two_slots_described (whats.Class name) is = tt
-two_slots_described whats.MethodKind is = tt
-two_slots_described whats.Handle is = tt
-two_slots_described (whats.Field class name desc) is = tt
-two_slots_described (whats.Method class name desc) is = tt
-two_slots_described (whats.Call name desc) is = tt
-
 array_bytes : (name : List ℕ) → AreBytes name → AreBytes (array_of name)
 array_bytes name are = by (is_array_class name)
   where
@@ -539,9 +508,9 @@ module _ (uses : List Use) (returns : Option FieldType) (named : (place : ℕ) (
   insn_named (insns.Local op slot) used = if_named (nat_lt op opcode.istore) _ _ tt tt
   insn_named (insns.Inc slot n) used = tt
   insn_named (insns.Constant place) used =
-      by_use place IsOneSlotConstant constant_step (used place refl) (λ what t is. constant_named what t (one_slot_described what is))
+      by_use place IsOneSlotConstant constant_step (used place refl) (λ what t is. constant_named what t (described_constant what is))
   insn_named (insns.Constant2 place) used =
-      by_use place IsTwoSlotConstant constant_step (used place refl) (λ what t is. constant_named what t (two_slots_described what is))
+      by_use place IsTwoSlotConstant constant_step (used place refl) (λ what t is. constant_named what t (described_wide what is))
   insn_named (insns.Member op place) used = by_use place (IsMemberFor op) (member_step op) (used place refl) (member_named op)
   insn_named (insns.Interface place count) used = by_use place IsMethod interface_step (used place refl) interface_named
   insn_named (insns.Dynamic place) used = by_use place IsCall dynamic_step (used place refl) dynamic_named

@@ -19,7 +19,7 @@ use Rattle.jc_pool.specs.declared.index.Naming.{Naming}
 use Rattle.jc_pool.specs.declared.index.Naming.TheVariants as naming
 use Rattle.jc_pool.proofs.AddedLaws.{utf8_there, naming_there}
 use Rattle.jc_pool.proofs.AddedMemberLaws.{signature_there}
-use Rattle.jc_pool.proofs.AddingLaws.{put_extends, signature_extends, utf8_extends}
+use Rattle.jc_pool.proofs.AddingLaws.{put_extends, signature_extends, utf8_extends, naming_small}
 use Rattle.jc_pool.proofs.KeyPlaceLaws.{signature_past}
 use Rattle.jc_pool.proofs.OneMoreEntryLaws.{grown_length, put_pool}
 use Rattle.jc_pool.proofs.WritingLaws.{pool_written}
@@ -71,10 +71,6 @@ naming_slot naming.String at fits =
     let n = short_number at fits in
     record { text = 8 ∷ n.text; spells = record { info = n.text; parts = refl; spells = n.spells }; are = (omega arith, n.are) }
 
-naming_small : (kind : Naming) (at : ℕ) → IsSmall (entry_naming kind at)
-naming_small naming.Class at = tt
-naming_small naming.String at = tt
-
 signature_slot : (name desc : ℕ) → name < 65536 → desc < 65536 → IsSpelledSlot (Some (entry.NameAndType name desc))
 signature_slot name desc a b =
     let m = short_number name a in
@@ -88,6 +84,15 @@ signature_slot name desc a b =
       };
       are = (omega arith, bytes_both m.text n.text m.are n.are);
     }
+
+member_small : (tag class rest : ℕ) → IsSmall (entry_of_member tag class rest)
+member_small tag class rest = by (tag == 9) (tag == 10)
+  where
+    by : (field_tag method_tag : Bool)
+        → IsSmall (if field_tag then entry.Fieldref class rest else if method_tag then entry.Methodref class rest else entry.InterfaceMethodref class rest)
+    by true method_tag = tt
+    by false true = tt
+    by false false = tt
 
 member_slot : (tag class rest : ℕ) → class < 65536 → rest < 65536 → IsSpelledSlot (Some (entry_of_member tag class rest))
 member_slot tag class rest a b = by (tag == 9) (tag == 10)
@@ -131,15 +136,6 @@ member_slot tag class rest a b = by (tag == 9) (tag == 10)
           };
           are = (omega arith, bytes_both m.text n.text m.are n.are);
         }
-
-member_small : (tag class rest : ℕ) → IsSmall (entry_of_member tag class rest)
-member_small tag class rest = by (tag == 9) (tag == 10)
-  where
-    by : (field_tag method_tag : Bool)
-        → IsSmall (if field_tag then entry.Fieldref class rest else if method_tag then entry.Methodref class rest else entry.InterfaceMethodref class rest)
-    by true method_tag = tt
-    by false true = tt
-    by false false = tt
 
 -- ---- one entry more
 

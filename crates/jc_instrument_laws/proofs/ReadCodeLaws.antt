@@ -6,7 +6,6 @@ use Rattle.std.proofs.lemmas.Nat.{xor_lt}
 use Rattle.jc_bytes.specs.ByteLists.{AreBytes}
 use Rattle.jc_bytes.proofs.OneTextLaws.{both_bytes, big_below}
 use Rattle.jc_pool.specs.Pool.{PoolValue}
-use Rattle.jc_class.specs.ClassFormat.{attribute}
 use Rattle.jc_class.specs.ClassId.{polynomial, after_bit, after_bits, after_byte, class_id}
 use Rattle.jc_class.specs.ClassId as id
 use Rattle.jc_class.specs.declared.class_file.Attribute.{Attribute}

@@ -20,6 +20,7 @@ use Rattle.jc_class.specs.declared.class_file.Attribute.{Attribute}
 use Rattle.jc_frames.specs.Frames.{values_in}
 use Rattle.jc_frames.specs.FullFrames as full
 use Rattle.jc_insn.specs.Writing.{short, word, push_text, insn_text}
+use Rattle.jc_insn.proofs.ReadBackLaws.{short_size, word_size}
 use Rattle.jc_plan.proofs.CountLaws.{each_joined}
 use Rattle.jc_pool.specs.Pool.{PoolValue}
 use Rattle.jc_emit.specs.Added.{InitPlaces, end_place, init_frame, init_stack}
@@ -32,7 +33,7 @@ use Rattle.jc_instrument_code.specs.InitText.{push_count, end_offset, init_bytes
 use Rattle.jc_instrument_code.specs.TwinCode.{written_frames, offset_in, places_of, lines_name, vars_name, kind_vars_name, code_attributes, twin_code}
 use Rattle.jc_instrument_laws.proofs.ClassSpellingLaws.{bytes_both, big_bytes_are}
 use Rattle.jc_instrument_laws.proofs.CodeBytesLaws.{short_are, word_are, push_are, placed_are}
-use Rattle.jc_instrument_laws.proofs.FrameSizesLaws.{short_count, word_count, attribute_count, counted_count, table_most}
+use Rattle.jc_instrument_laws.proofs.FrameSizesLaws.{attribute_count, counted_count, table_most}
 
 -- ---- lists
 
@@ -139,7 +140,7 @@ written_are pool method frames_name names e are =
 
 push_few : (form : Form) (op : ℕ) (value : ℤ) → length (push_text form op value) ≤ 3
 push_few forms.PushByte op value = omega arith
-push_few form op value = let count = short_count (cast_unsigned w16 value) in omega (arith, count)
+push_few form op value = let count = short_size (cast_unsigned w16 value) in omega (arith, count)
 
 abbrev PushFits : Insn → Type 0
 PushFits insn = AreBytes (insn_text 0 false insn) × (length (insn_text 0 false insn) ≤ 3)
@@ -184,11 +185,11 @@ init_are p pushed are = (
 init_count : (p : InitPlaces) (pushed : List ℕ) → length pushed ≤ 3 → length (init_bytes p pushed) ≤ 100
 unfolding init_bytes
 init_count p pushed few =
-    let a = short_count p.field in
-    let b = short_count (17 + length pushed) in
-    let c = short_count p.id in
-    let d = short_count p.name in
-    let e = short_count p.fetch in
+    let a = short_size p.field in
+    let b = short_size (17 + length pushed) in
+    let c = short_size p.id in
+    let d = short_size p.name in
+    let e = short_size p.fetch in
     let seven = length-append (short p.field) (opcode.areturn ∷ []) in
     let six = length-append (short p.fetch) (opcode.dup ∷ opcode.putstatic ∷ short p.field ++ (opcode.areturn ∷ [])) in
     let five = length-append pushed (opcode.invokestatic ∷ short p.fetch ++ (opcode.dup ∷ opcode.putstatic ∷ short p.field ++ (opcode.areturn ∷ []))) in
@@ -209,9 +210,9 @@ init_fits p frames array count =
     let code = init_bytes p pushed in
     let stack_map = init_frames frames array pushed in
     let most = init_count p pushed fits.1 in
-    let a = short_count init_stack in
-    let b = short_count 0 in
-    let c = word_count (length code) in
+    let a = short_size init_stack in
+    let b = short_size 0 in
+    let c = word_size (length code) in
     let counted = counted_count 0 attribute_text (stack_map ∷ []) in
     let one_attribute = attribute_count stack_map in
     let places = init_frame_places array (end_offset pushed) in

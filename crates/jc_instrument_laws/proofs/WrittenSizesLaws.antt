@@ -17,6 +17,7 @@ use Rattle.jc_methods.specs.declared.kind.State.{State}
 use Rattle.jc_class.specs.declared.class_file.Attribute.{Attribute}
 use Rattle.jc_frames.specs.FullFrames as full
 use Rattle.jc_insn.specs.Writing.{short, word}
+use Rattle.jc_insn.proofs.ReadBackLaws.{short_size, word_size}
 use Rattle.jc_pool.specs.Pool.{PoolValue}
 use Rattle.jc_emit.specs.Emission.{emission}
 use Rattle.jc_emit.specs.Items.{lead_of, land_of}
@@ -31,16 +32,16 @@ use Rattle.jc_instrument_code.proofs.TwinCodeLaws.{placed_size}
 use Rattle.jc_instrument.specs.RoomCauses.{probed_code}
 use Rattle.jc_instrument_laws.proofs.CodeWeightLaws.{code_least}
 use Rattle.jc_instrument_laws.proofs.EmittedFramesLaws.{arms_size, written_most}
-use Rattle.jc_instrument_laws.proofs.FrameSizesLaws.{short_count, word_count, attribute_count, counted_count, sized_most, table_most, tables_most}
+use Rattle.jc_instrument_laws.proofs.FrameSizesLaws.{attribute_count, counted_count, sized_most, table_most, tables_most}
 
 -- ---- the entries of tables
 
 row_count : (offset : ℕ → ℕ) (h : Handler) → length (row_text offset h) ≤ 8
 row_count offset h =
-    let a = short_count (offset h.start) in
-    let b = short_count (offset h.end) in
-    let c = short_count (offset h.target) in
-    let d = short_count h.class in
+    let a = short_size (offset h.start) in
+    let b = short_size (offset h.end) in
+    let c = short_size (offset h.target) in
+    let d = short_size h.class in
     let one = length-append (short (offset h.start)) (short (offset h.end) ++ (short (offset h.target) ++ short h.class)) in
     let two = length-append (short (offset h.end)) (short (offset h.target) ++ short h.class) in
     let three = length-append (short (offset h.target)) (short h.class) in
@@ -48,18 +49,18 @@ row_count offset h =
 
 line_count : (offset : ℕ → ℕ) (l : LineAt) → length (line_text offset l) ≤ 4
 line_count offset l =
-    let a = short_count (offset l.at) in
-    let b = short_count l.line in
+    let a = short_size (offset l.at) in
+    let b = short_size l.line in
     let one = length-append (short (offset l.at)) (short l.line) in
     omega (arith, a, b, one)
 
 var_count : (offset : ℕ → ℕ) (x : VarAt) → length (var_text offset x) ≤ 10
 var_count offset x =
-    let a = short_count (offset x.start) in
-    let b = short_count (offset x.end - offset x.start) in
-    let c = short_count x.name in
-    let d = short_count x.desc in
-    let e = short_count x.slot in
+    let a = short_size (offset x.start) in
+    let b = short_size (offset x.end - offset x.start) in
+    let c = short_size x.name in
+    let d = short_size x.desc in
+    let e = short_size x.slot in
     let one = length-append (short (offset x.start)) (short (offset x.end - offset x.start) ++ (short x.name ++ (short x.desc ++ short x.slot))) in
     let two = length-append (short (offset x.end - offset x.start)) (short x.name ++ (short x.desc ++ short x.slot)) in
     let three = length-append (short x.name) (short x.desc ++ short x.slot) in
@@ -205,9 +206,9 @@ module _ (names : Names) (b : Body) (first : ℕ) (states : List State) (array :
         let code = with_place method (chosen_text e.code) in
         let rows = counted_text (row_text offset) e.handlers in
         let rest = counted_text attribute_text (code_attributes pool frames_name e (written_frames names e)) in
-        let stack_size = short_count e.max_stack in
-        let locals_size = short_count e.max_locals in
-        let code_size = word_count (length code) in
+        let stack_size = short_size e.max_stack in
+        let locals_size = short_size e.max_locals in
+        let code_size = word_size (length code) in
         let same = placed_size method (chosen_text e.code) in
         let few = code_count in
         let rows_size = rows_few in

@@ -62,7 +62,7 @@ use Rattle.jc_instrument_reread.proofs.UsedPlaceLaws.{stands_used}
 
 -- ---- descriptors
 
-data_described : IsFieldDescriptor data_type
+pub data_described : IsFieldDescriptor data_type
 data_described = (Array Boolean, record { fits = record { named = tt; few = omega arith }; spelled = refl })
 
 init_method_type : MethodType

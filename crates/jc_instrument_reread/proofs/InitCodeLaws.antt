@@ -23,6 +23,7 @@ use Rattle.jc_emit.specs.Added.{InitPlaces, end_place, init_code}
 use Rattle.jc_emit.specs.Marks.{push}
 use Rattle.jc_emit.proofs.PlacedLaws.{places_push}
 use Rattle.jc_layout.proofs.FormedLaws.{push_formed}
+use Rattle.jc_layout.proofs.CallLaws.{call_form}
 use Rattle.jc_instrument_code.specs.InitText.{init_bytes, push_count}
 use Rattle.jc_instrument_code.proofs.InitLaws.{push_byte, push_short, push_small}
 use Rattle.jc_instrument_reread.specs.InitRead.{init_starts}
@@ -104,10 +105,6 @@ get_form = refl
 put_form : form_of opcode.putstatic ≡ forms.Member
 unfolding form_of
 put_form = refl
-
-call_form : form_of opcode.invokestatic ≡ forms.Member
-unfolding form_of
-call_form = refl
 
 dup_form : form_of opcode.dup ≡ forms.Simple
 unfolding form_of

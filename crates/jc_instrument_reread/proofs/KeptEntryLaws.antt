@@ -212,7 +212,7 @@ string_found_at pool place text is =
 
 -- ---- the method that the prelude calls
 
-init_described : IsMethodDescriptor init_type
+pub init_described : IsMethodDescriptor init_type
 init_described = (
   record { parameters = []; returns = Some (Array Boolean) },
   record {

@@ -1,5 +1,5 @@
 -- The shifted form of a state of a body is one that a full frame says.
-use Rattle.std.proofs.Common.{◌≡◌, ℕ, zero, suc, ◌+◌, ◌≤◌, true, false, List, [], ◌∷◌, length, map, get_or, Some, refl, sym, ◌∙◌, ap₂, subst, arith, true≢false}
+use Rattle.std.proofs.Common.{◌≡◌, ℕ, zero, suc, ◌+◌, ◌≤◌, true, false, List, [], ◌∷◌, map, get_or, Some, refl, sym, ◌∙◌, ap₂, arith, true≢false}
 use Rattle.std.specs.Prelude.{insert, slice_get}
 use Rattle.std.specs.List.{AllByRecursion, sum_by}
 use Rattle.std.proofs.lemmas.List.{length-map}
@@ -15,18 +15,16 @@ use Rattle.jc_methods.specs.declared.body.Body.{Body}
 use Rattle.jc_methods.specs.declared.kind.Kind.{Kind}
 use Rattle.jc_methods.specs.declared.kind.Kind.TheVariants as kinds
 use Rattle.jc_methods.specs.declared.kind.State.{State}
+use Rattle.jc_methods.proofs.WidthLaws.{as_many}
 use Rattle.jc_kinds_after.specs.Shift.{renamed, probes, shifted}
 use Rattle.jc_emit.proofs.StateLaws.{slots-renamed}
 use Rattle.jc_frames.specs.FullFrames.{BeginsWithTop, ArePaired}
+use Rattle.jc_frames.proofs.WrittenLaws.{top_begins}
 use Rattle.jc_instrument_reread.proofs.AskedFrameLaws.{IsStateOf}
 use Rattle.jc_instrument_reread.proofs.RenamedLaws.{pair_renamed}
 use Rattle.jc_instrument_reread.proofs.WritableFrameLaws.{PlacedSo, IsSayable}
 
 -- ---- kinds by the names of classes
-
-begins_held : (names : Names) (ks : List Kind) → made.BeginsWithTop ks → BeginsWithTop (map (verification_type names) ks)
-begins_held names [] b = b
-begins_held names (k ∷ ks) b = subst (λ (x : Kind). BeginsWithTop (map (verification_type names) (x ∷ ks))) (sym b) tt
 
 module _ (names : Names) where
   pair_slots : (k : Kind) → is_pair (verification_type names k) ≡ true → made.kind_slots k ≡ 2
@@ -42,7 +40,7 @@ module _ (names : Names) where
 
   paired_held : (ks : List Kind) → made.ArePaired ks → ArePaired (map (verification_type names) ks)
   paired_held [] p = tt
-  paired_held (k ∷ ks) p = (λ pair. begins_held names ks (p.0 (pair_slots k pair)), paired_held ks p.1)
+  paired_held (k ∷ ks) p = (λ pair. top_begins names ks (p.0 (pair_slots k pair)), paired_held ks p.1)
 
   slots_held : (ks : List Kind) → slots (map (verification_type names) ks) ≡ sum_by made.kind_slots ks
   slots_held [] = refl
@@ -58,21 +56,6 @@ module _ (names : Names) where
       one kinds.UninitThis = refl
       one (kinds.Object n) = refl
       one (kinds.Uninit at) = refl
-
-some_width : (h : VerificationType) → 1 ≤ width h
-some_width top = omega arith
-some_width int = omega arith
-some_width float = omega arith
-some_width double = omega arith
-some_width long = omega arith
-some_width null = omega arith
-some_width uninit_this = omega arith
-some_width (object name) = omega arith
-some_width (uninit at) = omega arith
-
-slots_above : (hs : List VerificationType) → length hs ≤ slots hs
-slots_above [] = omega arith
-slots_above (h ∷ hs) = let a = slots_above hs in let w = some_width h in omega (arith, a, w)
 
 -- ---- one more local variable
 
@@ -158,7 +141,7 @@ shifted_sayable names b image Fact s room placed is =
     let count = length-map hs (renamed image) ∙ length-map s.locals (verification_type names) ∙ is.state.locals in
     let taken = slots-renamed image (map (verification_type names) s.stack) ∙ slots_held names s.stack in
     let most = is.state.stack in
-    let above = slots_above stack in
+    let above = as_many stack in
     record {
       locals = let more = length-insert rs b.arg_slots probes (omega (arith, count, room)) in omega (arith, more, count);
       paired = paired_more b.arg_slots probes rs refl (paired_renamed image hs (paired_held names s.locals is.state.pairs))

@@ -3,6 +3,7 @@ use Rattle.std.proofs.Common.{◌≡◌, ◌⊎◌, inl, inr, ℕ, zero, suc, �
 use Rattle.std.specs.Prelude.{slice_index}
 use Rattle.std.proofs.lemmas.Bool.{cases_lt}
 use Rattle.std.proofs.lemmas.List.{get_or_past}
+use Rattle.jc_layout.proofs.MergedLaws.{some_width}
 use Rattle.jc_methods.specs.Starts.{insn_number}
 use Rattle.jc_methods.specs.declared.insn.Flow.{Flow}
 use Rattle.jc_methods.specs.declared.insn.Flow.TheVariants as flows
@@ -73,10 +74,6 @@ some_bytes wide at (insn ∷ code) starts (later, is, more) some =
     omega (arith, end, above, size)
 
 -- ---- the wide layout
-
-some_width : (flow : Flow) → 1 ≤ widths_by flow
-some_width flows.Branches = omega arith
-some_width flow = omega arith
 
 -- places rise
 pub wide_places_rise : (code : List Insn) (i j : ℕ) → i < j → wide_place code i < wide_place code j

@@ -1,10 +1,11 @@
 -- The instructions of a twin lead to instructions of it, and use its local variables.
-use Rattle.std.proofs.Common.{◌≡◌, ⊎_elim, ℕ, zero, suc, ◌+◌, ◌<◌, ◌≤◌, Bool, true, false, List, [], ◌∷◌, map, length, Some, None, refl, sym, subst, arith, All, nat_lt, nat_le, if◌then◌else◌, cond, pos}
+use Rattle.std.proofs.Common.{◌≡◌, ⊎_elim, ℕ, ◌+◌, ◌<◌, ◌≤◌, Bool, true, false, List, [], ◌∷◌, map, length, Some, None, refl, sym, subst, arith, All, nat_lt, nat_le, if◌then◌else◌, cond, pos}
 use Rattle.std.specs.Prelude.{slice_get}
 use Rattle.std.specs.List.{AllByRecursion}
 use Rattle.std.proofs.lemmas.Bool.{cond_both}
-use Rattle.std.proofs.lemmas.Option.{none-some, same_Some, slice_get_within}
+use Rattle.std.proofs.lemmas.Option.{slice_get_within}
 use Rattle.jc_bytes.proofs.EachLaws.{all_weaker}
+use Rattle.jc_bytes.proofs.ListLaws.{mapped_at}
 use Rattle.jc_methods.specs.Flow.{flow_of, FallsThrough}
 use Rattle.jc_methods.specs.Insn.{with_places}
 use Rattle.jc_methods.specs.InsnUse.{LeadsWithin, LocalsWithin, is_of_two_slots, locals_of}
@@ -26,11 +27,6 @@ use Rattle.jc_emit.proofs.LocalLaws.{twin_ok}
 use Rattle.jc_layout.proofs.ItemTargetsLaws.{stands_within, lands_within, item_within}
 
 -- ---- mapped lists
-
-pub mapped_at : {X Y : Type 0} (f : X → Y) (xs : List X) (k : ℕ) (y : Y) → slice_get (map f xs) k ≡ Some y → (x : X) × (slice_get xs k ≡ Some x) × (f x ≡ y)
-mapped_at f [] k y e = absurd (none-some y e)
-mapped_at f (x ∷ xs) zero y e = (x, refl, same_Some (f x) y e)
-mapped_at f (x ∷ xs) (suc k) y e = mapped_at f xs k y e
 
 -- ---- local variables
 

@@ -5,6 +5,7 @@ use Rattle.std.specs.Option.{option_and_then}
 use Rattle.std.proofs.lemmas.Bool.{cases_lt}
 use Rattle.std.proofs.lemmas.List.{length-map}
 use Rattle.std.proofs.lemmas.Option.{none-some, same_Some, slice_get_within, get_or_from_slice_get}
+use Rattle.jc_bytes.proofs.ListLaws.{mapped_at}
 use Rattle.jc_methods.proofs.StartsLaws.{rising, number_of_end}
 use Rattle.jc_methods.specs.InsnUse.{IsClass}
 use Rattle.jc_methods.specs.Starts.{insn_number, AreStarts}
@@ -34,7 +35,6 @@ use Rattle.jc_instrument_code.specs.TwinCode.{offset_in}
 use Rattle.jc_instrument_reread.specs.ReadCode.{row_at, written_insns, written_starts}
 use Rattle.jc_instrument_reread.proofs.OffsetLaws.{offset_at, number_at}
 use Rattle.jc_instrument_reread.proofs.StartLaws.{wide_places_rise}
-use Rattle.jc_instrument_reread.proofs.TwinItemLaws.{mapped_at}
 
 -- ---- the class of a row
 

@@ -153,7 +153,7 @@ same_guard b states kept frames handlers slots count place p q r t first =
 
 pub clash_answered_at : (old new : Names) (b : Body) (keeps : Bool) (count : ℕ) (states : List State) (place : ℕ) → IsWellMade b → IsNowhere (IsMissing b) → AreNumberedFrames (length old) b.frames
     → IsWalkFrom old new b keeps count states → (b.handlers ≢ [] → keeps ≡ true)
-        → IsFirstOrBound (IsUnguarded states b.frames b.handlers b.max_locals) count place → place < length b.code → FirstClash new b place
+    → IsFirstOrBound (IsUnguarded states b.frames b.handlers b.max_locals) count place → place < length b.code → FirstClash new b place
 clash_answered_at old new b keeps count states place made missing numbered w rows first lt =
     clash_found w.base new b keeps count states place made missing w.grown (frames_numbered (length old) (length w.base) b.frames (grown_count old w.base w.before) numbered) w.walk rows first lt
 

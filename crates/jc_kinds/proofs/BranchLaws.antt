@@ -82,7 +82,7 @@ left_fits b code frames i left insn fits coded framed lt at is =
 pub stop_made : (old new : Names) (b c : Body) (code : List Insn) (frames : List FrameAt) (i : ℕ) (s left : State) (o : Option State) (insn : Insn)
     (fits : Bool) → c ≡ b → code ≡ b.code → frames ≡ b.frames
     → i < length b.code → insn ≡ get_or code i insn → LeavesState old new c i s o → o ≡ Some left
-        → fits ≡ list_all (fits_frame frames left) (branches (Some insn) i) → fits ≡ false → StopsAt old new b i s
+    → fits ≡ list_all (fits_frame frames left) (branches (Some insn) i) → fits ≡ false → StopsAt old new b i s
 stop_made old new b c code frames i s left o insn fits same coded framed lt at leaves some is misses =
     inr (left, left_is old new b c i s left o same leaves some, left_fits b code frames i left insn fits coded framed lt at is ∙ misses)
 
@@ -92,7 +92,7 @@ none_made old new b c i s o same leaves none = inl (sym (ap (option_map (type_st
 -- what a frame or a state that falls into the place is
 kept_made : (old new : Names) (b : Body) (at : ℕ) (other : State) → IsWellMade b → AreNumberedFrames (length old) b.frames → Grows old new → IsNumberedState (length new) other
     → IsState b.code b.max_locals b.max_stack other → (o : Option State) → frame_in b.frames at ≡ o
-        → IsNumberedState (length new) (unwrap_or o other) × IsState b.code b.max_locals b.max_stack (unwrap_or o other)
+    → IsNumberedState (length new) (unwrap_or o other) × IsState b.code b.max_locals b.max_stack (unwrap_or o other)
 kept_made old new b at other made frames g numbered whole None e = (numbered, whole)
 kept_made old new b at other made frames g numbered whole (Some f) e = (
   state_numbered (length old) (length new) f (grown_count old new g) (frame_numbered (length old) b.frames frames at f e),

@@ -76,7 +76,7 @@ entry_decided names b i = both (equal_decided i 0) (neither (there_decided (Some
 branch_decided : (names : Names) (b : Body) (i : ℕ) → Decides (branch_clash names b i) (BranchClash names b i)
 branch_decided names b i = instead
     (any_decided (λ j. not (fits_there (after_at names b i) (state_of names b j))) (λ j. FitsThere (after_at names b i) (state_of names b j) → ⊥)
-        (λ j. neither (there_decided (after_at names b i) (state_of names b j))) (branches (insn_at b i) i))
+    (λ j. neither (there_decided (after_at names b i) (state_of names b j))) (branches (insn_at b i) i))
     (λ w. (w.0, (leads_decided b i w.0).0 w.1, w.2))
     (λ w. (w.0, (leads_decided b i w.0).1 w.1, w.2))
 

@@ -146,7 +146,7 @@ module _ (image : ℕ → ℕ) where
       ∙ set_end front (replicate room top) top probes
       ∙ sym (
       ap (λ (l : List VerificationType). insert l (length front) probes)
-          (map-append (renamed image) front (replicate room top) ∙ ap₂ (λ (a b : List VerificationType). a ++ b) (spread_still values all) (tops_still room))
+      (map-append (renamed image) front (replicate room top) ∙ ap₂ (λ (a b : List VerificationType). a ++ b) (spread_still values all) (tops_still room))
       ∙ insert_end front (replicate room top) probes)
 
 pub entry_shifts : EntryShifts

@@ -7,7 +7,7 @@ use Rattle.jc_kinds_after.specs.Wants.{is_int, is_float, is_long, is_double, is_
 use Rattle.jc_kinds.specs.Fits.{IsObject, IsNullOrObject, Fits, FitEach, FitState, FitsThere, is_null, is_uninit_this, is_uninit_at, fits, fit_each, fit_state, fits_there}
 use Rattle.jc_bytes.proofs.BooleanLaws.{both, instead}
 
-no : {X : Type 0} → false ≡ true → X
+pub no : {X : Type 0} → false ≡ true → X
 no e = absurd (true≢false (sym e))
 
 int_is : (a : VerificationType) → is_int a ≡ true → a ≡ int

@@ -90,7 +90,7 @@ module _ (column : List Kind) (rows : List Handler) (want : Kind) (bound : ℕ) 
 
 pub group_first : (column : List Kind) (frames : List FrameAt) (slot : ℕ) (rows : List Handler) (want : Kind) (bound result : ℕ) → IsGroup rows → 0 < length rows
     → want ≡ wanted_at slot (frame_in frames (row_at rows 0).target) → IsFirstOrBound (IsUnfitInRows column rows want) bound result
-        → IsFirstOrBound (IsUnfitInColumn column frames slot rows) bound result
+    → IsFirstOrBound (IsUnfitInColumn column frames slot rows) bound result
 group_first column frames slot rows want bound result group some is first = instead_first bound result
     (λ i lt u. record { handler = u.handler; row = u.row; guarded = u.guarded; unfit = subst (λ (kind : Kind). kind_fits (kind_at column i) kind ≡ false) (same u.handler u.row) u.unfit })
     (λ i lt u. record { handler = u.handler; row = u.row; guarded = u.guarded; unfit = subst (λ (kind : Kind). kind_fits (kind_at column i) kind ≡ false) (sym (same u.handler u.row)) u.unfit })

@@ -84,7 +84,7 @@ row_at hs i = get_or hs i no_row
 
 pub next_uncaught : (frames : List FrameAt) (hs : List Handler) (i bound middle result : ℕ) → i < length hs
     → IsFirstOrBound (IsUncaught frames (take i hs)) bound middle → IsFirstOrBound (IsUncaught frames (row_at hs i ∷ [])) middle result
-        → IsFirstOrBound (IsUncaught frames (take (i + 1) hs)) bound result
+    → IsFirstOrBound (IsUncaught frames (take (i + 1) hs)) bound result
 next_uncaught frames hs i bound middle result lt old new =
     let h = row_at hs i in
     subst (λ (l : List Handler). IsFirstOrBound (IsUncaught frames l) bound result) (sym (take_more hs i no_row lt))
@@ -101,7 +101,7 @@ next_uncaught frames hs i bound middle result lt old new =
 
 pub next_unfit : (column : List Kind) (frames : List FrameAt) (slot : ℕ) (hs : List Handler) (i bound middle result : ℕ) → i < length hs
     → IsFirstOrBound (IsUnfitInColumn column frames slot (take i hs)) bound middle
-        → IsFirstOrBound (IsUnfitInRow column (row_at hs i) (wanted_at slot (frame_in frames (row_at hs i).target))) middle result
+    → IsFirstOrBound (IsUnfitInRow column (row_at hs i) (wanted_at slot (frame_in frames (row_at hs i).target))) middle result
     → IsFirstOrBound (IsUnfitInColumn column frames slot (take (i + 1) hs)) bound result
 next_unfit column frames slot hs i bound middle result lt old new =
     let h = row_at hs i in

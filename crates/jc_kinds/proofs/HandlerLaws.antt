@@ -90,7 +90,7 @@ module _ (old now : Names) (b : Body) (states : List State) (i : ℕ) (s : State
       frame_is old b h.target f e ∙ ap Some (sym (seen_grown old now f grown (frame_numbered (length old) b.frames frames h.target f e))) in
       let both : FitState (record { locals = map (verification_type now) s.locals; stack = object c.0 ∷ [] }) (type_state now f) =
       subst (FitsThere (Some (record { locals = map (verification_type now) s.locals; stack = object c.0 ∷ [] }))) right
-          (subst (λ (t : Option TypeState). FitsThere t (state_of old b h.target)) left fit) in
+      (subst (λ (t : Option TypeState). FitsThere t (state_of old b h.target)) left fit) in
       fails_where (state_decided (record { locals = map (verification_type now) s.locals; stack = object c.0 ∷ [] }) (type_state now f))
       (ap₂ (λ x y. x && y) (sym (each_held_fits now s.locals f.locals)) (catches_fits now c.0 f.stack) ∙ misses) both
 
@@ -124,9 +124,11 @@ module _ (old now : Names) (b : Body) (states : List State) (i : ℕ) (s : State
     where
       by : (o : Option State) → frame_in b.frames u.handler.target ≡ o → frame_catches o ≡ false → HandlerClash old b i
       by None e misses = absurd (true≢false misses)
-      by (Some f) e misses =
-          (u.handler, record { row = u.row; start = u.guarded.start; end = u.guarded.end },
-            guarded_decides u.handler f e (and_right (kinds_fit s.locals f.locals) (catches f.stack) misses))
+      by (Some f) e misses = (
+        u.handler,
+        record { row = u.row; start = u.guarded.start; end = u.guarded.end },
+        guarded_decides u.handler f e (and_right (kinds_fit s.locals f.locals) (catches f.stack) misses),
+      )
   unguarded_clashes (inr (slot, lt, u)) = by (frame_in b.frames u.handler.target) refl
       (sym (ap (λ (k : Kind). kind_fits k (wanted_at slot (frame_in b.frames u.handler.target))) (column_is slot)) ∙ u.unfit)
     where

@@ -42,9 +42,6 @@ one_more loose column i e ends ends' within all here is = record {
 
 -- ---- what fits has the key of what is wanted
 
-wrong : {X : Type 0} → false ≡ true → X
-wrong e = cc
-
 pub key-wanted : (want kind : Kind) → want ≢ kinds.Top → kind_fits kind want ≡ true → key_of (is_loose want) kind ≡ key_of (is_loose want) want
 key-wanted kinds.Top kind nt f = absurd (nt refl)
 key-wanted kinds.Int kinds.Int nt f = refl

@@ -240,7 +240,7 @@ kept_more false states more i s count is k = absurd (true≢false (sym k))
 pub walk_on : (old before after : Names) (b : Body) (keeps : Bool) (states more : List State) (i : ℕ) (s next : State) → IsWellMade b
     → IsNowhere (IsMissing b) → AreNumberedFrames (length old) b.frames
     → i < length b.code → IsWalking old before b keeps states i s → Grows before after → IsStep before after b i s next → more ≡ states
-        ++ kept_of keeps s → IsWalking old after b keeps more (i + 1) next
+    ++ kept_of keeps s → IsWalking old after b keeps more (i + 1) next
 walk_on old before after b keeps states more i s next made missing frames lt w g st is =
     let grown = grows_both old before after w.grown g in
     let here = w.here lt in record {

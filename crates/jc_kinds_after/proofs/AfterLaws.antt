@@ -13,7 +13,7 @@ use Rattle.jc_methods.specs.declared.body.Use.{Use}
 use Rattle.jc_methods.specs.declared.body.What.{What}
 use Rattle.jc_methods.specs.declared.body.What.TheVariants as whats
 use Rattle.jc_methods.specs.declared.body.Body.{Body}
-use Rattle.jc_bytes.specs.Descriptor.{FieldType, Byte, Char, Double, Float, Int, Long, Short, Boolean, Object, Array, MethodType}
+use Rattle.jc_bytes.specs.Descriptor.{FieldType, Double, Float, Int, Long, Array, MethodType}
 use Rattle.jc_methods.specs.DescriptorTypes.{field_type_in, method_type_in}
 use Rattle.jc_methods.specs.Flow.{is_conditional_branch, is_return, inverse_of}
 use Rattle.jc_methods.specs.WellMade.{what_used}
@@ -27,14 +27,12 @@ use Rattle.jc_kinds_after.specs.declared.want.Want.{Want}
 use Rattle.jc_kinds_after.specs.declared.want.Want.TheVariants as wants
 use Rattle.jc_kinds_after.specs.Wants.{is_int, accepts, accepts_all}
 use Rattle.jc_kinds_after.specs.Step.{Gives, kind, item, StackEffect, Step, moves, loads, stores, counts, picks, makes, builds, fails, Ground, below}
-use Rattle.jc_kinds_after.specs.Step.{upper, last, put_local, limited, has_form, moved, moved_by, with_stack, is_array, element_of, is_made, without}
-use Rattle.jc_kinds_after.specs.Step.{replaced, given_of, class_built, built_as, apply}
+use Rattle.jc_kinds_after.specs.Step.{upper, last, put_local, limited, has_form, moved, moved_by, with_stack, is_array, element_of, is_made, without, replaced, given_of, class_built, built_as, apply}
 use Rattle.jc_kinds_after.specs.Table.{Row, table, find, forms_at}
 use Rattle.jc_kinds_after.specs.After.{result_of, field_step, static_step, object_step, method_step, member_step, interface_step, dynamic_step}
 use Rattle.jc_kinds_after.specs.After.{computed_step, constant_step, array_of, array_step, class_step, multi_step, return_op, return_step}
 use Rattle.jc_kinds_after.specs.After.{simple_step, local_want, local_step, step_of, insn_at, class_in, new_class, ground_of, returns_of, after_of}
-use Rattle.jc_kinds_after.specs.Shift.{shifted, slot_of, with_slot, IsImage, led, inverted, HasImages, Straddles, shifted_step, IsPlaceless, IsPlain}
-use Rattle.jc_kinds_after.specs.Shift.{CanShift, takes_pair, Images, AfterShifts}
+use Rattle.jc_kinds_after.specs.Shift.{shifted, slot_of, with_slot, IsImage, led, inverted, HasImages, Straddles, shifted_step, IsPlaceless, IsPlain, CanShift, takes_pair, Images, AfterShifts}
 use Rattle.jc_kinds_after.proofs.ShiftLaws.{shift-law}
 
 -- ---- more room on the stack

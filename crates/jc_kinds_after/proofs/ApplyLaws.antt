@@ -20,7 +20,7 @@ use Rattle.jc_methods.proofs.SeenLaws.{seen_stays}
 use Rattle.jc_kinds_after.specs.declared.effects.Effects.{Effects}
 use Rattle.jc_kinds_after.specs.declared.step.Step.{Step as KeptStep}
 use Rattle.jc_kinds_after.specs.declared.step.Step.TheVariants as steps
-use Rattle.jc_kinds_after.specs.Step.{StackEffect, Step, moves, loads, stores, counts, picks, makes, builds, fails, apply, built, picked, moved_by, with_stack}
+use Rattle.jc_kinds_after.specs.Step.{StackEffect, Step, moves, loads, stores, counts, picks, builds, apply, built, picked, moved_by, with_stack}
 use Rattle.jc_kinds_after.specs.After.{local_want, step_of, insn_at, ground_of, returns_of, after_of}
 use Rattle.jc_kinds_after.specs.Arrays.{array_forms}
 use Rattle.jc_kinds_after.specs.Effects.{AreEffects, body_of}

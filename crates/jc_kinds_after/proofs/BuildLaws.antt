@@ -7,8 +7,7 @@ use Rattle.std.proofs.lemmas.Bool.{and_right}
 use Rattle.jc_methods.specs.declared.kind.Kind.{Kind}
 use Rattle.jc_methods.specs.declared.kind.Kind.TheVariants as kinds
 use Rattle.jc_methods.specs.declared.kind.State.{State}
-use Rattle.jc_methods.specs.VerificationTypes.{Names, VerificationType, top, int, float, double, long, null, uninit_this, object, uninit}
-use Rattle.jc_methods.specs.VerificationTypes.{verification_type, TypeState, type_state}
+use Rattle.jc_methods.specs.VerificationTypes.{Names, VerificationType, top, null, uninit_this, object, uninit, verification_type, TypeState, type_state}
 use Rattle.jc_kinds_after.specs.declared.want.Want.{Want}
 use Rattle.jc_kinds_after.specs.declared.want.Want.TheVariants as wants
 use Rattle.jc_kinds_after.specs.Wants.{accepts, accepts_all, is_anything}

@@ -26,7 +26,7 @@ by_use uses returns insn x place names effect st by is named used at kept descri
     let P : Insn → Type 0 = λ i. ((p : ℕ) → pool_place i ≡ Some p → HasUse uses p (Suits i)) → step_in names st ≡ step_of uses returns i in
     subst P (sym is) (λ there. let u = there place named in kept ∙ ap by (at u.what u.used (described u.what u.fact)) ∙ same u.what u.fact u.used) used
 
-two_slots_described : (desc : List ℕ) → IsOfTwoSlots desc → IsFieldDescriptor desc
+pub two_slots_described : (desc : List ℕ) → IsOfTwoSlots desc → IsFieldDescriptor desc
 two_slots_described desc (inl e) = (Long, record { fits = record { named = tt; few = omega arith }; spelled = e })
 two_slots_described desc (inr e) = (Double, record { fits = record { named = tt; few = omega arith }; spelled = e })
 

@@ -10,6 +10,7 @@ use Rattle.jc_methods.specs.EntryState.{held_of}
 use Rattle.jc_methods.specs.VerificationTypes.{Names, VerificationType, verification_type, Grows, IsNumbered}
 use Rattle.jc_methods.specs.ValueTypes.{held_by, Says as SaysType, AllSay as AllSayTypes, SaysReturn}
 use Rattle.jc_methods.proofs.SeenLaws.{held_stays}
+use Rattle.jc_methods.proofs.MetNamesLaws.{grows_both}
 use Rattle.jc_kinds_after.specs.declared.want.Want.{Want}
 use Rattle.jc_kinds_after.specs.declared.want.Want.TheVariants as wants
 use Rattle.jc_kinds_after.specs.declared.effect.Effect.{Effect}
@@ -18,22 +19,12 @@ use Rattle.jc_kinds_after.specs.Does.{call, value, of_class, does, does_of, IsDe
 
 -- ---- growth
 
-pub grown_here : (names : Names) → Grows names names
-grown_here names = ([], sym (append_nil names))
-  where
-    append_nil : (xs : Names) → xs ++ [] ≡ xs
-    append_nil [] = refl
-    append_nil (x ∷ xs) = ap (λ l. x ∷ l) (append_nil xs)
-
-pub grown_twice : (a b c : Names) → Grows a b → Grows b c → Grows a c
-grown_twice a b c g h = (g.0 ++ h.0, h.1 ∙ ap (λ (l : Names). l ++ h.0) g.1 ∙ append_assoc a g.0 h.0)
-
 -- what holds under all longer lists of names does so under those of a longer one
 pub later : {X : Type 0} (f : Names → X) (x : X) (old new : Names) → Grows old new → ((more : Names) → f (old ++ more) ≡ x) → (more : Names)
     → f (new ++ more) ≡ x
 later f x old new g all more = ap (λ (l : Names). f (l ++ more)) g.1 ∙ ap f (append_assoc old g.0 more) ∙ all (g.0 ++ more)
 
-some_head : (x y : VerificationType) (xs ys : List VerificationType) → (x ∷ xs) ≡ (y ∷ ys) → x ≡ y
+pub some_head : (x y : VerificationType) (xs ys : List VerificationType) → (x ∷ xs) ≡ (y ∷ ys) → x ≡ y
 some_head x y xs ys e = cc
 
 -- ---- uses
@@ -77,7 +68,7 @@ pub class_says : (n1 n2 n3 : Names) (itself constant : Kind) (array : Option Kin
     → of_class (verification_type (n3 ++ more) itself) (option_map (verification_type (n3 ++ more)) array) (verification_type (n3 ++ more) constant)
     ≡ of_class h a j
 class_says n1 n2 n3 itself constant array h j a g2 g3 first second third more =
-    let p = later (λ names. verification_type names itself) h n1 n3 (grown_twice n1 n2 n3 g2 g3) first more in
+    let p = later (λ names. verification_type names itself) h n1 n3 (grows_both n1 n2 n3 g2 g3) first more in
     let q = later (λ names. option_map (verification_type names) array) a n2 n3 g3 second more in
     λ i. of_class (p i) (q i) (third more i)
 

@@ -5,7 +5,7 @@ use Rattle.std.specs.List.{list_any, AllByRecursion}
 use Rattle.std.proofs.lemmas.List.{length-set, length-map}
 use Rattle.std.proofs.lemmas.Bool.{leb-true}
 use Rattle.std.proofs.lemmas.Option.{none-some, same_Some}
-use Rattle.jc_methods.specs.VerificationTypes.{VerificationType, top, int, float, double, long, null, uninit_this, object, uninit, TypeState, is_pair, slots}
+use Rattle.jc_methods.specs.VerificationTypes.{VerificationType, top, object, uninit, TypeState, is_pair, slots}
 use Rattle.jc_kinds_after.specs.declared.want.Want.TheVariants as wants
 use Rattle.jc_kinds_after.specs.Wants.{is_int, accepts, accepts_all}
 use Rattle.jc_kinds_after.specs.Step.{Gives, kind, item, StackEffect, Step, moves, loads, stores, counts, picks, makes, builds, fails, Ground, apply}
@@ -208,12 +208,12 @@ step_count g fails s t e = absurd (none-some _ e)
 
 -- ---- the slots of the stack
 
-limit : (most : ℕ) (stack x : List VerificationType) → limited most stack ≡ Some x → slots x ≤ most
+pub limit : (most : ℕ) (stack x : List VerificationType) → limited most stack ≡ Some x → slots x ≤ most
 limit most stack x e =
     let p = then_some (nat_le (slots stack) most) (Some stack) x e in
     subst (λ (l : List VerificationType). slots l ≤ most) (same_Some stack x p.1) (leb-true (slots stack) most p.0)
 
-limit_by : (most : ℕ) (forms : List StackEffect) (stack x : List VerificationType) → moved_by most forms stack ≡ Some x → slots x ≤ most
+pub limit_by : (most : ℕ) (forms : List StackEffect) (stack x : List VerificationType) → moved_by most forms stack ≡ Some x → slots x ≤ most
 limit_by most [] stack x e = absurd (none-some _ e)
 limit_by most (f ∷ forms) stack x e = by (has_form f stack) (λ r. limit_by most forms stack x r) e
   where

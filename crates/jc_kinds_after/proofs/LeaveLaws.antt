@@ -23,22 +23,20 @@ use Rattle.jc_methods.specs.DescriptorTypes.{field_type_in, method_type_in}
 use Rattle.jc_methods.specs.Flow.{is_return}
 use Rattle.jc_methods.specs.InsnUse.{is_of_two_slots, LocalsWithin}
 use Rattle.jc_methods.specs.WellMade.{IsKind, IsWellMadeOfAnySize, kind_slots, what_used}
-use Rattle.jc_methods.specs.VerificationTypes.{Names, VerificationType, top, int, float, double, long, null, uninit_this, object, uninit}
-use Rattle.jc_methods.specs.VerificationTypes.{verification_type, TypeState, type_state, slots, IsNumbered}
+use Rattle.jc_methods.specs.VerificationTypes.{Names, VerificationType, int, object, uninit, verification_type, TypeState, type_state, slots, IsNumbered}
 use Rattle.jc_bytes.proofs.EachLaws.{each_of_all, all_of_each}
 use Rattle.jc_kinds_after.specs.declared.want.Want.TheVariants as wants
-use Rattle.jc_kinds_after.specs.Step.{Step, moves, loads, stores, counts, picks, makes, builds, fails, apply}
+use Rattle.jc_kinds_after.specs.Step.{Step, moves, loads, stores, makes, apply, kind}
 use Rattle.jc_kinds_after.specs.Table.{turns}
 use Rattle.jc_kinds_after.specs.After.{field_step, method_step, member_step, interface_step, dynamic_step, computed_step, constant_step, array_of}
-use Rattle.jc_kinds_after.specs.After.{array_step, class_step, multi_step, return_op, simple_step, local_want, step_of, insn_at, ground_of}
-use Rattle.jc_kinds_after.specs.After.{returns_of, after_of}
+use Rattle.jc_kinds_after.specs.After.{array_step, class_step, multi_step, return_op, simple_step, local_want, step_of, insn_at, ground_of, returns_of, after_of}
 use Rattle.jc_kinds_after.specs.Answers.{IsStateOf, IsWhole, LeavesState, LeavesAlways}
 use Rattle.jc_kinds_after.specs.Shift.{IsPlaceless, Straddles}
-use Rattle.jc_kinds_after.specs.Step.{kind}
 use Rattle.jc_kinds_after.proofs.MovesLaws.{width_is}
 use Rattle.jc_kinds_after.proofs.AfterLaws.{can_shift, two_slots}
 use Rattle.jc_kinds_after.proofs.KeepLaws.{AllOf, step_all, step_count, step_slots}
 use Rattle.jc_kinds_after.proofs.PairLaws.{pairs_of, of_pairs, HasSecond, step_pairs}
+use Rattle.jc_kinds_after.proofs.DoesLaws.{some_head}
 
 -- ---- which steps make or store
 
@@ -229,16 +227,13 @@ kind_within : (names : Names) (k : Kind) → ((more : Names) → verification_ty
 kind_within names (kinds.Object n) stays = number_within names n (λ more. object_is _ _ (stays more))
 kind_within names _ stays = tt
 
-head_is : (x y : VerificationType) (xs ys : List VerificationType) → (x ∷ xs) ≡ (y ∷ ys) → x ≡ y
-head_is x y xs ys e = cc
-
 tail_is : (x y : VerificationType) (xs ys : List VerificationType) → (x ∷ xs) ≡ (y ∷ ys) → xs ≡ ys
 tail_is x y xs ys e = cc
 
 kinds_within : (names : Names) (ks : List Kind) → ((more : Names) → map (verification_type (names ++ more)) ks ≡ map (verification_type names) ks)
     → AllByRecursion (IsNumbered (length names)) ks
 kinds_within names [] stays = tt
-kinds_within names (k ∷ ks) stays = (kind_within names k (λ more. head_is _ _ _ _ (stays more)), kinds_within names ks (λ more. tail_is _ _ _ _ (stays more)))
+kinds_within names (k ∷ ks) stays = (kind_within names k (λ more. some_head _ _ _ _ (stays more)), kinds_within names ks (λ more. tail_is _ _ _ _ (stays more)))
 
 -- ---- the state that is left
 
@@ -260,7 +255,7 @@ no_slot : (insn : Insn) → Straddles 0 insn → ⊥
 no_slot (insns.Local op slot) h = absurd (let e = h.1 in omega (arith, e))
 no_slot _ h = h
 
-kinds_sum : (names : Names) (ks : List Kind) → slots (map (verification_type names) ks) ≡ sum_by kind_slots ks
+pub kinds_sum : (names : Names) (ks : List Kind) → slots (map (verification_type names) ks) ≡ sum_by kind_slots ks
 kinds_sum names [] = refl
 kinds_sum names (k ∷ ks) = ap₂ (λ m n. m + n) (width_is names k) (kinds_sum names ks) ∙ sym (sum_by-cons kind_slots k ks)
 

@@ -8,8 +8,7 @@ use Rattle.std.proofs.lemmas.Option.{none-some}
 use Rattle.jc_methods.specs.declared.kind.Kind.{Kind}
 use Rattle.jc_methods.specs.declared.kind.Kind.TheVariants as kinds
 use Rattle.jc_methods.specs.WellMade.{ArePaired, BeginsWithTop, kind_slots}
-use Rattle.jc_methods.specs.VerificationTypes.{Names, VerificationType, top, int, float, double, long, null, uninit_this, object, uninit}
-use Rattle.jc_methods.specs.VerificationTypes.{verification_type, TypeState, is_pair}
+use Rattle.jc_methods.specs.VerificationTypes.{Names, VerificationType, top, object, verification_type, TypeState, is_pair}
 use Rattle.jc_methods.proofs.SeenLaws.{held_top}
 use Rattle.jc_kinds_after.specs.declared.want.Want.TheVariants as wants
 use Rattle.jc_kinds_after.specs.Wants.{is_int, accepts, accepts_all}
@@ -35,7 +34,7 @@ pair_wide names kinds.Long e = refl
 pair_wide names kinds.Double e = refl
 pair_wide names _ e = absurd (omega (arith, e))
 
-suc_plus : (i : ℕ) → suc i + 1 ≡ suc (i + 1)
+pub suc_plus : (i : ℕ) → suc i + 1 ≡ suc (i + 1)
 suc_plus i = omega arith
 
 begins : (names : Names) (ks : List Kind) → BeginsWithTop ks

@@ -7,15 +7,13 @@ use Rattle.std.proofs.lemmas.Bool.{cases_lt, lt-ltb, le-ltb, cond-true, cond-fal
 use Rattle.std.specs.List.{AllByRecursion, list_any}
 use Rattle.jc_kinds_after.specs.declared.want.Want.{Want}
 use Rattle.jc_kinds_after.specs.declared.want.Want.TheVariants as wants
-use Rattle.jc_methods.specs.VerificationTypes.{VerificationType, top, int, float, double, long, null, uninit_this, object, uninit, TypeState, width}
-use Rattle.jc_methods.specs.VerificationTypes.{is_pair, slots}
+use Rattle.jc_methods.specs.VerificationTypes.{VerificationType, top, int, float, double, long, null, uninit_this, object, uninit, TypeState, width, is_pair, slots}
 use Rattle.jc_kinds_after.specs.Wants.{accepts, accepts_all}
 use Rattle.jc_kinds_after.specs.Step.{Gives, kind, item, StackEffect, moves, loads, stores, counts, picks, picked, makes, builds, fails, Ground}
 use Rattle.jc_kinds_after.specs.Step.{apply, is_array, element_of, given_of, limited, below, upper, has_form, moved, moved_by, cleared, clear_before}
-use Rattle.jc_kinds_after.specs.Step.{put_second, put_local, with_stack, last, loaded, stored, counted, is_made, without, same_new, replaced}
-use Rattle.jc_kinds_after.specs.Step.{built_as, class_built}
-use Rattle.jc_kinds_after.specs.Shift.{renamed, probes, shifted, slot_of, IsPlaceless, IsPlain, CanShift, NoPairBefore, StaysWhole, Images}
-use Rattle.jc_kinds_after.specs.Shift.{StepShifts, takes_pair}
+use Rattle.jc_kinds_after.specs.Step.{put_second, put_local, with_stack, last, loaded, stored, counted, is_made, without, same_new, replaced, built_as, class_built}
+use Rattle.jc_kinds_after.specs.Shift.{renamed, probes, shifted, slot_of, IsPlaceless, IsPlain, CanShift, NoPairBefore, StaysWhole, Images, StepShifts, takes_pair}
+use Rattle.jc_kinds_after.proofs.KeepLaws.{length_clear}
 
 module _ (f : ℕ → ℕ) where
   abbrev r : VerificationType → VerificationType
@@ -136,12 +134,12 @@ up zero k = suc k
 up (suc v) zero = zero
 up (suc v) (suc k) = suc (up v k)
 
-up-below : (v k : ℕ) → k < v → up v k ≡ k
+pub up-below : (v k : ℕ) → k < v → up v k ≡ k
 up-below zero k lt = absurd (omega arith)
 up-below (suc v) zero lt = refl
 up-below (suc v) (suc k) lt = ap suc (up-below v k (omega arith))
 
-up-above : (v k : ℕ) → v ≤ k → up v k ≡ k + 1
+pub up-above : (v k : ℕ) → v ≤ k → up v k ≡ k + 1
 up-above zero k le = omega arith
 up-above (suc v) zero le = absurd (omega arith)
 up-above (suc v) (suc k) le = let e = up-above v k (omega arith) in omega arith
@@ -157,10 +155,6 @@ up-next v k ne = ⊎_elim
     (λ lt. let a = up-below v k lt in let b = up-below v (k + 1) (omega arith) in omega arith)
     (λ le. let a = up-above v k le in let b = up-above v (k + 1) (omega arith) in omega arith)
     (cases_lt k v)
-
-length-clear : (k : ℕ) (ls : List VerificationType) → length (clear_before k ls) ≡ length ls
-length-clear zero ls = refl
-length-clear (suc k) ls = length-set ls k (cleared (get_or ls k top))
 
 module _ (e : VerificationType) where
   get_up : (v k : ℕ) (ls : List VerificationType) → v ≤ length ls → get_or (insert ls v e) (up v k) top ≡ get_or ls k top
@@ -198,7 +192,7 @@ module _ (e : VerificationType) where
 
   put_up : (v k : ℕ) (h : VerificationType) (ls : List VerificationType) → v ≤ length ls → is_pair e ≡ false → NoPairBefore v ls →
       (is_pair h ≡ true → k + 1 ≡ v → ⊥) → put_local (up v k) h (insert ls v e) ≡ insert (put_local k h ls) v e
-  put_up v k h ls le single whole ne = let n = length-clear k ls in let m = length-set (clear_before k ls) k h in
+  put_up v k h ls le single whole ne = let n = length_clear k ls in let m = length-set (clear_before k ls) k h in
       ap (λ l. put_second h (up v k) (set l (up v k) h)) (clear_up v k ls le single whole) ∙
       ap (put_second h (up v k)) (set_up v k h (clear_before k ls) (omega arith)) ∙
       second_up v k h (set (clear_before k ls) k h) (omega arith) ne

@@ -35,7 +35,7 @@ use Rattle.jc_layout.proofs.LaidCodeLaws.{begins_so, laid_is}
 abbrev call_text : ℕ → List ℕ
 call_text place = opcode.invokestatic ∷ short place
 
-call_form : form_of opcode.invokestatic ≡ forms.Member
+pub call_form : form_of opcode.invokestatic ≡ forms.Member
 unfolding form_of
 call_form = refl
 

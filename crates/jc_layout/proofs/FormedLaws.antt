@@ -15,6 +15,7 @@ use Rattle.jc_methods.specs.Insn.{IsWellFormed}
 use Rattle.jc_methods.specs.Widened.{inverted}
 use Rattle.jc_kinds_after.specs.Shift.{with_slot}
 use Rattle.jc_emit.specs.Marks.{aload, astore, invokestatic, iconst_1, bastore, push}
+use Rattle.jc_emit.proofs.ConditionalBranchLaws.{unknown_no_jump}
 
 -- ---- inverses
 
@@ -25,9 +26,6 @@ is_jump _ = false
 jump_is : (form : Form) → is_jump form ≡ true → form ≡ forms.Jump
 jump_is forms.Jump h = refl
 jump_is form h = cc
-
-unknown_no_jump : forms.Unknown ≡ forms.Jump → ⊥
-unknown_no_jump e = cc
 
 -- where the opcode is a jump's, its inverse is
 abbrev keeps_form : ℕ → Bool

@@ -31,7 +31,7 @@ use Rattle.jc_layout.specs.Merged.{with_frame, merged}
 is_below : (a b : ℕ) → a < b → nat_lt a b ≡ true
 is_below a b lt = grind (arith, nat_tests)
 
-is_not_below : (a b : ℕ) → b ≤ a → nat_lt a b ≡ false
+pub is_not_below : (a b : ℕ) → b ≤ a → nat_lt a b ≡ false
 is_not_below a b le = grind (arith, nat_tests)
 
 -- in front of all of the rest

@@ -100,7 +100,7 @@ merged_rises frames (f ∷ others) from r s apart =
 
 -- ---- in the wide code
 
-some_width : (flow : Flow) → 1 ≤ widths_by flow
+pub some_width : (flow : Flow) → 1 ≤ widths_by flow
 some_width flows.Branches = omega arith
 some_width flow = omega arith
 

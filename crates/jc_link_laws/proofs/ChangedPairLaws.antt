@@ -10,6 +10,7 @@ use Rattle.std.proofs.lemmas.Option.{slice_get_within}
 use Rattle.std.proofs.lemmas.Slice.Eq.{bytes_eq-Decides}
 use Rattle.jc_bytes.specs.ByteLists.{AreBytes}
 use Rattle.jc_bytes.proofs.BooleanLaws.{first_in, later_in}
+use Rattle.jc_bytes.proofs.ListLaws.{stands_at}
 use Rattle.jc_methods.specs.VerificationTypes.{Names, TypeStateAt, type_state_at}
 use Rattle.jc_methods.specs.ProbeMembers.{data_name, data_type, init_name, init_type}
 use Rattle.jc_methods.specs.WellMade.{what_used}
@@ -59,7 +60,7 @@ use Rattle.jc_link_laws.specs.TwinFiles.{IsWrittenTwin, NamePlaces}
 use Rattle.jc_link_laws.proofs.InitProbesLaws.{added_at, text_is}
 use Rattle.jc_link_laws.proofs.KeptStaticsLaws.{NoNewInteger, any_put, clinits_same, data_field_static, init_no_clinit, no_new_integer, statics_same}
 use Rattle.jc_link_laws.proofs.MovedTwinLaws.{AreMovedTwins, counts_same, moved_twins}
-use Rattle.jc_link_laws.proofs.TwinPairLaws.{has_neither, init_named, no_probes, none_added, stands}
+use Rattle.jc_link_laws.proofs.TwinPairLaws.{has_neither, init_named, no_probes, none_added}
 
 -- ---- bodies of a twin class
 
@@ -291,7 +292,7 @@ module _ (original written : List ℕ) (are : AreBytes original) (are_new : AreB
 
   last_body : BodyOf new_names t moved.last.method moved.last
   last_body =
-      let at = stands n.bodies moved.last (init_named n.bodies moved.last last_first).0 in
+      let at = stands_at n.bodies moved.last (init_named n.bodies moved.last last_first).0 in
       q_is.bodies.are.each at.0 moved.last at.1
 
   named : string_of t.pool added_is.places.name ≡ Some n.name
@@ -331,7 +332,7 @@ module _ (original written : List ℕ) (are : AreBytes original) (are_new : AreB
     none_added = has_neither names c l p_is not_added;
     no_probes = no_probes names c l p_is not_added;
     none_straddles = λ b there.
-        let at = stands l.bodies b there in
+        let at = stands_at l.bodies b there in
         none_straddles c class room.0 names b.method b (p_is.bodies.are.each at.0 b at.1);
     id = id;
     added = moved.last;

@@ -18,6 +18,7 @@ use Rattle.jc_pool.specs.Lookup.{string_of}
 use Rattle.jc_pool.specs.Pool.{PoolValue}
 use Rattle.jc_emit.specs.Added.{init_code}
 use Rattle.jc_instrument.proofs.DecidedLaws.{OrNot, text_or_not}
+use Rattle.jc_instrument.proofs.RoomDecidedLaws.{both_or_not}
 use Rattle.jc_link_programs.specs.ProbeInits.{places_of, asked_in, NamesMembers, AsksFor, AreProbes, init_of}
 use Rattle.jc_link_programs.specs.declared.probe_inits.Asked.{Asked}
 use Rattle.jc_link_programs.proofs.ProbeInitLaws.{asks_meant, Meant, meant_asks, none_asked}
@@ -36,11 +37,6 @@ decided false A d = inr (λ a. by (d.1 a))
 code_or_not : (a b : List Insn) → OrNot (a ≡ b)
 code_or_not a b = let t = code_decided a b in decided t.0 (a ≡ b) t.1
 
-both : (A B : Type 0) → OrNot A → OrNot B → OrNot (A × B)
-both A B (inl a) (inl b) = inl (a, b)
-both A B (inl a) (inr never) = inr (λ p. never p.1)
-both A B (inr never) b = inr (λ p. never p.0)
-
 -- ---- what stands at a place
 
 field_texts : (c n d x y z : List ℕ) → Some (whats.Field c n d) ≡ Some (whats.Field x y z) → (c ≡ x) × ((n ≡ y) × (d ≡ z))
@@ -50,7 +46,7 @@ method_texts : (c n d x y z : List ℕ) → Some (whats.Method c n d) ≡ Some (
 method_texts c n d x y z e = (cc, (cc, cc))
 
 field_or_not : (o : Option What) (x y z : List ℕ) → OrNot (o ≡ Some (whats.Field x y z))
-field_or_not (Some (whats.Field c n d)) x y z = by (both (c ≡ x) ((n ≡ y) × (d ≡ z)) (texts_or_not c x) (both (n ≡ y) (d ≡ z) (texts_or_not n y) (texts_or_not d z)))
+field_or_not (Some (whats.Field c n d)) x y z = by (both_or_not (c ≡ x) ((n ≡ y) × (d ≡ z)) (texts_or_not c x) (both_or_not (n ≡ y) (d ≡ z) (texts_or_not n y) (texts_or_not d z)))
   where
     by : OrNot ((c ≡ x) × ((n ≡ y) × (d ≡ z))) → OrNot (Some (whats.Field c n d) ≡ Some (whats.Field x y z))
     by (inl same) = inl (λ i. Some (whats.Field (same.0 i) (same.1.0 i) (same.1.1 i)))
@@ -69,7 +65,7 @@ field_or_not (Some whats.Handle) x y z = inr (λ e. cc)
 field_or_not None x y z = inr (λ e. cc)
 
 method_or_not : (o : Option What) (x y z : List ℕ) → OrNot (o ≡ Some (whats.Method x y z))
-method_or_not (Some (whats.Method c n d)) x y z = by (both (c ≡ x) ((n ≡ y) × (d ≡ z)) (texts_or_not c x) (both (n ≡ y) (d ≡ z) (texts_or_not n y) (texts_or_not d z)))
+method_or_not (Some (whats.Method c n d)) x y z = by (both_or_not (c ≡ x) ((n ≡ y) × (d ≡ z)) (texts_or_not c x) (both_or_not (n ≡ y) (d ≡ z) (texts_or_not n y) (texts_or_not d z)))
   where
     by : OrNot ((c ≡ x) × ((n ≡ y) × (d ≡ z))) → OrNot (Some (whats.Method c n d) ≡ Some (whats.Method x y z))
     by (inl same) = inl (λ i. Some (whats.Method (same.0 i) (same.1.0 i) (same.1.1 i)))

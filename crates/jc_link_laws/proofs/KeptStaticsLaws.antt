@@ -155,7 +155,7 @@ module _ (old new : PoolValue) (more : Extends old new) (fresh : NoNewInteger ol
     where
       by : (t : Bool) → map (λ (x : Attribute). x.body) (filter (has_name new name) attributes) ≡ map (λ (x : Attribute). x.body) (filter (has_name old name) attributes)
           → map (λ (x : Attribute). x.body) (cond t (a ∷ filter (has_name new name) attributes) (filter (has_name new name) attributes))
-              ≡ map (λ (x : Attribute). x.body) (cond t (a ∷ filter (has_name old name) attributes) (filter (has_name old name) attributes))
+          ≡ map (λ (x : Attribute). x.body) (cond t (a ∷ filter (has_name old name) attributes) (filter (has_name old name) attributes))
       by true e = ap (λ (l : List (List ℕ)). a.body ∷ l) e
       by false e = e
 

@@ -1,7 +1,7 @@
 -- A twin of a body, where the two bodies and the states are read under other lists of names.
 use Rattle.std.proofs.Common.{◌≡◌, ◌⊎◌, inl, inr, ℕ, zero, suc, ◌+◌, ◌-◌, ◌<◌, ◌≤◌, Bool, List, [], ◌∷◌, length, map, take, get_or, Option, Some, None, Contains, refl, sym, ◌∙◌, ap, ap₂, subst, arith}
 use Rattle.std.specs.Prelude.{slice_get}
-use Rattle.std.specs.List.{count_by, sum_by, take-map}
+use Rattle.std.specs.List.{sum_by, take-map}
 use Rattle.std.proofs.lemmas.Bool.{cases_lt}
 use Rattle.std.proofs.lemmas.List.{get_or_past, length-map}
 use Rattle.std.proofs.lemmas.List.Sums.{sum_by-cons}
@@ -14,7 +14,6 @@ use Rattle.jc_methods.specs.declared.insn.Insn.{Insn}
 use Rattle.jc_methods.specs.declared.kind.State.{State}
 use Rattle.jc_kinds_after.specs.Shift.{shifted}
 use Rattle.jc_kinds.specs.Answers.{AreStates}
-use Rattle.jc_plan.specs.Edges.{branches}
 use Rattle.jc_plan.specs.Probed.{probe_of, probe_count}
 use Rattle.jc_emit.specs.Marks.{image_place, land_place, lead_place}
 use Rattle.jc_emit.specs.Sizes.{insn_at, arms_at, late_probe}
@@ -22,22 +21,13 @@ use Rattle.jc_emit.specs.Twin.{Twin, AreFramesOf}
 use Rattle.jc_emit.specs.TwinCode.{arm_place, to_of}
 use Rattle.jc_emit.specs.TwinFrames.{no_state, state_at, operands_of, left_by, state_behind, IsOldFrame, IsInverseFrame, IsArmFrame, IsWideFrame, IsFrame}
 use Rattle.jc_emit.specs.TwinProgram.{IsSameBody, AreSameBodies, HasTwinBody, AreTwinBodies}
-use Rattle.jc_instrument.specs.SameAnalysis.{without_frames}
-use Rattle.jc_instrument.proofs.SameAnalysisLaws.{same_way}
+use Rattle.jc_instrument.proofs.SameAnalysisLaws.{same_count}
 use Rattle.jc_instrument.proofs.SameItemsLaws.{same_probe}
-use Rattle.jc_instrument_reread.proofs.SameBodyLaws.{same_state}
+use Rattle.jc_instrument.proofs.RoomCauseLaws.{no_frames}
+use Rattle.jc_instrument_reread.proofs.SameBodyLaws.{same_state, same_head, same_tail}
 use Rattle.jc_link_laws.proofs.MovedCodeLaws.{late_same, land_place_same, lead_place_same, code_there, tables_there}
 
 -- ---- a frame of the one list has one of the other
-
-same_head : {s t : TypeStateAt} {ss ts : List TypeStateAt} → s ∷ ss ≡ t ∷ ts → s ≡ t
-same_head e = cc
-
-same_tail : {s t : TypeStateAt} {ss ts : List TypeStateAt} → s ∷ ss ≡ t ∷ ts → ss ≡ ts
-same_tail e = cc
-
-no_frame : {s : TypeStateAt} {ss : List TypeStateAt} → s ∷ ss ≡ [] → ⊥
-no_frame e = cc
 
 pub frame_there : (names others : Names) (fs gs : List FrameAt) → map (type_state_at others) gs ≡ map (type_state_at names) fs → (f : FrameAt) → Contains fs f
     → (g : FrameAt) × Contains gs g × (g.at ≡ f.at) × (type_state others g.state ≡ type_state names f.state)
@@ -46,7 +36,7 @@ frame_there names others fs gs same f listed = by fs gs same listed.0 listed.1 l
     by : (fs gs : List FrameAt) → map (type_state_at others) gs ≡ map (type_state_at names) fs → (k : ℕ) → k < length fs → get_or fs k f ≡ f
         → (g : FrameAt) × Contains gs g × (g.at ≡ f.at) × (type_state others g.state ≡ type_state names f.state)
     by [] gs same k less is = absurd (omega (arith, less))
-    by (x ∷ fs) [] same k less is = absurd (no_frame (sym same))
+    by (x ∷ fs) [] same k less is = absurd (no_frames (sym same))
     by (x ∷ fs) (y ∷ gs) same zero less is = (
       y,
       (0, omega arith, refl),
@@ -60,8 +50,8 @@ frame_there names others fs gs same f listed = by fs gs same listed.0 listed.1 l
 
 rise_same : (names others : Names) (first : ℕ) (fs gs : List FrameAt) → map (type_state_at others) gs ≡ map (type_state_at names) fs → RiseFrom first fs → RiseFrom first gs
 rise_same names others first [] [] same rise = tt
-rise_same names others first [] (y ∷ gs) same rise = absurd (no_frame same)
-rise_same names others first (x ∷ fs) [] same rise = absurd (no_frame (sym same))
+rise_same names others first [] (y ∷ gs) same rise = absurd (no_frames same)
+rise_same names others first (x ∷ fs) [] same rise = absurd (no_frames (sym same))
 rise_same names others first (x ∷ fs) (y ∷ gs) same rise =
     let at : y.at ≡ x.at = ap (λ (s : TypeStateAt). s.at) (same_head same) in
     let low = rise.0 in (
@@ -248,9 +238,6 @@ module _ (names others new_names new_others : Names) (b : Body) (gs : List Frame
     max_locals = t.max_locals;
   }
 
-bare_count : (b : Body) → probe_count b ≡ probe_count (without_frames b)
-bare_count b = λ k. count_by (λ x. same_way b x.way k) (branches b.code)
-
 -- The body has states under the one list of names, and the twin of it those under the other.
 module _ (names others new_names new_others : Names) where
   abbrev HasStates : Body → Type 0
@@ -269,7 +256,7 @@ module _ (names others new_names new_others : Names) where
 
   -- a body has as many probes, whatever its frames are
   count_same : (b d : Body) → IsSameBody names others b d → probe_count d ≡ probe_count b
-  count_same b d same = ap probe_count same.others ∙ bare_count (record b { frames = d.frames }) ∙ sym (bare_count b)
+  count_same b d same = ap probe_count same.others ∙ same_count (record b { frames = d.frames }) ∙ sym (same_count b)
 
   -- the twins of bodies, in order, and the body behind them
   pub record AreMovedTwins (first : ℕ) (ds zs : List Body) (added : Body) : Type 0 where

@@ -3,6 +3,7 @@ use Rattle.std.proofs.Common.{◌≡◌, ◌⊎◌, inl, inr, ℕ, suc, List, []
 use Rattle.std.specs.List.{AllByRecursion}
 use Rattle.jc_bytes.specs.ByteLists.{AreBytes}
 use Rattle.jc_bytes.proofs.BooleanLaws.{which_in, none_in}
+use Rattle.jc_bytes.proofs.ListLaws.{stands_at}
 use Rattle.jc_methods.specs.VerificationTypes.{Names}
 use Rattle.jc_methods.specs.WellMade.{IsWellMade}
 use Rattle.jc_methods.specs.declared.body.Body.{Body}
@@ -19,14 +20,14 @@ use Rattle.jc_link_programs.specs.Linking.{IsLinkedClass, AreLinkedClasses, IsPr
 use Rattle.jc_link_programs.specs.Pairs.{HaveOneName, NoPair}
 use Rattle.jc_link_laws.specs.TwinFiles.{IsWrittenOf, AreWrittenOf, IsShortFile, TwinFiles}
 use Rattle.jc_link_laws.proofs.ChangedPairLaws.{changed_pair}
-use Rattle.jc_link_laws.proofs.TwinPairLaws.{stands, unchanged_pair}
+use Rattle.jc_link_laws.proofs.TwinPairLaws.{unchanged_pair}
 
 -- ---- the classes of the one program
 
 module _ (names : Names) (bytes : List ℕ) (l : Linked) (p : IsLinkedClass names bytes l) where
   owned_body : (b : Body) → Contains l.bodies b → b.owner ≡ l.name
   owned_body b there =
-      let at = stands l.bodies b there in
+      let at = stands_at l.bodies b there in
       let body = p.is.bodies.are.each at.0 b at.1 in
       some_is (sym body.is.parts.owner ∙ p.is.name)
     where
@@ -35,7 +36,7 @@ module _ (names : Names) (bytes : List ℕ) (l : Linked) (p : IsLinkedClass name
 
   checked_body : IsShortFile bytes → (b : Body) → Contains l.bodies b → IsWellMade b × Checked names b
   checked_body short b there =
-      let at = stands l.bodies b there in
+      let at = stands_at l.bodies b there in
       let class = class_holds bytes p.file short.0 p.text in
       let size = class_size bytes p.file p.text in
       let few = short.1 in (
@@ -69,7 +70,7 @@ differ : (classes : List Linked) → NoPair (HaveOneName classes) → DifferInNa
 differ [] none = tt
 differ (c ∷ classes) none = (
   λ d there same.
-      let at = stands classes d there in
+      let at = stands_at classes d there in
       none 0 (suc at.0) (omega arith) (record {
         a = c;
         b = d;

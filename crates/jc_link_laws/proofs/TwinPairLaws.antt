@@ -2,9 +2,11 @@
 use Rattle.std.proofs.Common.{◌≡◌, ◌⊎◌, inl, inr, ℕ, Bool, true, false, cond, ◌&&◌, List, [], ◌∷◌, ◌++◌, Contains, Option, Some, None, bytes_eq, if◌then◌else◌, refl, ◌∙◌, ap, subst}
 use Rattle.std.specs.Prelude.{slice_get}
 use Rattle.std.proofs.lemmas.List.Concat.{flat_map-cons}
-use Rattle.std.proofs.lemmas.Option.{none-some, slice_get_within, slice_get-get_or, get_or_from_slice_get}
+use Rattle.std.proofs.lemmas.Option.{none-some, slice_get_within, get_or_from_slice_get}
 use Rattle.std.proofs.lemmas.Slice.Eq.{bytes_eq-Decides}
 use Rattle.jc_bytes.proofs.BooleanLaws.{first_in, later_in, which_in, none_in}
+use Rattle.jc_bytes.proofs.OptionLaws.{some_is}
+use Rattle.jc_bytes.proofs.ListLaws.{stands_at}
 use Rattle.jc_methods.specs.VerificationTypes.{Names}
 use Rattle.jc_methods.specs.EntryState.{is_static}
 use Rattle.jc_methods.specs.ProbeMembers.{init_name, init_type}
@@ -26,13 +28,6 @@ use Rattle.jc_link_programs.specs.ProbeInits.{AreProbes, init_of, is_init}
 use Rattle.jc_link_programs.specs.Statics.{static_of, static_with, statics_among}
 use Rattle.jc_link_programs.proofs.SameLinkedLaws.{same_linked}
 use Rattle.jc_link_laws.proofs.KeptStaticsLaws.{static_name}
-
-some_is : {X : Type 0} {x y : X} → Some x ≡ Some y → x ≡ y
-some_is e = cc
-
--- an item stands at its place
-pub stands : {X : Type 0} (xs : List X) (x : X) → Contains xs x → (k : ℕ) × (slice_get xs k ≡ Some x)
-stands xs x c = (c.0, slice_get-get_or xs c.0 x c.1 ∙ ap Some c.2)
 
 pub listed : {X : Type 0} (xs : List X) (k : ℕ) (x : X) → slice_get xs k ≡ Some x → Contains xs x
 listed xs k x at = (k, slice_get_within xs k x at, get_or_from_slice_get xs k x x at)
@@ -58,7 +53,7 @@ none_added id c none added = none.1.0 _ (record { is = added; refusal = refl })
 module _ (names : Names) (c : ClassFile) (l : Linked) (p : IsLinkedOf names c l) (none : HasAdded c → ⊥) where
   body_name : (b : Body) → Contains l.bodies b → IsAddedName b.name → ⊥
   body_name b there added =
-      let at = stands l.bodies b there in
+      let at = stands_at l.bodies b there in
       let body = p.bodies.are.each at.0 b at.1 in
       let name = body.is.parts.name in
       none (inr (inl (body.method, listed c.methods b.method body.method body.at, by body.method name added)))

@@ -1,4 +1,4 @@
-mod AnswerLaws
+pub mod AnswerLaws
 pub mod FirstNumberLaws
 pub mod LinkingLaws
 pub mod OneRefusalLaws

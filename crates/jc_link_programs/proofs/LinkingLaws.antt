@@ -1,11 +1,10 @@
 -- Linked classes under more names, and one class more.
-use Rattle.std.proofs.Common.{◌≡◌, ℕ, zero, suc, ◌+◌, ◌<◌, ◌≤◌, ◌⊎◌, inl, inr, List, [], ◌∷◌, ◌++◌, length, take, get_or, Some, None, refl, sym, ◌∙◌, ap, subst, arith}
+use Rattle.std.proofs.Common.{◌≡◌, ℕ, zero, suc, ◌+◌, ◌<◌, ◌≤◌, inr, List, [], ◌∷◌, ◌++◌, length, take, get_or, Some, None, refl, sym, ◌∙◌, ap, subst, arith}
 use Rattle.std.specs.Prelude.{All, slice_get}
 use Rattle.std.proofs.lemmas.List.{take_more}
-use Rattle.std.proofs.lemmas.Option.{slice_get_within, slice_get-get_or, get_or_from_slice_get}
-use Rattle.jc_bytes.proofs.ListLaws.{below_or_last}
+use Rattle.std.proofs.lemmas.Option.{slice_get_within, get_or_from_slice_get}
 use Rattle.jc_bytes.specs.declared.refusal.Refusal.{Refusal}
-use Rattle.jc_methods.specs.VerificationTypes.{Names, Grows, AreNumberedFrames}
+use Rattle.jc_methods.specs.VerificationTypes.{Names, Grows}
 use Rattle.jc_methods.specs.WellMade.{IsWellMade}
 use Rattle.jc_methods.specs.declared.body.Body.{Body}
 use Rattle.jc_methods.proofs.NumberedLaws.{grown_count, frames_numbered}
@@ -13,14 +12,13 @@ use Rattle.jc_programs.specs.declared.program.Linked.{Linked}
 use Rattle.jc_pool.specs.Lookup.{class_name_of}
 use Rattle.jc_class.specs.Writable.{IsClassFile}
 use Rattle.jc_class.specs.declared.class_file.ClassFile.{ClassFile}
-use Rattle.jc_kinds.specs.Checked.{Checked}
-use Rattle.jc_instrument_reread.proofs.SameBodyLaws.{grown_same, same_check}
 use Rattle.jc_instrument.specs.Causes.{IsFirstCause, NoCause}
 use Rattle.jc_instrument.specs.Reasons.{IsOutside, code_causes}
 use Rattle.jc_instrument.specs.Steps.{AreCheckedUnder, HasStates}
 use Rattle.jc_instrument.proofs.KeptStatesLaws.{states_grown}
 use Rattle.jc_instrument.proofs.ListedLaws.{few_bodies, grown_bodies}
 use Rattle.jc_instrument.proofs.WholeLaws.{bodies_numbered, no_code_cause}
+use Rattle.jc_instrument.proofs.PlannedLaws.{check_grown}
 use Rattle.jc_machine_model.specs.Programs.{IsStatic, IsProgramBody, IsLinked}
 use Rattle.jc_link_programs.specs.Linking.{link_causes, LinkReason, IsLinkedOf, IsLinkedClass, AreLinkedClasses, IsFirstRefused}
 use Rattle.jc_link_programs.specs.ProbeInits.{AreProbes}
@@ -29,13 +27,10 @@ use Rattle.jc_link_programs.proofs.SingleLaws.{all_put}
 
 -- ---- more names
 
-checked_more : (old new : Names) (b : Body) → Grows old new → AreNumberedFrames (length old) b.frames → Checked old b → Checked new b
-checked_more old new b grows numbered checked = same_check old new b b (grown_same old new b grows numbered) checked
-
 pub under_more : (old new : Names) (c : ClassFile) (bodies : List Body) → Grows old new → AreCheckedUnder old c bodies → AreCheckedUnder new c bodies
 under_more old new c bodies grows h = record {
   are = grown_bodies old new c (length c.methods) bodies grows h.are;
-  checked = λ k d less. checked_more old new (get_or bodies k d) grows (bodies_numbered old c bodies h.are k d less) (h.checked k d less);
+  checked = λ k d less. check_grown old new (get_or bodies k d) grows (bodies_numbered old c bodies h.are k d less) (h.checked k d less);
 }
 
 states_more : (old new : Names) (c : ClassFile) (bodies : List Body) → Grows old new → AreCheckedUnder old c bodies → All (HasStates old) bodies → All (HasStates new) bodies
@@ -67,7 +62,7 @@ all_more old new (bytes ∷ files) (c ∷ classes) grows h = (linked_more old ne
 body_more : (old new : Names) (b : Body) → Grows old new → IsProgramBody old b → IsProgramBody new b
 body_more old new b grows h = record {
   well_made = h.well_made;
-  checked = checked_more old new b grows h.numbered h.checked;
+  checked = check_grown old new b grows h.numbered h.checked;
   numbered = frames_numbered _ _ b.frames (grown_count old new grows) h.numbered;
 }
 

@@ -1,24 +1,19 @@
 -- Files have a program or a refusal, and not both, and one refusal at most.
-use Rattle.std.proofs.Common.{◌≡◌, ◌⊎◌, inl, inr, ℕ, zero, suc, ◌<◌, List, [], ◌∷◌, Option, Some, None, slice_get, refl, sym, ◌∙◌, ap, ap₂, subst}
+use Rattle.std.proofs.Common.{◌≡◌, ◌⊎◌, inl, inr, ℕ, zero, suc, ◌<◌, List, [], ◌∷◌, Option, Some, slice_get, refl, sym, ◌∙◌, ap, ap₂, subst}
 use Rattle.std.specs.Option.{option_map}
 use Rattle.std.proofs.lemmas.Bool.{cases_order}
 use Rattle.jc_bytes.specs.declared.refusal.Refusal.{Refusal}
-use Rattle.jc_bytes.specs.declared.refusal.RefusalKind.{RefusalKind}
 use Rattle.jc_bytes.specs.declared.refusal.RefusalKind.TheVariants as kinds
+use Rattle.jc_bytes.proofs.OptionLaws.{none_some, some_is}
 use Rattle.jc_methods.specs.VerificationTypes.{Names}
 use Rattle.jc_programs.specs.declared.program.Linked.{Linked}
 use Rattle.jc_programs.specs.declared.program.ProbeInit.{ProbeInit}
 use Rattle.jc_programs.specs.declared.program.Program.{Program}
 use Rattle.jc_class.specs.declared.class_file.ClassFile.{ClassFile}
-use Rattle.jc_body.proofs.AnswerLaws.{one_fault}
 use Rattle.jc_kinds.specs.Checked.{FirstMissing, FirstClash}
-use Rattle.jc_kinds.proofs.CheckLaws.{one_missing, one_clash}
-use Rattle.jc_instrument_reread.proofs.SameBodyLaws.{same_missing, same_clash}
-use Rattle.jc_instrument.specs.Causes.{of_method}
 use Rattle.jc_instrument.specs.Reasons.{IsFaulty, OfBody}
 use Rattle.jc_instrument.proofs.CauseLaws.{AreSingle, one_method}
-use Rattle.jc_instrument.proofs.OneBodyLaws.{same_body}
-use Rattle.jc_instrument.proofs.OneReasonLaws.{none_or_some, one_reason_by}
+use Rattle.jc_instrument.proofs.OneReasonLaws.{none_or_some, one_reason_by, one_lack, one_of_clashes, one_faulty}
 use Rattle.jc_link_programs.specs.Linking.{link_causes, LinkReason, AreLinkedClasses, IsProgramOf, IsFirstRefused, IsLinkRefusal, refused, one_name, one_id}
 use Rattle.jc_link_programs.specs.Pairs.{HaveOne, name_of, id_of, HaveOneName, HaveOneId, NoPair, IsFirstPair}
 use Rattle.jc_link_programs.specs.SameProgram.{AreSameClasses, IsSameProgram}
@@ -27,27 +22,7 @@ use Rattle.jc_link_programs.specs.declared.link_refusal.LinkRefusal.TheVariants 
 use Rattle.jc_link_programs.proofs.LinkingLaws.{none_refused}
 use Rattle.jc_link_programs.proofs.SameLinkedLaws.{same_classes}
 
-some_is : {X : Type 0} {x y : X} → Some x ≡ Some y → x ≡ y
-some_is e = cc
-
-none_some : {X : Type 0} {x : X} → None ≡ Some x → ⊥
-none_some e = cc
-
-some_none : {X : Type 0} {x : X} → Some x ≡ None → ⊥
-some_none e = cc
-
 -- ---- one reason of a file
-
-one_faulty : (c : ClassFile) (kind : RefusalKind) (number p q : ℕ) → IsFaulty c kind number p → IsFaulty c kind number q → p ≡ q
-one_faulty c kind number p q a b = ap (λ (r : Refusal). r.place) (one_fault c number (of_method kind number p) (of_method kind number q) a b)
-
-one_lack : (c : ClassFile) (number p q : ℕ) → OfBody c (λ _ b place. FirstMissing b place) number p → OfBody c (λ _ b place. FirstMissing b place) number q → p ≡ q
-one_lack c number p q a b =
-    one_missing b.body p q (same_missing a.names b.names a.body b.body (same_body a.names b.names c number a.body b.body a.is b.is) p a.holds) b.holds
-
-one_of_clashes : (c : ClassFile) (number p q : ℕ) → OfBody c FirstClash number p → OfBody c FirstClash number q → p ≡ q
-one_of_clashes c number p q a b =
-    one_clash b.names b.body p q (same_clash a.names b.names a.body b.body (same_body a.names b.names c number a.body b.body a.is b.is) p a.holds) b.holds
 
 link_single : (c : ClassFile) → AreSingle (link_causes c)
 link_single c = (

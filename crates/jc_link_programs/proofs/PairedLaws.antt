@@ -1,14 +1,9 @@
 -- Bodies of one class that stand in the order of their methods, in two lists.
-use Rattle.std.proofs.Common.{◌≡◌, ℕ, zero, suc, ◌<◌, ◌≤◌, List, [], ◌∷◌, Some, None, slice_get, refl, sym, ap, subst, arith}
+use Rattle.std.proofs.Common.{◌≡◌, ℕ, zero, suc, ◌<◌, ◌≤◌, List, [], ◌∷◌, Some, slice_get, refl, sym, ap, subst, arith}
+use Rattle.jc_bytes.proofs.OptionLaws.{none_some, some_is}
 use Rattle.jc_methods.specs.VerificationTypes.{Names}
 use Rattle.jc_methods.specs.declared.body.Body.{Body}
 use Rattle.jc_emit.specs.TwinProgram.{IsSameBody, AreSameBodies}
-
-none_some : {X : Type 0} {x : X} → None ≡ Some x → ⊥
-none_some e = cc
-
-some_is : {X : Type 0} {x y : X} → Some x ≡ Some y → x ≡ y
-some_is e = cc
 
 -- the bodies stand in the order of their methods
 abbrev pub AreRising : List Body → Type 0

@@ -2,17 +2,12 @@
 use Rattle.std.proofs.Common.{◌≡◌, ◌⊎◌, inl, inr, ⊎_elim, ℕ, zero, suc, ◌+◌, ◌<◌, ◌≤◌, Bool, true, false, cond, List, [], ◌∷◌, ◌++◌, length, slice_get, nat_eq, bytes_eq, Option, Some, None, refl, sym, ap, ◌∙◌, subst, arith}
 use Rattle.std.specs.List.{list_any, IsDistinct}
 use Rattle.std.proofs.lemmas.Bool.{eqb-true, eq-eqb, both_ways}
-use Rattle.std.proofs.lemmas.Option.{slice_get_within}
+use Rattle.std.proofs.lemmas.Option.{slice_get_within, same_Some}
 use Rattle.std.proofs.lemmas.Slice.Eq.{bytes_eq-Decides}
 use Rattle.jc_bytes.specs.Names.{with_name}
 use Rattle.jc_bytes.proofs.ListLaws.{all_at, put_stays, put_last, put_cases, below_or_last}
+use Rattle.jc_bytes.proofs.OptionLaws.{none_some}
 use Rattle.jc_link_programs.specs.Pairs.{HaveOne, NoPair, IsFirstPair}
-
-some_is : {X : Type 0} (x y : X) → Some x ≡ Some y → x ≡ y
-some_is x y e = cc
-
-none_some : {X : Type 0} {x : X} → None ≡ Some x → ⊥
-none_some e = cc
 
 module _ {X K : Type 0} (key : X → Option K) (items : List X) where
   -- Of the items in front of a place: each key is known at one of them, and each that is known at a place stands there.
@@ -36,8 +31,8 @@ module _ {X K : Type 0} (key : X → Option K) (items : List X) where
         there = record { a = f.1.0; b = x; shared = k; first_is = f.1.1; second_is = here; first_key = f.1.2; second_key = has };
         least_second = no_pair_before At count h;
         least_first = λ a less same. (
-            let y = some_is same.b x (sym same.second_is ∙ here) in
-            let j = some_is same.shared k (sym same.second_key ∙ ap key y ∙ has) in
+            let y = same_Some same.b x (sym same.second_is ∙ here) in
+            let j = same_Some same.shared k (sym same.second_key ∙ ap key y ∙ has) in
             let before = f.0 in
             let e = h.one k a first (subst (λ q. At q a) j (h.all a same.a same.shared (omega (arith, less, before)) same.first_is same.first_key)) at in
             omega (arith, e, less));
@@ -54,7 +49,7 @@ module _ {X K : Type 0} (key : X → Option K) (items : List X) where
       by : (i : ℕ) (y : X) (k : K) → slice_get items i ≡ Some y → key y ≡ Some k → (i < count) ⊎ (i ≡ count) → At k i
       by i y k there has (inl less) = h.all i y k less there has
       by i y k there has (inr same) =
-          let e = some_is y x (sym there ∙ ap (λ n. slice_get items n) same ∙ here) in
+          let e = same_Some y x (sym there ∙ ap (λ n. slice_get items n) same ∙ here) in
           absurd (none_some (sym none ∙ ap key (sym e) ∙ has))
 
   -- the item has a key that isn't known, and it becomes known there
@@ -74,8 +69,8 @@ module _ {X K : Type 0} (key : X → Option K) (items : List X) where
       all_by : (i : ℕ) (y : X) (q : K) → slice_get items i ≡ Some y → key y ≡ Some q → (i < count) ⊎ (i ≡ count) → New q i
       all_by i y q there own (inl less) = keeps q i (h.all i y q less there own)
       all_by i y q there own (inr same) =
-          let e = some_is y x (sym there ∙ ap (λ n. slice_get items n) same ∙ here) in
-          let j = some_is q k (sym own ∙ ap key e ∙ has) in
+          let e = same_Some y x (sym there ∙ ap (λ n. slice_get items n) same ∙ here) in
+          let j = same_Some q k (sym own ∙ ap key e ∙ has) in
           subst (λ n. New q n) (sym same) (subst (λ p. New p count) (sym j) gains)
 
       one_by : (q : K) (i j : ℕ) → At q i ⊎ ((q ≡ k) × (i ≡ count)) → At q j ⊎ ((q ≡ k) × (j ≡ count)) → i ≡ j
@@ -93,11 +88,11 @@ distinct_one : (xs : List (List ℕ)) (i j : ℕ) (x : List ℕ) → IsDistinct 
 unfolding IsDistinct
 distinct_one [] i j x d e f = absurd (none_some e)
 distinct_one (y ∷ xs) zero zero x d e f = refl
-distinct_one (y ∷ xs) zero (suc j) x d e f = absurd (unlike x y (some_is y x e) (all_at (λ z. bytes_eq y z ≡ false) xs j x d.0 f))
+distinct_one (y ∷ xs) zero (suc j) x d e f = absurd (unlike x y (same_Some y x e) (all_at (λ z. bytes_eq y z ≡ false) xs j x d.0 f))
   where
     unlike : (x y : List ℕ) → y ≡ x → bytes_eq y x ≡ false → ⊥
     unlike x y same h = both_ways (bytes_eq y x) h ((bytes_eq-Decides y x).1 same)
-distinct_one (y ∷ xs) (suc i) zero x d e f = absurd (unlike x y (some_is y x f) (all_at (λ z. bytes_eq y z ≡ false) xs i x d.0 e))
+distinct_one (y ∷ xs) (suc i) zero x d e f = absurd (unlike x y (same_Some y x f) (all_at (λ z. bytes_eq y z ≡ false) xs i x d.0 e))
   where
     unlike : (x y : List ℕ) → y ≡ x → bytes_eq y x ≡ false → ⊥
     unlike x y same h = both_ways (bytes_eq y x) h ((bytes_eq-Decides y x).1 same)
@@ -172,5 +167,5 @@ owned_more key items f g count x id h here has none updates =
     keeps q i at false e = at
 
     only : (q i : ℕ) (t : Bool) → nat_eq id q ≡ t → cond t (Some count) (f q) ≡ Some i → (f q ≡ Some i) ⊎ ((q ≡ id) × (i ≡ count))
-    only q i true e at = inr (sym (eqb-true id q e), sym (some_is count i at))
+    only q i true e at = inr (sym (eqb-true id q e), sym (same_Some count i at))
     only q i false e at = inl at

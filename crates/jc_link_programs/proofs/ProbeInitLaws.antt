@@ -5,6 +5,8 @@ use Rattle.std.specs.Bool.{Decides}
 use Rattle.std.specs.Cmp.Lexicographic.{pointwise, pointwise_decides}
 use Rattle.std.specs.Int.{w64, cast_signed, cast_unsigned}
 use Rattle.std.proofs.lemmas.Int.{of_z-to_z}
+use Rattle.std.proofs.lemmas.Option.{same_Some}
+use Rattle.jc_bytes.proofs.OptionLaws.{none_some}
 use Rattle.jc_methods.specs.declared.insn.Insn.{Insn}
 use Rattle.jc_methods.specs.declared.insn.Insn.TheVariants as insns
 use Rattle.jc_methods.specs.WellMade.{what_used}
@@ -15,12 +17,6 @@ use Rattle.jc_emit.specs.Added.{InitPlaces, init_code}
 use Rattle.jc_emit.specs.Marks.{push}
 use Rattle.jc_link_programs.specs.declared.probe_inits.Asked.{Asked}
 use Rattle.jc_link_programs.specs.ProbeInits.{places_of, pushed, asked_by, asked_in, NamesMembers, CodeAsks}
-
-some_is : {X : Type 0} (x y : X) → Some x ≡ Some y → x ≡ y
-some_is x y e = cc
-
-none_some : {X : Type 0} {x : X} → None ≡ Some x → ⊥
-none_some e = cc
 
 -- two lists of instructions, where a test of two instructions decides equality
 pub same_code : {E : Insn → Insn → Bool} (a b : List Insn) (r : Bool) → r ≡ pointwise E a b → ((x y : Insn) → Decides (E x y) (x ≡ y)) → Decides r (a ≡ b)
@@ -49,7 +45,7 @@ asked_again p count = ap (λ o. asked_by (Some p.field) (Some p.id) (Some p.name
 pub same_name_place : (p q : InitPlaces) (m n : ℕ) → init_code p m ≡ init_code q n → p.name ≡ q.name
 unfolding asked_of
 same_name_place p q m n same =
-    ap (λ (a : Asked). a.name) (some_is (asked_of p m) (asked_of q n) (sym (asked_again p m) ∙ ap asked_in same ∙ asked_again q n))
+    ap (λ (a : Asked). a.name) (same_Some (asked_of p m) (asked_of q n) (sym (asked_again p m) ∙ ap asked_in same ∙ asked_again q n))
 
 -- the code asks only for what stands there
 asked_there : (class : List ℕ) (b : Body) (init : ProbeInit) (text : ℕ) (c : CodeAsks class b init text) → asked_in b.code ≡ Some (asked_of c.places init.count)
@@ -70,7 +66,7 @@ pub record Meant (class : List ℕ) (b : Body) (a : Asked) (init : ProbeInit) (t
 pub asks_meant : (class : List ℕ) (b : Body) (a : Asked) → asked_in b.code ≡ Some a → (init : ProbeInit) (text : ℕ) → CodeAsks class b init text → Meant class b a init text
 unfolding asked_of
 asks_meant class b a there init text c =
-    let e = some_is a (asked_of c.places init.count) (sym there ∙ asked_there class b init text c) in
+    let e = same_Some a (asked_of c.places init.count) (sym there ∙ asked_there class b init text c) in
     subst (λ x. Meant class b x init text) (sym e) (record {
       count = refl;
       few = c.count_fits;
@@ -96,7 +92,7 @@ meant_asks class b a init text m less = record {
 
 module _ (class : List ℕ) (b : Body) (i j : ProbeInit) (t u : ℕ) (c : CodeAsks class b i t) (d : CodeAsks class b j u) where
   same_asked : asked_of c.places i.count ≡ asked_of d.places j.count
-  same_asked = some_is (asked_of c.places i.count) (asked_of d.places j.count) (sym (asked_there class b i t c) ∙ asked_there class b j u d)
+  same_asked = same_Some (asked_of c.places i.count) (asked_of d.places j.count) (sym (asked_there class b i t c) ∙ asked_there class b j u d)
 
   pub one_text : t ≡ u
   unfolding asked_of

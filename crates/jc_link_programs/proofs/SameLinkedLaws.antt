@@ -1,5 +1,6 @@
 -- What is linked of one class file under two lists of names is the same, where classes are compared by their names.
 use Rattle.std.proofs.Common.{◌≡◌, ◌⊎◌, inl, inr, ℕ, Bool, true, false, cond, List, [], ◌∷◌, Option, Some, None, refl, sym, ◌∙◌, ap, subst}
+use Rattle.jc_bytes.proofs.OptionLaws.{none_some, some_is}
 use Rattle.jc_methods.specs.VerificationTypes.{Names}
 use Rattle.jc_methods.specs.declared.body.Body.{Body}
 use Rattle.jc_programs.specs.declared.program.Linked.{Linked}
@@ -18,12 +19,6 @@ use Rattle.jc_link_programs.specs.ProbeInits.{AsksFor, is_init, init_of, HasInit
 use Rattle.jc_link_programs.specs.SameProgram.{IsSameLinked, AreSameClasses}
 use Rattle.jc_link_programs.proofs.PairedLaws.{IsThere, AreThere, AreSameWhere, paired}
 use Rattle.jc_link_programs.proofs.ProbeInitLaws.{one_init}
-
-some_is : {X : Type 0} {x y : X} → Some x ≡ Some y → x ≡ y
-some_is e = cc
-
-none_some : {X : Type 0} {x : X} → None ≡ Some x → ⊥
-none_some e = cc
 
 -- ---- bodies
 

@@ -3,16 +3,18 @@ use Rattle.std.proofs.Common.{◌≡◌, ℕ, ℤ, zero, suc, ◌+◌, ◌-◌, 
 use Rattle.std.proofs.Common.{sym, ap, ◌∙◌, arith, slice_get, slice_set, length-append, append_assoc, cond, add-one}
 use Rattle.std.specs.Option.{option_map}
 use Rattle.std.proofs.lemmas.List.{length-map, set_at, at_drop_all}
+use Rattle.std.proofs.lemmas.Option.{same_Some}
+use Rattle.std.proofs.lemmas.Bool.{and_parts}
 use Rattle.jc_bytes.specs.Descriptor.{FieldType}
+use Rattle.jc_bytes.proofs.OptionLaws.{none_some}
 use Rattle.jc_machine_code.specs.declared.operation.ComputationalType.{ComputationalType}
 use Rattle.jc_machine_code.specs.Types.{computational}
 use Rattle.jc_machine_turn.specs.Parameters.{AreParameters}
 use Rattle.jc_programs.specs.Entries.{is_argument, are_arguments}
 use Rattle.jc_machine_model.specs.Values as values
-use Rattle.jc_machine_model.specs.Values.{Value, int, long, is_pair, computational_type, long_type}
+use Rattle.jc_machine_model.specs.Values.{Value, is_pair, computational_type}
 use Rattle.jc_machine_model.specs.Calls.{spread_value, spread_values, locals_for}
 use Rattle.jc_machine_model.specs.Begin.{number_value, argument_values}
-use Rattle.jc_machine_model.proofs.BeginLaws.{both, some_is, none_some}
 use Rattle.jc_machine.specs.Threads.{ThreadFrames}
 use Rattle.jc_machine.specs.FirstThreads.{width, FitParameters}
 
@@ -99,12 +101,12 @@ param_at : (parameters : List (Option ComputationalType)) (types : List FieldTyp
     → (type : FieldType) × (slice_get types k ≡ Some type) × (option_map computational p ≡ computational_type type)
 param_at [] types k p are at = absurd (none_some at)
 param_at (q ∷ parameters) [] k p are at = absurd (cc)
-param_at (q ∷ parameters) (type ∷ types) zero p are at = (type, refl, ap (option_map computational) (sym (some_is q p at)) ∙ cc)
+param_at (q ∷ parameters) (type ∷ types) zero p are at = (type, refl, ap (option_map computational) (sym (same_Some q p at)) ∙ cc)
 param_at (q ∷ parameters) (type ∷ types) (suc k) p are at = param_at parameters types k p (cc) at
 
 drop_from : {X : Type 0} (xs : List X) (k : ℕ) (x : X) → slice_get xs k ≡ Some x → drop k xs ≡ x ∷ drop (suc k) xs
 drop_from [] k x at = absurd (none_some at)
-drop_from (y ∷ xs) zero x at = ap (λ z. z ∷ xs) (some_is y x at)
+drop_from (y ∷ xs) zero x at = ap (λ z. z ∷ xs) (same_Some y x at)
 drop_from (y ∷ xs) (suc k) x at = drop_from xs k x at
 
 drop_at : {X : Type 0} (xs : List X) (k : ℕ) (x : X) → slice_get xs k ≡ Some x → drop k xs ≡ x ∷ drop (k + 1) xs
@@ -115,16 +117,16 @@ argument_at : (types : List FieldType) (numbers : List ℤ) (k : ℕ) (type : Fi
 argument_at [] numbers k type n taken type_at n_at = absurd (none_some type_at)
 argument_at (t ∷ types) [] k type n taken type_at n_at = absurd (none_some n_at)
 argument_at (t ∷ types) (m ∷ numbers) zero type n taken type_at n_at =
-    ap (is_argument type) (sym (some_is m n n_at))
-    ∙ (ap (λ x. is_argument x m) (sym (some_is t type type_at)) ∙ (both (is_argument t m) (are_arguments types numbers) taken).0)
+    ap (is_argument type) (sym (same_Some m n n_at))
+    ∙ (ap (λ x. is_argument x m) (sym (same_Some t type type_at)) ∙ (and_parts (is_argument t m) (are_arguments types numbers) taken).0)
 argument_at (t ∷ types) (m ∷ numbers) (suc k) type n taken type_at n_at =
-    argument_at types numbers k type n (both (is_argument t m) (are_arguments types numbers) taken).1 type_at n_at
+    argument_at types numbers k type n (and_parts (is_argument t m) (are_arguments types numbers) taken).1 type_at n_at
 
 as_many : (types : List FieldType) (numbers : List ℤ) → are_arguments types numbers ≡ true → length types ≡ length numbers
 as_many [] [] taken = refl
 as_many [] (n ∷ numbers) taken = absurd (cc)
 as_many (type ∷ types) [] taken = absurd (cc)
-as_many (type ∷ types) (n ∷ numbers) taken = ap suc (as_many types numbers (both (is_argument type n) (are_arguments types numbers) taken).1)
+as_many (type ∷ types) (n ∷ numbers) taken = ap suc (as_many types numbers (and_parts (is_argument type n) (are_arguments types numbers) taken).1)
 
 pub as_many_parameters : (parameters : List (Option ComputationalType)) (numbers : List ℤ) (locals : List (Option Value))
     → FitParameters parameters numbers locals → length parameters ≡ length numbers

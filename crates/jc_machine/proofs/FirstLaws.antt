@@ -6,7 +6,9 @@ use Rattle.std.specs.Prelude.{position}
 use Rattle.std.specs.List.{AllByRecursion}
 use Rattle.std.proofs.lemmas.List.{length-replicate, take_more, take_all}
 use Rattle.std.proofs.lemmas.List.Quantifiers.{position-Some}
-use Rattle.std.proofs.lemmas.Option.{slice_get-get_or}
+use Rattle.std.proofs.lemmas.Option.{slice_get-get_or, same_Some}
+use Rattle.std.proofs.lemmas.Bool.{and_parts}
+use Rattle.jc_bytes.proofs.OptionLaws.{none_some, map_some, then_some}
 use Rattle.jc_methods.specs.declared.body.Body.{Body}
 use Rattle.jc_methods.specs.EntryState.{is_static}
 use Rattle.jc_methods.specs.DescriptorTypes.{method_type_in}
@@ -23,10 +25,10 @@ use Rattle.jc_machine_model.specs.Values.{Value}
 use Rattle.jc_machine_model.specs.World.{running, stuck}
 use Rattle.jc_machine_model.specs.Calls.{spread_values, locals_for}
 use Rattle.jc_programs.specs.declared.run_plan.Schedule.TheVariants as schedules
-use Rattle.jc_machine_model.specs.Begin.{begin, argument_values, first_frame, thread_in, thread_for, first_thread, first_threads}
+use Rattle.jc_machine_model.specs.Begin.{argument_values, first_frame, thread_in, thread_for, first_thread, first_threads}
 use Rattle.jc_machine_model.specs.Step.{new_frame}
 use Rattle.jc_machine_model.specs.Fits.{FitsThread, FitsRunning}
-use Rattle.jc_machine_model.proofs.BeginLaws.{both, then_some, map_some, no_body, some_is, none_some, begin_fits}
+use Rattle.jc_machine_model.proofs.BeginLaws.{no_body, threads_fit}
 use Rattle.jc_machine_laws.proofs.CallLaws.{body_is}
 use Rattle.jc_machine.specs.Threads.{ThreadFrames}
 use Rattle.jc_machine.specs.FirstThreads.{Takes, FitParameters, BeginsWith}
@@ -84,7 +86,7 @@ module _ (program : Program) (prepared : PreparedProgram) (method : Entry) (numb
 -- ---- all threads
 
 passes_numbers : (thread : ThreadLine) (b : Body) → is_entry thread b ≡ true → are_arguments (method_type_in b.desc).parameters thread.args ≡ true
-passes_numbers thread b e = (both _ _ (both _ _ (both (is_static b.flags) _ e).1).1).1
+passes_numbers thread b e = (and_parts _ _ (and_parts _ _ (and_parts (is_static b.flags) _ e).1).1).1
 
 -- the method takes the numbers of a thread of which it is the entry
 entry_takes : (program : Program) (thread : ThreadLine) (entry : Entry) → entry_of program thread ≡ Some entry → Takes (body_of program entry) thread.args
@@ -108,8 +110,8 @@ module _ (program : Program) (prepared : PreparedProgram) (p : IsProgram program
   begins_at [] entries k thread entry are fit thread_at entry_at = absurd (none_some thread_at)
   begins_at (t ∷ threads) [] k thread entry are fit thread_at entry_at = absurd are
   begins_at (t ∷ threads) (e ∷ entries) zero thread entry are fit thread_at entry_at =
-      subst (λ (x : ThreadLine). BeginsWith program prepared entry x.args) (some_is t thread thread_at)
-      (subst (λ (x : Entry). BeginsWith program prepared x t.args) (some_is e entry entry_at)
+      subst (λ (x : ThreadLine). BeginsWith program prepared entry x.args) (same_Some t thread thread_at)
+      (subst (λ (x : Entry). BeginsWith program prepared x t.args) (same_Some e entry entry_at)
       (record { program_is = p; prepared_is = is; takes = entry_takes program t e are.0; fits = fit.0 }))
   begins_at (t ∷ threads) (e ∷ entries) (suc k) thread entry are fit thread_at entry_at =
       begins_at threads entries k thread entry are.1 fit.1 thread_at entry_at
@@ -120,8 +122,8 @@ pub first_at : (program : Program) (threads : List ThreadLine) (entries : List E
 first_at program [] entries k thread entry thread_at entry_at = absurd (none_some thread_at)
 first_at program (t ∷ threads) [] k thread entry thread_at entry_at = absurd (none_some entry_at)
 first_at program (t ∷ threads) (e ∷ entries) zero thread entry thread_at entry_at =
-    ap (λ (x : ThreadLine). Some (first_thread program e x.args)) (some_is t thread thread_at)
-    ∙ ap (λ (x : Entry). Some (first_thread program x thread.args)) (some_is e entry entry_at)
+    ap (λ (x : ThreadLine). Some (first_thread program e x.args)) (same_Some t thread thread_at)
+    ∙ ap (λ (x : Entry). Some (first_thread program x thread.args)) (same_Some e entry entry_at)
 first_at program (t ∷ threads) (e ∷ entries) (suc k) thread entry thread_at entry_at = first_at program threads entries k thread entry thread_at entry_at
 
 pub as_many_entries : (program : Program) (threads : List ThreadLine) (entries : List Entry) → AreEntries program threads entries
@@ -137,12 +139,6 @@ length-first_threads program [] entries many = refl
 length-first_threads program (t ∷ threads) [] many = absurd (omega arith)
 length-first_threads program (t ∷ threads) (e ∷ entries) many = ap suc (length-first_threads program threads entries (omega arith))
 
--- threads with entries fit
-pub first_fit : (program : Program) (threads : List ThreadLine) (entries : List Entry) → IsProgram program → AreEntries program threads entries
-    → AllByRecursion (FitsThread program []) (first_threads program threads entries)
-unfolding begin
-first_fit program threads entries p are = (begin_fits program (record { threads = threads; schedule = schedules.Robin 0 }) entries p are).threads
-
 module _ (program : Program) (prepared : PreparedProgram) (threads : List ThreadLine) (entries : List Entry) (k : ℕ) (d : ThreadLine) (e : Entry)
     (p : IsProgram program) (is : IsPrepared program prepared) (are : AreEntries program threads entries)
     (less : k < length threads) where
@@ -152,7 +148,7 @@ module _ (program : Program) (prepared : PreparedProgram) (threads : List Thread
   -- what thread k begins with
   pub thread_begins : BeginsWith program prepared (slice_index_or entries k e) (slice_index_or threads k d).args
   thread_begins =
-      begins_at program prepared p is threads entries k (slice_index_or threads k d) (slice_index_or entries k e) are (first_fit program threads entries p are)
+      begins_at program prepared p is threads entries k (slice_index_or threads k d) (slice_index_or entries k e) are (threads_fit program threads entries p are)
       (slice_get-get_or threads k d less) (slice_get-get_or entries k e entry_below)
 
   -- one thread more
@@ -166,7 +162,7 @@ module _ (program : Program) (prepared : PreparedProgram) (threads : List Thread
       (slice_get-get_or entries k e entry_below) in
       let within : k < length firsts =
       subst (λ n. k < n) (sym (length-first_threads program threads entries (as_many_entries program threads entries are))) less in
-      take_more firsts k x within ∙ ap (λ y. take k firsts ++ y ∷ []) (some_is _ _ (sym (slice_get-get_or firsts k x within) ∙ at))
+      take_more firsts k x within ∙ ap (λ y. take k firsts ++ y ∷ []) (same_Some _ _ (sym (slice_get-get_or firsts k x within) ∙ at))
 
 -- all threads
 pub first_all : (program : Program) (threads : List ThreadLine) (entries : List Entry) (k : ℕ) → AreEntries program threads entries → length threads ≤ k

@@ -1,5 +1,5 @@
 -- The world in memory, and the turn of one of its threads.
-use Rattle.std.proofs.Common.{◌≡◌, ℕ, zero, suc, ◌<◌, ◌≤◌, List, [], ◌∷◌, length, take, Some, refl, sym, ap, ◌∙◌, subst, arith, slice_get, slice_set}
+use Rattle.std.proofs.Common.{◌≡◌, ℕ, ◌<◌, ◌≤◌, List, [], ◌∷◌, length, take, Some, refl, sym, ap, ◌∙◌, subst, arith, slice_get, slice_set}
 use Rattle.std.proofs.Common.{slice_index_or}
 use Rattle.std.specs.List.{AllByRecursion}
 use Rattle.std.proofs.lemmas.List.{append-nil, length-take-le, get_or-take}
@@ -9,6 +9,7 @@ use Rattle.jc_programs.specs.declared.run_end.End.{End}
 use Rattle.jc_programs.specs.declared.run_end.End.TheVariants as ends
 use Rattle.jc_machine_code.specs.Prepared.{IsPrepared}
 use Rattle.std.proofs.lemmas.Option.{slice_get-get_or}
+use Rattle.jc_bytes.proofs.ListLaws.{all_at, item_at}
 use Rattle.jc_machine_model.specs.Programs.{IsProgram}
 use Rattle.jc_machine_model.specs.World.{Thread, running, Shared, Hit, World}
 use Rattle.jc_machine_model.specs.Step.{turn_of, with_after, step_of, step}
@@ -16,7 +17,6 @@ use Rattle.jc_machine_model.specs.CaseEnds.{ends_in}
 use Rattle.jc_machine_model.specs.Laws.{IsOver}
 use Rattle.jc_machine_model.specs.Fits.{FitsThread, FitsWorld, IsProbe}
 use Rattle.jc_machine_model.proofs.TurnLaws.{ended_stays}
-use Rattle.jc_machine_laws.proofs.StaticLaws.{get_each}
 use Rattle.jc_machine_laws.proofs.WorldLaws.{step_fits, step_hits}
 use Rattle.jc_machine.specs.declared.world.World.TheInside.{Inside}
 use Rattle.jc_machine.specs.declared.thread_turn.ThreadTurn.{ThreadTurn}
@@ -37,7 +37,7 @@ pub alone_fits : (program : Program) (w : World) (t : ℕ) (frames : ThreadFrame
     → slice_get w.threads t ≡ Some (running frames.top frames.waiting) → FitsWorld program (alone w.shared frames)
 alone_fits program w t frames fits at = record {
   statics = fits.statics;
-  threads = (get_each (FitsThread program w.shared.heap) w.threads t (running frames.top frames.waiting) fits.threads at, tt);
+  threads = (all_at (FitsThread program w.shared.heap) w.threads t (running frames.top frames.waiting) fits.threads at, tt);
   there = fits.there;
 }
 
@@ -56,11 +56,6 @@ pub hits_probes : (program : Program) (m : Machine) (t : ℕ) (hit : Hit) → Is
 hits_probes program m t hit p fits is = (subst (AllByRecursion (IsProbe program)) (sym is) (step_hits program (world_of m) t p fits.world tt)).0
 
 -- ---- the threads
-
-there : {X : Type 0} (xs : List X) (k : ℕ) → k < length xs → (x : X) × (slice_get xs k ≡ Some x)
-there [] k less = absurd (omega arith)
-there (x ∷ xs) zero less = (x, refl)
-there (x ∷ xs) (suc k) less = there xs k (omega arith)
 
 over : (e : End) (f : ThreadFrames) → (e ≡ ends.Running → ⊥) → IsOver (thread_of e f)
 over ends.Running f not = absurd (not refl)
@@ -105,7 +100,7 @@ module _ (w : Inside) (is : IsMachine w) where
     pub idle : (program : Program) → (slice_index_or w.ends t ends.Running ≡ ends.Running → ⊥)
         → step program (world_of (machine_of w)) t ≡ world_of (machine_of w)
     idle program not =
-        let f = there w.stacks.items t (omega (arith, below, is.stacks, is.few)) in
+        let f = item_at w.stacks.items t (omega (arith, below, is.stacks, is.few)) in
         let e = slice_index_or w.ends t ends.Running in
         ended_stays program (world_of (machine_of w)) t (thread_of e f.0) (at e refl f.0 f.1) (over e f.0 not)
 

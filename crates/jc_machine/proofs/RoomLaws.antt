@@ -6,11 +6,13 @@ use Rattle.std.proofs.lemmas.List.{length-map, length-reverse}
 use Rattle.std.proofs.lemmas.Option.{none-some, same_Some}
 use Rattle.std.specs.Option.{option_and_then}
 use Rattle.std.specs.List.{AllByRecursion}
+use Rattle.std.proofs.lemmas.Bool.{and_parts, not-true}
+use Rattle.jc_bytes.proofs.OptionLaws.{then_some}
 use Rattle.jc_methods.specs.declared.body.Body.{Body}
 use Rattle.jc_methods.specs.WellMade.{IsWellMadeOfAnySize}
-use Rattle.jc_methods.specs.VerificationTypes.{Names, VerificationType, TypeState, verification_type, width, slots}
+use Rattle.jc_methods.specs.VerificationTypes.{Names, VerificationType, TypeState, verification_type}
 use Rattle.jc_methods.specs.VerificationTypes as verification
-use Rattle.jc_methods.specs.EntryState.{entry_of}
+use Rattle.jc_methods.specs.EntryState.{entry_of, is_static}
 use Rattle.jc_methods.specs.Flow.{falls_at}
 use Rattle.jc_methods.proofs.EntryLaws.{entry_count}
 use Rattle.jc_methods.proofs.PlacedInsnLaws.{few_insns}
@@ -23,16 +25,15 @@ use Rattle.jc_programs.specs.declared.program.Program.{Program}
 use Rattle.jc_programs.specs.declared.program.Linked.{Linked}
 use Rattle.jc_programs.specs.declared.run_end.Entry.{Entry}
 use Rattle.jc_machine_model.specs.Programs.{IsProgram}
-use Rattle.jc_machine_model.specs.Values.{Value}
 use Rattle.jc_machine_model.specs.Heap.{HeapObject}
 use Rattle.jc_machine_model.specs.World.{Frame}
 use Rattle.jc_machine_model.specs.Methods.{declares_init, most_frame_slots, is_plain, is_native}
-use Rattle.jc_methods.specs.EntryState.{is_static}
+use Rattle.jc_methods.proofs.WidthLaws.{as_many}
 use Rattle.jc_machine_model.specs.Step.{counted_frames}
-use Rattle.jc_machine_model.specs.Fits.{AreOfVerificationTypes, StandsIn, FitsTop, FitsWaiting, FitEachWaiting, FitsRunning}
-use Rattle.jc_machine_model.proofs.BeginLaws.{slots_length, then_some, both, not_is}
+use Rattle.jc_machine_model.specs.Fits.{StandsIn, FitsTop, FitsWaiting, FitEachWaiting, FitsRunning}
+use Rattle.jc_machine_model.proofs.BeginLaws.{slots_length}
 use Rattle.jc_machine_laws.proofs.OnwardLaws.{here_of, counted_step, counted_more}
-use Rattle.jc_machine_laws.proofs.RoomLaws.{state_room}
+use Rattle.jc_machine_laws.proofs.RoomLaws.{state_room, same_count}
 use Rattle.jc_machine.specs.Room.{IsBounded, AreBounded}
 
 -- ---- the local variables of each state
@@ -71,26 +72,11 @@ module _ (names : Names) (b : Body) (w : IsWellMadeOfAnySize b) where
 
 -- ---- frames
 
-some_width : (h : VerificationType) → 1 ≤ width h
-some_width verification.double = omega arith
-some_width verification.long = omega arith
-some_width h = omega arith
-
-as_many : (hs : List VerificationType) → length hs ≤ slots hs
-as_many [] = omega arith
-as_many (h ∷ hs) = let e = some_width h in let r = as_many hs in omega (arith, e, r)
-
-same_count : (values : List Value) (hs : List VerificationType) → AreOfVerificationTypes values hs → length values ≡ length hs
-same_count [] [] p = refl
-same_count [] (h ∷ hs) p = absurd p
-same_count (v ∷ values) [] p = absurd p
-same_count (v ∷ values) (h ∷ hs) p = let e = same_count values hs p.1 in grind (arith, e)
-
 -- a method that threads may enter is no wider than the limit
 narrow : (c : Linked) (b : Body) → is_plain c b ≡ true → b.max_locals + b.max_stack ≤ 1004
 narrow c b plain =
-    let inside = both (not (is_native b)) _ (both (is_static b.flags) _ plain).1 in
-    let slim : nat_lt (most_frame_slots c) (b.max_locals + b.max_stack) ≡ false = not_is _ (both (not c.has_clinit) _ inside.1).1 in
+    let inside = and_parts (not (is_native b)) _ (and_parts (is_static b.flags) _ plain).1 in
+    let slim : nat_lt (most_frame_slots c) (b.max_locals + b.max_stack) ≡ false = not-true _ (and_parts (not c.has_clinit) _ inside.1).1 in
     by (declares_init c) slim
   where
     by : (z : Bool) → nat_lt (cond z 1004 1000) (b.max_locals + b.max_stack) ≡ false → b.max_locals + b.max_stack ≤ 1004

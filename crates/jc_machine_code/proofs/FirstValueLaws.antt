@@ -1,11 +1,12 @@
 -- The first letter of a descriptor decides what the first value of a static field is.
 use Rattle.std.proofs.Common.{◌≡◌, ℕ, zero, suc, ◌<◌, ◌≤◌, length, drop, ℤ, Bool, true, false, ◌||◌, ◌&&◌, List, [], ◌∷◌, ◌++◌, Some, nat_eq, refl, sym, ap, ◌∙◌, subst, arith, pos, negsuc, if◌then◌else◌}
-use Rattle.std.specs.Prelude.{slice_index_or, ◌≤ℤ◌, int_le, T}
+use Rattle.std.specs.Prelude.{slice_index_or, ◌≤ℤ◌, int_le}
 use Rattle.std.specs.Int.Signed.{le_z_yes}
 use Rattle.std.proofs.lemmas.Int.{ints, to_z-of_z}
 use mir.Val.{SFits, of_z, to_z}
 use mir.Syntax.{w64}
-use Rattle.std.proofs.lemmas.Bool.{eqb-true}
+use Rattle.std.proofs.lemmas.Bool.{eqb-true, and_parts}
+use Rattle.std.proofs.lemmas.Float.{T_from_true}
 use Rattle.jc_bytes.specs.Descriptor.{FieldType, Byte, Char, Double, Float, Int, Long, Short, Boolean, Object, Array}
 use Rattle.jc_methods.specs.DescriptorTypes.{before, naming, behind, base_type, in_arrays, types_from, front_of, field_type_in}
 use Rattle.jc_machine_model.specs.Values.{Value, int, long, null}
@@ -43,7 +44,7 @@ name_null n name (b ∷ rest) k = name_step n name b rest k (nat_eq b 59) (name_
 
 array_step : (n b : ℕ) (rest : List ℕ) (k : ℤ) (x y z : Bool) → FirstNull (types_from (before (suc (suc n))) rest) k
     → FirstNull ((if x || (y || z) then [] else in_arrays (suc n) (base_type b) ∷ [])
-        ++ types_from (if x then before (suc (suc n)) else if y then naming (suc n) [] else if z then behind else before 0) rest) k
+    ++ types_from (if x then before (suc (suc n)) else if y then naming (suc n) [] else if z then behind else before 0) rest) k
 array_step n b rest k true y z h = h
 array_step n b rest k false true z h = name_null (suc n) [] rest k
 array_step n b rest k false false true h = behind_null rest k
@@ -86,19 +87,11 @@ base_value b k true e = ap (λ c. first_of (Some (base_type c)) k) (eqb-true b 7
 base_value b k false e =
     ap (λ x. first_of (Some (base_at b x)) k) e ∙ base_int (nat_eq b 66) (nat_eq b 67) (nat_eq b 68) (nat_eq b 70) (nat_eq b 73) (nat_eq b 83) k
 
-within : (x y : Bool) → (x && y) ≡ true → (x ≡ true) × (y ≡ true)
-within true y h = (refl, h)
-within false y h = absurd (cc)
-
-passed : (b : Bool) → b ≡ true → T b
-passed true e = tt
-passed false e = absurd (cc)
-
 between : (low high n : ℤ) → negsuc 2147483647 ≤ℤ low → high ≤ℤ pos 2147483647 → (int_le low n && int_le n high) ≡ true → Bounded n
 between low high n l h both =
-    let p = within (int_le low n) (int_le n high) both in
-    let a : low ≤ℤ n = le_z_yes (passed (int_le low n) p.0) in
-    let b : n ≤ℤ high = le_z_yes (passed (int_le n high) p.1) in
+    let p = and_parts (int_le low n) (int_le n high) both in
+    let a : low ≤ℤ n = le_z_yes (T_from_true (int_le low n) p.0) in
+    let b : n ≤ℤ high = le_z_yes (T_from_true (int_le n high) p.1) in
     (omega (arith, ints), omega (arith, ints))
 
 none_bounded : (n : ℤ) → n ≡ pos 0 → Bounded n
@@ -106,7 +99,7 @@ none_bounded n e = subst Bounded (sym e) (le_z_yes tt, le_z_yes tt)
 
 base_bounded : (b66 b67 b68 b70 b73 b83 : Bool) (n : ℤ)
     → IsFirstOf (Some (if b66 then Byte else if b67 then Char else if b68 then Double else if b70 then Float else if b73 then Int else if false
-        then Long else if b83 then Short else Boolean)) n → Bounded n
+    then Long else if b83 then Short else Boolean)) n → Bounded n
 base_bounded true b67 b68 b70 b73 b83 n h = between (negsuc 127) (pos 127) n (le_z_yes tt) (le_z_yes tt) h
 base_bounded false true b68 b70 b73 b83 n h = between (pos 0) (pos 65535) n (le_z_yes tt) (le_z_yes tt) h
 base_bounded false false true b70 b73 b83 n h = none_bounded n h

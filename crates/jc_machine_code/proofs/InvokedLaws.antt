@@ -93,7 +93,7 @@ module _ (program : Program) where
   declared_fine op at class name desc None = tt
   declared_fine op at class name desc (Some field) =
       either (may_name_field at class name) (field_operation op (record { class = class; field = field }) (field_type_in desc)) outside
-          (type_fine op (record { class = class; field = field }) (field_type_in desc)) tt
+      (type_fine op (record { class = class; field = field }) (field_type_in desc)) tt
 
   linked_fine : (op : ℕ) (at : Location) (name desc : List ℕ) (o : Option ℕ) → Fine (linked_field op at program name desc o)
   linked_fine op at name desc None = tt

@@ -6,24 +6,18 @@ use Rattle.std.specs.Int.Signed.{le_z_yes}
 use Rattle.std.proofs.lemmas.Bool.{cases_lt}
 use Rattle.std.proofs.lemmas.Option.{slice_get_within, same_Some}
 use Rattle.std.proofs.lemmas.Int.{ints}
+use Rattle.std.proofs.lemmas.Float.{T_from_true}
+use Rattle.jc_bytes.proofs.BooleanLaws.{and_false}
 use Rattle.jc_methods.specs.declared.insn.Arm.{Arm}
 use Rattle.jc_methods.specs.Insn.{IsAscending}
 use Rattle.jc_plan.specs.Chosen.{lookup_target}
-
-passed : (b : Bool) → b ≡ true → T b
-passed true e = tt
-passed false e = absurd (cc)
 
 refused : (a b : ℤ) → a <ℤ b → int_le b a ≡ false
 refused a b h = by (int_le b a) refl
   where
     by : (x : Bool) → int_le b a ≡ x → int_le b a ≡ false
     by false e = e
-    by true e = let g : b ≤ℤ a = le_z_yes (passed (int_le b a) e) in absurd (omega (arith, ints))
-
-and_false : (x : Bool) → (x && false) ≡ false
-and_false true = refl
-and_false false = refl
+    by true e = let g : b ≤ℤ a = le_z_yes (T_from_true (int_le b a) e) in absurd (omega (arith, ints))
 
 -- an arm with a lower key, or with a higher one, is passed by
 lower : (default : ℕ) (a : Arm) (arms : List Arm) (k : ℤ) → a.key <ℤ k → lookup_target default (a ∷ arms) k ≡ lookup_target default arms k

@@ -1,10 +1,14 @@
 -- Each turn keeps a world fitting: calls and returns.
 use Rattle.std.proofs.Common.{◌≡◌, ℕ, ◌-◌, Bool, true, false, not, cond, List, [], ◌∷◌, ◌++◌, length, map, replicate, Option, Some}
 use Rattle.std.proofs.Common.{None, refl, sym, ◌∙◌, ap, subst, arith, append_assoc, length-append}
-use Rattle.std.proofs.lemmas.Option.{slice_get_within}
+use Rattle.std.proofs.lemmas.Option.{slice_get_within, same_Some}
 use Rattle.std.specs.Prelude.{slice_get, option_and_then}
 use Rattle.std.specs.List.{AllByRecursion}
+use Rattle.std.proofs.lemmas.Bool.{and_parts, false≢true}
 use Rattle.jc_bytes.specs.Descriptor.{FieldType, Double, Float, Long, Object, Array}
+use Rattle.jc_bytes.proofs.OptionLaws.{none_some}
+use Rattle.jc_bytes.proofs.EachLaws.{all_both, all_behind}
+use Rattle.jc_bytes.proofs.DecoderLaws.{guard_some}
 use Rattle.jc_methods.specs.declared.insn.Insn.{Insn}
 use Rattle.jc_methods.specs.declared.body.Body.{Body}
 use Rattle.jc_methods.specs.DescriptorTypes.{method_type_in}
@@ -27,30 +31,28 @@ use Rattle.jc_machine_model.specs.Statics.{is_of_type}
 use Rattle.jc_machine_model.specs.Calls.{Arguments, argument_before, taken_for, spread_value, spread_values, locals_for, by_call, returned_as, by_return}
 use Rattle.jc_machine_model.specs.Step.{named_init, is_init_method, new_frame}
 use Rattle.jc_machine_model.specs.Fits.{AreInSlots, IsStack, IsThere, IsThereInSlot, FitsTop, StandsAtCall, parameter_count}
-use Rattle.jc_machine_model.proofs.BeginLaws.{both, none_some, some_is, false_true, slots_append, slots_length, slots_fit, all_top}
-use Rattle.jc_machine_model.proofs.BeginLaws.{each_replicate, nothing_fits, there_is}
+use Rattle.jc_machine_model.proofs.BeginLaws.{slots_append, slots_length, slots_fit, all_top, each_replicate, nothing_fits, there_is}
 use Rattle.jc_machine_laws.proofs.OnwardLaws.{whole_body}
-use Rattle.jc_machine_laws.proofs.StackLaws.{tops_of, chosen}
-use Rattle.jc_machine_laws.proofs.StepLaws.{Turn, Fine, ReturnFits, each_append}
-use Rattle.jc_machine_laws.proofs.GrowLaws.{each_behind}
+use Rattle.jc_machine_laws.proofs.StackLaws.{tops_of}
+use Rattle.jc_machine_laws.proofs.StepLaws.{Turn, Fine, ReturnFits}
 use Rattle.jc_machine_laws.proofs.StaticLaws.{computational_kind, stored_is, stored_there}
 
 -- ---- arguments
 
 -- a value of a type in its slots
 value_slots : (type : FieldType) (v : Value) → is_of_type type v ≡ true → AreInSlots (spread_value v) (spread_one (held_of type))
-value_slots Float v e = absurd (false_true e)
-value_slots Double v e = absurd (false_true e)
+value_slots Float v e = absurd (false≢true e)
+value_slots Double v e = absurd (false≢true e)
 value_slots Long (long x) e = (tt, (tt, tt))
-value_slots Long v e = absurd (false_true e)
-value_slots (Object name) (int x) e = absurd (false_true e)
-value_slots (Object name) (long x) e = absurd (false_true e)
+value_slots Long v e = absurd (false≢true e)
+value_slots (Object name) (int x) e = absurd (false≢true e)
+value_slots (Object name) (long x) e = absurd (false≢true e)
 value_slots (Object name) v e = (refl, tt)
-value_slots (Array component) (int x) e = absurd (false_true e)
-value_slots (Array component) (long x) e = absurd (false_true e)
+value_slots (Array component) (int x) e = absurd (false≢true e)
+value_slots (Array component) (long x) e = absurd (false≢true e)
 value_slots (Array component) v e = (refl, tt)
 value_slots type (int x) e = (tt, tt)
-value_slots type v e = absurd (false_true e)
+value_slots type v e = absurd (false≢true e)
 
 -- what a call takes from the stack
 record Taken (program : Program) (heap : List HeapObject) (types : List FieldType) (stack : List Value) (a : Arguments) : Type 0 where
@@ -63,7 +65,7 @@ record Taken (program : Program) (heap : List HeapObject) (types : List FieldTyp
 taken_is : (program : Program) (heap : List HeapObject) (types : List FieldType) (stack : List Value) (a : Arguments)
     → taken_for types stack ≡ Some a → Taken program heap types stack a
 taken_is program heap [] stack a e =
-    subst (Taken program heap [] stack) (some_is _ a e) (record { on_top = []; parts = refl; count = refl; fits = tt; there = λ p. tt })
+    subst (Taken program heap [] stack) (same_Some _ a e) (record { on_top = []; parts = refl; count = refl; fits = tt; there = λ p. tt })
 taken_is program heap (type ∷ types) stack a e = by (taken_for types stack) refl (λ r q. taken_is program heap types stack r q) e
   where
     one : (r : Arguments) → Taken program heap types stack r → (w : List Value) → r.rest ≡ w
@@ -74,18 +76,18 @@ taken_is program heap (type ∷ types) stack a e = by (taken_for types stack) re
         ] ≡ Some a → Taken program heap (type ∷ types) stack a
     one r t [] g q = absurd (none_some q)
     one r t (v ∷ rest) g q =
-        let p = chosen (is_of_type type v) (Some (record { values = v ∷ r.values; rest = rest })) a q in
+        let p = guard_some (is_of_type type v) (Some (record { values = v ∷ r.values; rest = rest })) a q in
         let n = t.count in
         let m = length-append t.on_top (v ∷ []) in
         let d : stack ≡ t.on_top ++ v ∷ rest = t.parts ∙ ap (λ l. t.on_top ++ l) g in
-        subst (Taken program heap (type ∷ types) stack) (some_is _ a p.1) (record {
+        subst (Taken program heap (type ∷ types) stack) (same_Some _ a p.1) (record {
           on_top = t.on_top ++ v ∷ [];
           parts = d ∙ sym (append_assoc t.on_top (v ∷ []) rest);
           count = grind (arith, n, m);
           fits =
               slots_append (spread_value v) (spread_values r.values) (spread_one (held_of type)) (spread (map held_of types))
               (value_slots type v p.0) t.fits;
-          there = λ h. ((each_behind (IsThere program heap) t.on_top (v ∷ rest) (subst (AllByRecursion (IsThere program heap)) d h)).0, t.there h);
+          there = λ h. ((all_behind (IsThere program heap) t.on_top (v ∷ rest) (subst (AllByRecursion (IsThere program heap)) d h)).0, t.there h);
         })
 
     by : (o : Option Arguments) → taken_for types stack ≡ o
@@ -107,7 +109,7 @@ spread_there : (program : Program) (heap : List HeapObject) (values : List Value
     → AllByRecursion (IsThereInSlot program heap) (spread_values values)
 spread_there program heap [] p = tt
 spread_there program heap (v ∷ values) p =
-    each_append (IsThereInSlot program heap) (spread_value v) (spread_values values) (by (is_pair v)) (spread_there program heap values p.1)
+    all_both (IsThereInSlot program heap) (spread_value v) (spread_values values) (by (is_pair v)) (spread_there program heap values p.1)
   where
     by : (z : Bool) → AllByRecursion (IsThereInSlot program heap) (cond z (Some v ∷ None ∷ []) (Some v ∷ []))
     by true = (p.0, (tt, tt))
@@ -130,7 +132,7 @@ enters : (program : Program) (callee : Entry) (d : Linked) (body : Body) (values
     → FitsTop program (new_frame callee (locals_for body.max_locals values))
 enters program callee d body values w e g h p =
     let s = there_is (first_state body) (state_of program.names body 0) w.checked.entry in
-    let static = (both (is_static body.flags) _ h).0 in
+    let static = (and_parts (is_static body.flags) _ h).0 in
     let q = subst (λ z. AreInSlots (locals_for body.max_locals values)
     (in_locals body.max_locals ((cond z [] (this_of body.owner body.name ∷ [])) ++ map held_of
     (method_type_in body.desc).parameters))) (sym static)
@@ -151,7 +153,7 @@ module _ {program : Program} {s : Shared} {f : Frame} {c : Linked} {b : Body} {i
   calls_fine callee d body p e g h n i w = by (taken_for (method_type_in body.desc).parameters f.stack) refl
     where
       plain : is_plain d body ≡ true
-      plain = (both (is_plain d body) (not (is_synchronized body)) h).0
+      plain = (and_parts (is_plain d body) (not (is_synchronized body)) h).0
 
       by : (o : Option Arguments) → taken_for (method_type_in body.desc).parameters f.stack ≡ o → Fine program s f b (by_call callee body.max_locals o f)
       by None q = tt
@@ -186,11 +188,11 @@ module _ {program : Program} {s : Shared} {f : Frame} {c : Linked} {b : Body} {i
             there =
                 record {
                   locals = (turn.there).locals;
-                  stack = each_behind (IsThere program s.heap) r.on_top a.rest
+                  stack = all_behind (IsThere program s.heap) r.on_top a.rest
                       (subst (AllByRecursion (IsThere program s.heap)) r.parts (turn.there).stack);
                 };
             new_there = record {
-              locals = each_append (IsThereInSlot program s.heap) (spread_values a.values) (replicate (body.max_locals - length (spread_values a.values)) None)
+              locals = all_both (IsThereInSlot program s.heap) (spread_values a.values) (replicate (body.max_locals - length (spread_values a.values)) None)
                   (spread_there program s.heap a.values (r.there (turn.there).stack))
                   (each_replicate (IsThereInSlot program s.heap) (body.max_locals - length (spread_values a.values)) None tt);
               stack = tt;

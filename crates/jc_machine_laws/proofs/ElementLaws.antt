@@ -2,12 +2,16 @@
 use Rattle.std.proofs.Common.{◌≡◌, ℕ, zero, suc, ◌+◌, ◌%◌, ◌≤◌, ℤ, pos, negsuc, Bool, true, false, cond, List, [], ◌∷◌, ◌++◌}
 use Rattle.std.proofs.Common.{length, map, reverse, replicate, Option, Some, None, le_refl, nat_eq, nat_le, refl, sym, ◌∙◌, ap}
 use Rattle.std.proofs.Common.{subst, arith, append-nil, slice_set, slice_index_or, nat_lt, ◌<◌}
-use Rattle.std.proofs.lemmas.Bool.{ltb-true}
+use Rattle.std.proofs.lemmas.Bool.{ltb-true, false≢true}
 use Rattle.std.specs.Prelude.{⊤, slice_get}
 use Rattle.std.specs.List.{AllByRecursion, list_any}
 use Rattle.std.specs.Fmt.{signed_decimal}
 use Rattle.std.specs.Int.{w32, cast_unsigned}
+use Rattle.std.proofs.lemmas.Option.{same_Some}
 use Rattle.jc_bytes.specs.Descriptor.{FieldType, Long, Boolean}
+use Rattle.jc_bytes.proofs.OptionLaws.{none_some}
+use Rattle.jc_bytes.proofs.EachLaws.{all_behind}
+use Rattle.jc_bytes.proofs.DecoderLaws.{guard_some}
 use Rattle.jc_methods.specs.declared.insn.Insn.{Insn}
 use Rattle.jc_methods.specs.declared.body.Body.{Body}
 use Rattle.jc_methods.specs.Flow.{FallsThrough}
@@ -31,18 +35,15 @@ use Rattle.jc_machine_model.specs.Values.{Value, int, long, null, object, memory
 use Rattle.jc_machine_model.specs.Heap.{HeapObject, array, throwable, has_room}
 use Rattle.jc_machine_model.specs.Arrays.{element_value, has_elements, index_within, Element, Found, found, fails, unsuited}
 use Rattle.jc_machine_model.specs.Arrays.{in_array, in_heap_object, find_element, read_found, by_read, element_number, with_element}
-use Rattle.jc_machine_model.specs.Arrays.{write_number, write_found, by_probe, write_to, by_write, by_make_array, measured}
-use Rattle.jc_machine_model.specs.Arrays.{by_measure}
+use Rattle.jc_machine_model.specs.Arrays.{write_number, write_found, by_probe, write_to, by_write, by_make_array, measured, by_measure}
 use Rattle.jc_machine_model.specs.World.{Frame, Shared}
 use Rattle.jc_machine_model.specs.Operations.{Printed, an_int_line, a_long_line, a_boolean_line, an_empty_line}
 use Rattle.jc_machine_model.specs.Results.{hits, raises, gets_stuck, next_with, goes_with}
-use Rattle.jc_machine_model.specs.Objects.{made, thrown_of, built, by_build, thrown_up, by_throw, most_printed, by_print}
-use Rattle.jc_machine_model.specs.Objects.{boolean_text, by_println, is_fetched, by_fetch}
+use Rattle.jc_machine_model.specs.Objects.{made, thrown_of, built, by_build, thrown_up, by_throw, most_printed, by_print, boolean_text, by_println, is_fetched, by_fetch}
 use Rattle.jc_machine_model.specs.Fits.{IsInSlot, AreInSlots, IsOfVerificationType, AreOfVerificationTypes, IsStack, IsThere, HasProbes, HasProbe}
-use Rattle.jc_machine_model.proofs.BeginLaws.{none_some, some_is, false_true}
-use Rattle.jc_machine_laws.proofs.StackLaws.{reverse_map, below_is, pushed, Top, top_of, chosen, not_chosen}
+use Rattle.jc_machine_laws.proofs.StackLaws.{reverse_map, below_is, pushed, Top, top_of, not_chosen}
 use Rattle.jc_machine_laws.proofs.StepLaws.{Turn, Fine, falls, going, turns_fine, takes_fine, stepped, with_stack_is}
-use Rattle.jc_machine_laws.proofs.GrowLaws.{each_behind, longer, at_end, values_grow, slots_grow, shared_grows}
+use Rattle.jc_machine_laws.proofs.GrowLaws.{longer, at_end, values_grow, slots_grow, shared_grows}
 
 -- ---- elements
 
@@ -83,7 +84,7 @@ index_below : (i : ℤ) (count id : ℕ) → index_within i count ≡ Some id �
 index_below (pos j) count id e = by (nat_lt j count) refl e
   where
     by : (z : Bool) → nat_lt j count ≡ z → cond z (Some j) None ≡ Some id → id < count
-    by true p q = subst (λ n. n < count) (some_is j id q) (ltb-true j count p)
+    by true p q = subst (λ n. n < count) (same_Some j id q) (ltb-true j count p)
     by false p q = absurd (none_some q)
 index_below (negsuc j) count id e = absurd (none_some e)
 
@@ -94,12 +95,12 @@ probe_of (Some d) count id h l = (h.0, h.1, subst (λ n. id < n) (sym h.2) l)
 -- elements of types other than long are ints
 pub int_element : (types : List FieldType) → has_elements types Long ≡ false → (el : FieldType) (x : ℤ)
     → has_elements types el ≡ true → IsOfVerificationType (element_value el x) verification.int
-int_element types p Long x q = absurd (false_true (sym p ∙ q))
+int_element types p Long x q = absurd (false≢true (sym p ∙ q))
 int_element types p el x q = tt
 
 pub long_element : (el : FieldType) (x : ℤ) → has_elements (Long ∷ []) el ≡ true → IsOfVerificationType (element_value el x) verification.long
 long_element Long x q = tt
-long_element el x q = absurd (false_true q)
+long_element el x q = absurd (false≢true q)
 
 -- ---- objects before their constructor
 
@@ -127,7 +128,7 @@ unfolding IsNew
 new_is (verification.uninit at) verification.uninit_this e = tt
 new_is (verification.uninit at) (verification.uninit other) e = tt
 new_is verification.uninit_this verification.uninit_this e = tt
-new_is old h e = absurd (false_true e)
+new_is old h e = absurd (false≢true e)
 
 -- a reference stays one
 slot_built : (l : Option Value) (h : VerificationType) (name : List ℕ) → IsNew h → IsInSlot l h → IsInSlot l (verification.object name)
@@ -196,7 +197,7 @@ built_is most old (Some name) k t e =
       locals = p.1;
       stack =
           sym (append-nil (map (replaced old name) (below 1 k.stack)))
-          ∙ some_is _ t.stack (chosen _ (Some (map (replaced old name) (below 1 k.stack) ++ [])) t.stack p.0).1;
+          ∙ same_Some _ t.stack (guard_some _ (Some (map (replaced old name) (below 1 k.stack) ++ [])) t.stack p.0).1;
     }
 
 -- ---- printing
@@ -219,7 +220,7 @@ module _ {program : Program} {s : Shared} {f : Frame} {c : Linked} {b : Body} {i
       → length s.heap ≤ length heap → Fine program s f b (goes_with (record s { heap = heap; output = output }) f rest)
   pops vs rest wanted heap output e l d n g =
       takes_fine turn vs rest wanted (f.place + 1) (record s { heap = heap; output = output }) e (falls turn l) d n
-      (values_grow program s.heap heap g rest (each_behind (IsThere program s.heap) vs rest (stack_there (vs ++ rest) d)))
+      (values_grow program s.heap heap g rest (all_behind (IsThere program s.heap) vs rest (stack_there (vs ++ rest) d)))
       (slots_grow program s.heap heap g f.locals (turn.there).locals)
       (shared_grows program s heap output s.raised g turn.shared) g
 
@@ -229,7 +230,7 @@ module _ {program : Program} {s : Shared} {f : Frame} {c : Linked} {b : Body} {i
       → Fine program s f b (goes_with (record s { heap = heap }) f (v ∷ rest))
   turned vs rest wanted h v heap e l d n p q g =
       turns_fine turn vs rest wanted h v (record s { heap = heap }) e l d n p q
-      (values_grow program s.heap heap g rest (each_behind (IsThere program s.heap) vs rest (stack_there (vs ++ rest) d)))
+      (values_grow program s.heap heap g rest (all_behind (IsThere program s.heap) vs rest (stack_there (vs ++ rest) d)))
       (slots_grow program s.heap heap g f.locals (turn.there).locals)
       (shared_grows program s heap s.output s.raised g turn.shared) g
 
@@ -357,8 +358,8 @@ module _ {program : Program} {s : Shared} {f : Frame} {c : Linked} {b : Body} {i
           going turn (record s { heap = s.heap ++ throwable d ∷ [] }) (f.place + 1) f.locals (object (length s.heap) ∷ f.stack) (falls turn l)
           (subst (AreInSlots f.locals) made_is.1 (slots_without f.place f.locals k.locals turn.locals))
           (subst (IsStack (object (length s.heap) ∷ f.stack))
-          (some_is (k.stack ++ verification.uninit f.place ∷ []) t.stack
-          (chosen _ (Some (k.stack ++ verification.uninit f.place ∷ [])) t.stack made_is.0).1)
+          (same_Some (k.stack ++ verification.uninit f.place ∷ []) t.stack
+          (guard_some _ (Some (k.stack ++ verification.uninit f.place ∷ [])) t.stack made_is.0).1)
           (pushed (object (length s.heap)) f.stack (verification.uninit f.place) k.stack refl turn.stack))
           (slots_grow program s.heap (s.heap ++ throwable d ∷ []) g f.locals (turn.there).locals)
           (at_end s.heap (throwable d), values_grow program s.heap (s.heap ++ throwable d ∷ []) g f.stack (turn.there).stack)
@@ -376,7 +377,7 @@ module _ {program : Program} {s : Shared} {f : Frame} {c : Linked} {b : Body} {i
       parts : Built k t
       parts =
           built_is b.max_stack _ (class_built (ground_of b f.place) (slice_index_or (upper 1 k.stack) 0 verification.top)) k t
-          (chosen (accepts_all (wants.Anything ∷ []) (upper 1 k.stack)) _ t (stepped turn (kinds.builds (form [] [])) e)).1
+          (guard_some (accepts_all (wants.Anything ∷ []) (upper 1 k.stack)) _ t (stepped turn (kinds.builds (form [] [])) e)).1
 
       top : Top v stack k.stack
       top = top_of v stack k.stack (subst (λ x. IsStack x k.stack) q turn.stack)

@@ -1,12 +1,14 @@
 -- Each turn keeps a world fitting: effects, jumps and switches.
 use Rattle.std.proofs.Common.{◌≡◌, ⊎_elim, ℕ, zero, suc, ◌+◌, ◌-◌, ◌<◌, ℤ, pos, Bool, true, false, ◌&&◌, cond, List, [], ◌∷◌, ◌++◌}
-use Rattle.std.proofs.Common.{length, map, Option, Some, None, le_refl, nat_eq, nat_le, nat_lt, refl, sym, ◌∙◌, ap, subst, arith}
+use Rattle.std.proofs.Common.{length, Option, Some, None, le_refl, nat_eq, nat_le, nat_lt, refl, sym, ◌∙◌, ap, subst, arith}
 use Rattle.std.proofs.Common.{slice_index_or, eq-or-lt_of_le, le_of_suc-le-suc, int_lt, int_le, unsigned_abs, ◌-ℤ◌}
-use Rattle.std.proofs.lemmas.Bool.{eqb-true, eq-eqb}
+use Rattle.std.proofs.lemmas.Bool.{eqb-true, eq-eqb, and_parts, false≢true}
 use Rattle.std.specs.Prelude.{Contains}
 use Rattle.std.specs.List.{AllByRecursion}
+use Rattle.std.proofs.lemmas.Option.{same_Some}
+use Rattle.jc_bytes.proofs.OptionLaws.{none_some}
+use Rattle.jc_bytes.proofs.EachLaws.{all_behind}
 use Rattle.jc_methods.specs.declared.insn.Insn.{Insn}
-use Rattle.jc_methods.specs.declared.insn.Arm.{Arm}
 use Rattle.jc_methods.specs.declared.body.Body.{Body}
 use Rattle.jc_methods.specs.Flow.{FallsThrough, is_conditional_branch, targets_of}
 use Rattle.jc_methods.specs.VerificationTypes.{TypeState}
@@ -25,16 +27,13 @@ use Rattle.jc_machine_model.specs.Values.{Value, int, long, null}
 use Rattle.jc_machine_model.specs.Heap.{HeapObject}
 use Rattle.jc_machine_model.specs.World.{Frame, Shared}
 use Rattle.jc_machine_model.specs.Effects.{Effect, Move, gives, unfit, when, int_for, long_for, constant, moves_of, moved}
-use Rattle.jc_machine_model.specs.Effects.{results_at, stand_categories, divided, int_bits, int_pair, long_pair, long_shift}
-use Rattle.jc_machine_model.specs.Effects.{int_single, long_single, single, pair, has_one_operand, effect}
+use Rattle.jc_machine_model.specs.Effects.{results_at, stand_categories, divided, int_bits, int_pair, long_pair, long_shift, int_single, long_single, single, pair, has_one_operand, effect}
 use Rattle.jc_machine_model.specs.Results.{goes}
-use Rattle.jc_machine_model.specs.Jumps.{Tested, int_equal, zero_test, int_test, reference_test, null_test, test_of, by_test, by_switch}
-use Rattle.jc_plan.specs.Chosen.{table_target, lookup_target}
+use Rattle.jc_machine_model.specs.Jumps.{Tested, zero_test, int_test, reference_test, null_test, test_of, by_test, by_switch}
+use Rattle.jc_plan.specs.Chosen.{table_target}
 use Rattle.jc_machine_model.specs.Fits.{IsThere}
-use Rattle.jc_machine_model.proofs.BeginLaws.{both, none_some, some_is, false_true}
 use Rattle.jc_machine_model.specs.Effects as effects
 use Rattle.jc_machine_laws.proofs.StepLaws.{EffectThere, Turn, Fine, falls, leads, takes_fine}
-use Rattle.jc_machine_laws.proofs.GrowLaws.{each_behind}
 
 -- ---- what effects give is there
 
@@ -162,11 +161,11 @@ each_below p (suc n) = p n && each_below p n
 pub each_at : (p : ℕ → Bool) (n k : ℕ) → each_below p n ≡ true → k < n → p k ≡ true
 unfolding each_below
 each_at p zero k e lt = let l = lt in absurd (omega (arith, l))
-each_at p (suc n) k e lt = by (nat_eq k n) refl (λ l. each_at p n k (both (p n) (each_below p n) e).1 l)
+each_at p (suc n) k e lt = by (nat_eq k n) refl (λ l. each_at p n k (and_parts (p n) (each_below p n) e).1 l)
   where
     by : (b : Bool) → nat_eq k n ≡ b → (k < n → p k ≡ true) → p k ≡ true
-    by true q again = subst (λ j. p j ≡ true) (sym (eqb-true k n q)) (both (p n) (each_below p n) e).0
-    by false q again = again (less (λ f. false_true (sym q ∙ eq-eqb k n f)))
+    by true q again = subst (λ j. p j ≡ true) (sym (eqb-true k n q)) (and_parts (p n) (each_below p n) e).0
+    by false q again = again (less (λ f. false≢true (sym q ∙ eq-eqb k n f)))
       where
         less : (k ≡ n → ⊥) → k < n
         less h = ⊎_elim (λ f. absurd (h f)) (λ l. l) (eq-or-lt_of_le (let l = lt in le_of_suc-le-suc l))
@@ -201,14 +200,14 @@ record Takes (op : ℕ) : Type 0 where
 nothing_is : (gs : List Gives) → is_nothing gs ≡ true → gs ≡ []
 unfolding is_nothing
 nothing_is [] e = refl
-nothing_is (g ∷ gs) e = absurd (false_true e)
+nothing_is (g ∷ gs) e = absurd (false≢true e)
 
 takes_from : (op : ℕ) (forms : List StackEffect) → forms_at op ≡ forms → takes_so_many (operands_of op) forms ≡ true → Takes op
 unfolding takes_so_many
-takes_from op [] q e = absurd (false_true e)
-takes_from op (f ∷ g ∷ fs) q e = absurd (false_true e)
+takes_from op [] q e = absurd (false≢true e)
+takes_from op (f ∷ g ∷ fs) q e = absurd (false≢true e)
 takes_from op (f ∷ []) q e =
-    let p = both (is_nothing f.given) (nat_eq (length f.wanted) (operands_of op)) e in
+    let p = and_parts (is_nothing f.given) (nat_eq (length f.wanted) (operands_of op)) e in
     record { wanted = f.wanted; forms = q ∙ ap (λ gs. form f.wanted gs ∷ []) (nothing_is f.given p.0); count = eqb-true (length f.wanted) (operands_of op) p.1 }
 
 takes_of : (op : ℕ) → is_conditional_branch op ≡ true → op < 202 → Takes op
@@ -230,7 +229,7 @@ two_held : (n : ℕ) (v w : Value) (stack : List Value) → n ≡ 2 → (vs : Li
 two_held n v w stack e = (v ∷ w ∷ [], refl, sym e)
 
 left_is : (h : Bool) (stack : List Value) (t : Tested) → Some (record { jumps = h; stack = stack }) ≡ Some t → stack ≡ t.stack
-left_is h stack t e = ap (λ (x : Tested). x.stack) (some_is _ t e)
+left_is h stack t e = ap (λ (x : Tested). x.stack) (same_Some _ t e)
 
 Parts : ℕ → List Value → Tested → Type 0
 Parts n stack t = (vs : List Value) × (stack ≡ vs ++ t.stack) × (length vs ≡ n)
@@ -296,20 +295,6 @@ table_among low default arms key = by (int_lt key low)
     by true = (0, omega arith, refl)
     by false = arm_among arms default (unsigned_abs (key -ℤ low))
 
-pub lookup_among : (default : ℕ) (arms : List Arm) (key : ℤ) → Contains (default ∷ map (λ (a : Arm). a.to) arms) (lookup_target default arms key)
-lookup_among default [] key = (0, omega arith, refl)
-lookup_among default (arm ∷ arms) key = by (int_equal arm.key key) (lookup_among default arms key)
-  where
-    more : Contains (default ∷ map (λ (a : Arm). a.to) arms) (lookup_target default arms key)
-        → Contains (default ∷ arm.to ∷ map (λ (a : Arm). a.to) arms) (lookup_target default arms key)
-    more (zero, lt, e) = (0, omega arith, e)
-    more (suc j, lt, e) = (suc (suc j), (let l = lt in omega (arith, l)), e)
-
-    by : (b : Bool) → Contains (default ∷ map (λ (a : Arm). a.to) arms) (lookup_target default arms key)
-        → Contains (default ∷ arm.to ∷ map (λ (a : Arm). a.to) arms) (cond b arm.to (lookup_target default arms key))
-    by true h = (1, omega arith, refl)
-    by false h = more h
-
 module _ {program : Program} {s : Shared} {f : Frame} {c : Linked} {b : Body} {insn : Insn} {k t : TypeState} (turn : Turn program s f c b insn k t) where
   pub tests_fine : (op to : ℕ) → step_of b.uses (returns_of b) insn ≡ kinds.moves (forms_at op) → is_conditional_branch op ≡ true
       → op < 202 → LeadsTo b f.place to → FallsThrough insn → (o : Option Tested) → test_of op f.stack ≡ o
@@ -321,7 +306,7 @@ module _ {program : Program} {s : Shared} {f : Frame} {c : Linked} {b : Body} {i
       let p = test_parts op f.stack tested q in
       takes_fine turn p.0 tested.stack w.wanted (cond tested.jumps to (f.place + 1)) s (e ∙ ap kinds.moves w.forms)
       (chosen_leads tested.jumps) p.1 (w.count ∙ sym p.2)
-      (each_behind (IsThere program s.heap) p.0 tested.stack
+      (all_behind (IsThere program s.heap) p.0 tested.stack
       (subst (AllByRecursion (IsThere program s.heap)) p.1 (turn.there).stack)) (turn.there).locals turn.shared
       (le_refl (length s.heap))
     where

@@ -12,10 +12,6 @@ pub each_to : {X : Type 0} (P Q : X → Type 0) (xs : List X) → ((x : X) → P
 each_to P Q [] h p = tt
 each_to P Q (x ∷ xs) h p = (h x p.0, each_to P Q xs h p.1)
 
-pub each_behind : {X : Type 0} (P : X → Type 0) (xs ys : List X) → AllByRecursion P (xs ++ ys) → AllByRecursion P ys
-each_behind P [] ys h = h
-each_behind P (x ∷ xs) ys h = each_behind P xs ys h.1
-
 pub longer : (heap : List HeapObject) (x : HeapObject) → length heap ≤ length (heap ++ x ∷ [])
 longer heap x = let e = length-append heap (x ∷ []) in omega (arith, e)
 

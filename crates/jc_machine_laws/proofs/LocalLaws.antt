@@ -2,6 +2,7 @@
 use Rattle.std.proofs.Common.{◌≡◌, ℕ, zero, suc, ◌+◌, ℤ, Bool, true, false, cond, List, [], ◌∷◌, Option, Some, None, refl, sym}
 use Rattle.std.proofs.Common.{subst, slice_set, slice_index_or}
 use Rattle.std.specs.List.{AllByRecursion}
+use Rattle.std.proofs.lemmas.Bool.{false≢true}
 use Rattle.jc_methods.specs.VerificationTypes.{VerificationType}
 use Rattle.jc_methods.specs.VerificationTypes as verification
 use Rattle.jc_programs.specs.declared.program.Program.{Program}
@@ -10,7 +11,6 @@ use Rattle.jc_machine_model.specs.Values.{Value, long, is_pair}
 use Rattle.jc_machine_model.specs.Heap.{HeapObject}
 use Rattle.jc_machine_model.specs.Locals.{is_pair_there, clear_before, clear_behind, put_local}
 use Rattle.jc_machine_model.specs.Fits.{IsInSlot, AreInSlots, IsOfVerificationType, IsThere, IsThereInSlot}
-use Rattle.jc_machine_model.proofs.BeginLaws.{false_true}
 
 pub read_fits : (locals : List (Option Value)) (ks : List VerificationType) (k : ℕ) → AreInSlots locals ks
     → IsInSlot (slice_index_or locals k None) (slice_index_or ks k verification.top)
@@ -55,15 +55,15 @@ long_in_slot x verification.int p = absurd p
 long_in_slot x verification.float p = absurd p
 long_in_slot x verification.double p = absurd p
 long_in_slot x verification.long p = tt
-long_in_slot x verification.null p = absurd (false_true p)
-long_in_slot x verification.uninit_this p = absurd (false_true p)
-long_in_slot x (verification.object name) p = absurd (false_true p)
-long_in_slot x (verification.uninit at) p = absurd (false_true p)
+long_in_slot x verification.null p = absurd (false≢true p)
+long_in_slot x verification.uninit_this p = absurd (false≢true p)
+long_in_slot x (verification.object name) p = absurd (false≢true p)
+long_in_slot x (verification.uninit at) p = absurd (false≢true p)
 
 long_cleared : (l : Option Value) (h : VerificationType) → is_pair_there l ≡ true → IsInSlot l h → IsInSlot None (kinds.cleared h)
-long_cleared None h e p = absurd (false_true e)
+long_cleared None h e p = absurd (false≢true e)
 long_cleared (Some (long x)) h e p = long_in_slot x h p
-long_cleared (Some v) h e p = absurd (false_true e)
+long_cleared (Some v) h e p = absurd (false≢true e)
 
 clear_fits : (locals : List (Option Value)) (ks : List VerificationType) (k : ℕ) → AreInSlots locals ks
     → AreInSlots (clear_before k locals) (kinds.clear_before k ks)

@@ -2,10 +2,11 @@
 -- moves of the machine, with the same places.
 use Rattle.std.proofs.Common.{◌≡◌, ◌⊎◌, inl, inr, ℕ, ◌-◌, Bool, true, false, ◌&&◌, cond, if◌then◌else◌, List, [], ◌∷◌, ◌++◌, length}
 use Rattle.std.proofs.Common.{drop, reverse, map, Some, nat_eq, refl, sym, ◌∙◌, ap, subst, arith, take-append-drop, ⊎_elim}
-use Rattle.std.proofs.lemmas.Bool.{and_parts, and_from, eqb-true}
+use Rattle.std.proofs.lemmas.Bool.{and_parts, and_from, eqb-true, false≢true}
 use Rattle.std.proofs.lemmas.List.{reverse-append, reverse-reverse, length-reverse, length-map}
 use mathlib.Core.List.{reverse_aux}
 use Rattle.std.specs.List.{list_all}
+use Rattle.jc_bytes.proofs.OptionLaws.{none_some}
 use Rattle.jc_methods.specs.VerificationTypes.{VerificationType}
 use Rattle.jc_methods.specs.VerificationTypes as verification
 use Rattle.jc_methods.specs.Opcode as opcode
@@ -17,7 +18,6 @@ use Rattle.jc_kinds_after.specs.Table.{form, table, forms_at}
 use Rattle.jc_machine_model.specs.Values.{Value, is_pair}
 use Rattle.jc_machine_model.specs.Effects.{Effect, Category, category_1, category_2, Move, moves_of, moved, gives, has_category, stand_categories, results_at}
 use Rattle.jc_machine_model.specs.Fits.{IsOfVerificationType, AreOfVerificationTypes, IsStack}
-use Rattle.jc_machine_model.proofs.BeginLaws.{none_some, false_true}
 use Rattle.jc_machine_laws.specs.Laws.{Leaves}
 use Rattle.jc_machine_laws.proofs.StackLaws.{pair_as_type, limited_is}
 use Rattle.jc_machine_laws.proofs.PlaceLaws.{types_at, places_keep_types, items_at, are_below_count, types_given}
@@ -31,8 +31,8 @@ want_for category_1 = wants.Single
 want_for category_2 = wants.Pair
 
 pub single_type : (h : VerificationType) → accepts wants.Single h ≡ true → verification.is_pair h ≡ false
-single_type verification.double a = absurd (false_true a)
-single_type verification.long a = absurd (false_true a)
+single_type verification.double a = absurd (false≢true a)
+single_type verification.long a = absurd (false≢true a)
 single_type h a = refl
 
 pub category_is : (category : Category) (v : Value) (h : VerificationType) → IsOfVerificationType v h
@@ -45,7 +45,7 @@ pub categories_stand : (categories : List Category) (stack : List Value) (types 
     → AreOfVerificationTypes stack (types ++ low) → accepts_all (map want_for categories) types ≡ true
     → stand_categories categories stack ≡ true
 categories_stand [] stack types low p a = refl
-categories_stand (category ∷ categories) stack [] low p a = absurd (false_true a)
+categories_stand (category ∷ categories) stack [] low p a = absurd (false≢true a)
 categories_stand (category ∷ categories) [] (h ∷ types) low p a = absurd p
 categories_stand (category ∷ categories) (v ∷ stack) (h ∷ types) low p a =
     let b = and_parts (accepts (want_for category) h) _ a in
@@ -53,16 +53,16 @@ categories_stand (category ∷ categories) (v ∷ stack) (h ∷ types) low p a =
 
 pub accepted_length : (ws : List Want) (ks : List VerificationType) → accepts_all ws ks ≡ true → length ks ≡ length ws
 accepted_length [] [] e = refl
-accepted_length [] (h ∷ ks) e = absurd (false_true e)
-accepted_length (w ∷ ws) [] e = absurd (false_true e)
+accepted_length [] (h ∷ ks) e = absurd (false≢true e)
+accepted_length (w ∷ ws) [] e = absurd (false≢true e)
 accepted_length (w ∷ ws) (h ∷ ks) e =
     let l = accepted_length ws ks (and_parts (accepts w h) (accepts_all ws ks) e).1 in grind (arith, l)
 
 pub accepted_reverse : (ws vs : List Want) (ks hs : List VerificationType) → accepts_all ws ks ≡ true → accepts_all vs hs ≡ true
     → accepts_all (reverse_aux ws vs) (reverse_aux ks hs) ≡ true
 accepted_reverse [] vs [] hs a b = b
-accepted_reverse [] vs (h ∷ ks) hs a b = absurd (false_true a)
-accepted_reverse (w ∷ ws) vs [] hs a b = absurd (false_true a)
+accepted_reverse [] vs (h ∷ ks) hs a b = absurd (false≢true a)
+accepted_reverse (w ∷ ws) vs [] hs a b = absurd (false≢true a)
 accepted_reverse (w ∷ ws) vs (h ∷ ks) hs a b =
     let c = and_parts (accepts w h) (accepts_all ws ks) a in
     accepted_reverse ws (w ∷ vs) ks (h ∷ hs) c.1 (and_from _ _ c.0 b)
@@ -107,15 +107,15 @@ differ (c ∷ cs) (d ∷ ds) = true
 differ _ _ = false
 
 pub not_single : (b : Bool) → (if b then false else true) ≡ true → b ≡ true → ⊥
-not_single true e p = false_true e
-not_single false e p = false_true p
+not_single true e p = false≢true e
+not_single false e p = false≢true p
 
 pub not_both : (cs ds : List Category) (stack : List Value) → differ cs ds ≡ true → stand_categories cs stack ≡ true
     → stand_categories ds stack ≡ true → ⊥
-not_both [] ds stack e p q = false_true e
-not_both (category_1 ∷ cs) [] stack e p q = false_true e
-not_both (category_2 ∷ cs) [] stack e p q = false_true e
-not_both (c ∷ cs) (d ∷ ds) [] e p q = false_true p
+not_both [] ds stack e p q = false≢true e
+not_both (category_1 ∷ cs) [] stack e p q = false≢true e
+not_both (category_2 ∷ cs) [] stack e p q = false≢true e
+not_both (c ∷ cs) (d ∷ ds) [] e p q = false≢true p
 not_both (category_1 ∷ cs) (category_1 ∷ ds) (v ∷ stack) e p q =
     not_both cs ds stack e (and_parts _ (stand_categories cs stack) p).1 (and_parts _ (stand_categories ds stack) q).1
 not_both (category_2 ∷ cs) (category_2 ∷ ds) (v ∷ stack) e p q =
@@ -164,7 +164,7 @@ taken_by _ = 0
 pub taken_is : (cs : List Category) (places : List ℕ) (stack : List Value) → stand_categories cs stack ≡ true
     → taken_by (moved (record { categories = cs; results = places } ∷ []) stack) ≡ length cs
 taken_is [] places stack s = refl
-taken_is (c ∷ cs) places [] s = absurd (false_true s)
+taken_is (c ∷ cs) places [] s = absurd (false≢true s)
 taken_is (c ∷ cs) places (v ∷ stack) s =
     let b = and_parts (has_category c v) (stand_categories cs stack) s in
     let l = rw b.1 at (taken_is cs places stack b.1) in
@@ -200,7 +200,7 @@ moves_leave most (m ∷ moves) stack ks t w p e =
         → Leaves t stack (moved (m ∷ moves) stack)
     by true s c others = rw s (⊎_elim (fitting _ (rw s at (taken_is m.categories m.results stack s)))
         (λ r. absurd (no_other most m.categories moves stack ks t rest.0 rest.1 s p r)) c)
-    by false s c others = rw s (⊎_elim (λ q. absurd (false_true (sym s ∙ (move_fits m stack ks forms.0 p q.0).stand))) others c)
+    by false s c others = rw s (⊎_elim (λ q. absurd (false≢true (sym s ∙ (move_fits m stack ks forms.0 p q.0).stand))) others c)
 
 -- ---- the opcodes
 

@@ -11,8 +11,7 @@ use Rattle.jc_kinds_after.specs.Step.{kind, below, moved_by}
 use Rattle.jc_kinds_after.specs.Table.{form, table, forms_at}
 use Rattle.jc_kinds_after.specs.declared.want.Want.TheVariants as wants
 use Rattle.jc_machine_model.specs.Values.{Value, int, long, null}
-use Rattle.jc_machine_model.specs.Effects.{Effect, gives, unfit, when, int_for, long_for, constant, divided, int_bits, int_pair}
-use Rattle.jc_machine_model.specs.Effects.{long_pair, long_shift, int_single, long_single, single, pair, effect}
+use Rattle.jc_machine_model.specs.Effects.{Effect, gives, unfit, when, int_for, long_for, constant, divided, int_bits, int_pair, long_pair, long_shift, int_single, long_single, single, pair}
 use Rattle.jc_machine_model.specs.Fits.{IsOfVerificationType, IsStack}
 use Rattle.jc_machine_model.specs.Effects as effects
 use Rattle.jc_machine_laws.specs.Laws.{Leaves}

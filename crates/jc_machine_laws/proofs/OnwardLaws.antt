@@ -1,12 +1,14 @@
 -- Frames that go on: where an instruction leads, and at a handler.
 use Rattle.std.proofs.Common.{◌≡◌, ◌⊎◌, inl, inr, ⊎_elim, ℕ, zero, suc, ◌+◌, ◌<◌, ◌≤◌, Bool, true, false, not, cond, List, [], ◌∷◌}
-use Rattle.std.proofs.Common.{◌++◌, length, Option, Some, None, get_or, reverse, codes, le_trans, nat_eq, nat_le, nat_lt, refl, sym}
+use Rattle.std.proofs.Common.{◌++◌, length, Option, Some, None, reverse, codes, le_trans, nat_eq, nat_le, nat_lt, refl, sym}
 use Rattle.std.proofs.Common.{◌∙◌, ap, subst, arith}
-use Rattle.std.proofs.lemmas.Bool.{ltb-true, leb-true}
+use Rattle.std.proofs.lemmas.Bool.{ltb-true, leb-true, and_parts}
 use Rattle.std.proofs.lemmas.List.{reverse-append}
-use Rattle.std.proofs.lemmas.Option.{slice_get_within}
+use Rattle.std.proofs.lemmas.Option.{slice_get_within, same_Some}
 use Rattle.std.specs.Prelude.{All, Contains, slice_get, option_and_then, find, filter}
 use Rattle.std.specs.List.{AllByRecursion}
+use Rattle.jc_bytes.proofs.OptionLaws.{none_some}
+use Rattle.jc_bytes.proofs.ListLaws.{each_in, item_at}
 use Rattle.jc_methods.specs.declared.insn.Insn.{Insn}
 use Rattle.jc_methods.specs.declared.body.Handler.{Handler}
 use Rattle.jc_methods.specs.declared.body.Body.{Body}
@@ -30,9 +32,8 @@ use Rattle.jc_machine_model.specs.Heap.{HeapObject}
 use Rattle.jc_machine_model.specs.World.{Frame}
 use Rattle.jc_machine_model.specs.Methods.{is_plain}
 use Rattle.jc_machine_model.specs.Step.{handles, handler_in, handler_of, caught, unwound, is_init_method, counted_frames}
-use Rattle.jc_machine_model.specs.Fits.{IsReference, AreInSlots, IsOfVerificationType, AreOfVerificationTypes, IsStack, IsThere}
-use Rattle.jc_machine_model.specs.Fits.{AreThereIn, StandsIn, FitsTop, FitEachWaiting, FitsRunning, FitsThread}
-use Rattle.jc_machine_model.proofs.BeginLaws.{both, all_at, slot_fits, slots_fit, there_is, none_some, some_is}
+use Rattle.jc_machine_model.specs.Fits.{IsReference, AreInSlots, IsOfVerificationType, AreOfVerificationTypes, IsStack, IsThere, AreThereIn, StandsIn, FitsTop, FitEachWaiting, FitsRunning, FitsThread}
+use Rattle.jc_machine_model.proofs.BeginLaws.{all_at, slot_fits, slots_fit, there_is}
 use Rattle.jc_machine_laws.proofs.LocalLaws.{to_slot, from_slot}
 
 -- ---- lists
@@ -48,24 +49,16 @@ found_in p [] x e = absurd (none_some e)
 found_in p (y ∷ xs) x e = by (p y) refl e (λ q. found_in p xs x q)
   where
     by : (b : Bool) → p y ≡ b → cond b (Some y) (find p xs) ≡ Some x → (find p xs ≡ Some x → (p x ≡ true) × Contains xs x) → (p x ≡ true) × Contains (y ∷ xs) x
-    by true q f again = (subst (λ z. p z ≡ true) (some_is y x f) q, subst (λ z. Contains (y ∷ xs) z) (some_is y x f) (first_in y xs))
+    by true q f again = (subst (λ z. p z ≡ true) (same_Some y x f) q, subst (λ z. Contains (y ∷ xs) z) (same_Some y x f) (first_in y xs))
     by false q f again = let r = again f in (r.0, later_in y xs x r.1)
 
 all_in : {X : Type 0} (P : X → Type 0) (xs : List X) (x : X) → All P xs → Contains xs x → P x
 all_in P xs x h c = subst P c.2 (h c.0 x c.1)
 
-each_in : {X : Type 0} (P : X → Type 0) (xs : List X) (x : X) → AllByRecursion P xs → Contains xs x → P x
-each_in {X = X} P xs x h c = by xs c.0 h c.1 c.2
-  where
-    by : (xs : List X) (k : ℕ) → AllByRecursion P xs → k < length xs → get_or xs k x ≡ x → P x
-    by [] k h lt e = let l = lt in absurd (omega (arith, l))
-    by (y ∷ xs) zero h lt e = subst P e h.0
-    by (y ∷ xs) (suc k) h lt e = by xs k h.1 (let l = lt in omega (arith, l)) e
-
 -- an instruction behind which none stands is the last
 split_last : {X : Type 0} (xs : List X) (i : ℕ) (x : X) → slice_get xs i ≡ Some x → (i + 1 < length xs) ⊎ ((before : List X) × (xs ≡ before ++ x ∷ []))
 split_last [] i x e = absurd (none_some e)
-split_last (y ∷ []) zero x e = inr ([], ap (λ z. z ∷ []) (some_is y x e))
+split_last (y ∷ []) zero x e = inr ([], ap (λ z. z ∷ []) (same_Some y x e))
 split_last (y ∷ []) (suc i) x e = absurd (none_some e)
 split_last (y ∷ z ∷ xs) zero x e = inl (omega arith)
 split_last (y ∷ z ∷ xs) (suc i) x e = ⊎_elim (λ lt. inl (omega (arith, lt))) (λ p. inr (y ∷ p.0, ap (λ l. y ∷ l) p.1)) (split_last (z ∷ xs) i x e)
@@ -80,11 +73,6 @@ pub record Here (program : Program) (f : Frame) (c : Linked) (b : Body) (insn : 
   pub insn_is : slice_get b.code f.place ≡ Some insn
   pub state_is : state_of program.names b f.place ≡ Some s
   pub whole : IsProgramBody program.names b
-
-item_at : {X : Type 0} (xs : List X) (k : ℕ) → k < length xs → (x : X) × (slice_get xs k ≡ Some x)
-item_at [] k lt = let l = lt in absurd (omega (arith, l))
-item_at (x ∷ xs) zero lt = (x, refl)
-item_at (x ∷ xs) (suc k) lt = item_at xs k (let l = lt in omega (arith, l))
 
 pub whole_body : (program : Program) (f : Frame) (c : Linked) (b : Body) → IsProgram program
     → class_at program f.method.class ≡ Some c → slice_get c.bodies f.method.method ≡ Some b → IsProgramBody program.names b
@@ -197,8 +185,8 @@ one_kind v h y p e = stack_fits (v ∷ []) (h ∷ []) y (p, tt) e
 guarded : (b : Body) (place : ℕ) (c : Thrown) (row : Handler) → find (handles b place c) b.handlers ≡ Some row → Guards b row place
 guarded b place c row e =
     let p = found_in (handles b place c) b.handlers row e in
-    let q = both (nat_le row.start place) _ p.0 in
-    let r = both (nat_lt place row.end) _ q.1 in
+    let q = and_parts (nat_le row.start place) _ p.0 in
+    let r = and_parts (nat_lt place row.end) _ q.1 in
     record { row = p.1; start = leb-true row.start place q.0; end = ltb-true place row.end r.0 }
 
 pub caught_fits : (program : Program) (f : Frame) (c : Linked) (b : Body) (insn : Insn) (s : TypeState) (thrown : Thrown)

@@ -1,14 +1,16 @@
 -- Each turn keeps a world fitting: each instruction that names something in the pool.
 use Rattle.std.proofs.Common.{◌≡◌, ◌≢◌, inl, ℕ, Bool, true, false, not, ◌&&◌, ◌||◌, cond, List, [], ◌∷◌, Option, Some, None}
 use Rattle.std.proofs.Common.{is_some, codes, nat_eq, refl, sym, ◌∙◌, ap, subst}
-use Rattle.std.proofs.lemmas.Bool.{eqb-true}
-use Rattle.std.proofs.lemmas.Slice.Eq.{bytes_eq-Decides}
+use Rattle.std.proofs.lemmas.Bool.{eqb-true, and_parts, false≢true}
 use Rattle.std.specs.Prelude.{slice_get, option_and_then, bytes_eq}
+use Rattle.std.proofs.lemmas.Option.{same_Some}
 use Rattle.jc_bytes.specs.Descriptor.{FieldType, Boolean, Object, Array, field_text}
+use Rattle.jc_bytes.proofs.OptionLaws.{none_some, then_some}
+use Rattle.jc_bytes.proofs.TextEqualLaws.{bytes_are}
 use Rattle.jc_methods.specs.declared.body.Body.{Body}
 use Rattle.jc_methods.specs.declared.body.What.{What}
 use Rattle.jc_methods.specs.DescriptorTypes.{types_from, rest_from, field_type_in, method_type_in}
-use Rattle.jc_methods.specs.VerificationTypes.{VerificationType, TypeState}
+use Rattle.jc_methods.specs.VerificationTypes.{TypeState}
 use Rattle.jc_methods.specs.ProbeMembers.{init_type, fetch_type, fetch_name, runtime_class}
 use Rattle.jc_methods.specs.WellMade.{what_used}
 use Rattle.jc_methods.specs.declared.insn.Insn.TheVariants as insns
@@ -21,7 +23,7 @@ use Rattle.jc_programs.specs.declared.program.ProbeInit.{ProbeInit}
 use Rattle.jc_programs.specs.declared.run_end.Entry.{Entry}
 use Rattle.jc_programs.specs.declared.run_end.Thrown.{Thrown}
 use Rattle.jc_programs.specs.Members.{class_named, class_at, static_named}
-use Rattle.jc_kinds_after.specs.Step.{kind, Step}
+use Rattle.jc_kinds_after.specs.Step.{kind}
 use Rattle.jc_kinds_after.specs.Table.{form}
 use Rattle.jc_kinds_after.specs.After.{want_of, field_step, method_step, member_step, constant_step, class_step, step_of, returns_of}
 use Rattle.jc_kinds_after.specs.declared.want.Want.TheVariants as wants
@@ -31,23 +33,17 @@ use Rattle.jc_machine_model.specs.Programs.{IsProgram}
 use Rattle.jc_machine_model.specs.Values.{int, long, print_stream, text, computational_type}
 use Rattle.jc_machine_model.specs.World.{Frame, Shared}
 use Rattle.jc_machine_model.specs.Operations.{Printed, an_int_line, a_long_line, a_boolean_line, an_empty_line, pushes, gets, puts, outside}
-use Rattle.jc_machine_model.specs.Profile.{Location, in_init, init_of, constant_operation, long_operation, may_name_field}
-use Rattle.jc_machine_model.specs.Profile.{field_operation, declared_field, linked_field, is_print_stream, field_named}
+use Rattle.jc_machine_model.specs.Profile.{Location, in_init, init_of, constant_operation, long_operation, may_name_field, field_operation, declared_field, linked_field, is_print_stream, field_named}
 use Rattle.jc_machine_model.specs.Profile.{may_name_method, entered_if, body_entered, class_entered, method_entered, callee_named}
 use Rattle.jc_machine_model.specs.Profile.{is_fetch, init_call, static_call, printed_by, print_operation, virtual_call, made_class}
-use Rattle.jc_machine_model.specs.Profile.{build_operation, special_call, call_named, member_operation, make_operation}
-use Rattle.jc_machine_model.specs.Profile.{class_operation}
+use Rattle.jc_machine_model.specs.Profile.{build_operation, special_call, call_named, member_operation, make_operation, class_operation}
 use Rattle.jc_machine_model.specs.Perform.{perform}
 use Rattle.jc_machine_model.specs.Fits.{HasProbes, HasText, IsThere, named_by, StandsAtCall}
-use Rattle.jc_machine_model.proofs.BeginLaws.{both, none_some, some_is, false_true, then_some}
 use Rattle.jc_machine_laws.proofs.StepLaws.{Turn, Fine, pushes_fine}
 use Rattle.jc_machine_laws.proofs.ElementLaws.{makes_fine, builds_fine, printed_wants, prints_fine, fetches_fine}
 use Rattle.jc_machine_laws.proofs.StaticLaws.{gets_fine, puts_fine}
 use Rattle.jc_machine_laws.proofs.CallLaws.{calls_fine}
 use Rattle.jc_machine_laws.proofs.ReturnLaws.{at_of, located_is}
-
-bytes_are : (x y : List ℕ) → bytes_eq x y ≡ true → x ≡ y
-bytes_are x y e = (bytes_eq-Decides x y).0 e
 
 some_there : {X : Type 0} (x : X) → Some x ≡ None → ⊥
 some_there x e = cc
@@ -66,7 +62,7 @@ text_there : (at : Location) → is_some (init_of at) ≡ true → at.linked.pro
 text_there at e = by (init_of at) refl e
   where
     by : (o : Option ProbeInit) → init_of at ≡ o → is_some o ≡ true → at.linked.probes ≢ None
-    by None q e = absurd (false_true e)
+    by None q e = absurd (false≢true e)
     by (Some init) q e = λ g. some_there init (sym (init_there at init q) ∙ g)
 
 -- ---- descriptors
@@ -96,7 +92,7 @@ printed_step name desc printed e =
         → method_step opcode.invokevirtual name (method_type_in desc) ≡ kinds.moves (form (printed_wants printed) [] ∷ [])
     to d x q g h =
         ap (λ y. method_step opcode.invokevirtual name (method_type_in y)) (bytes_are desc d q) ∙ h
-        ∙ ap (λ y. kinds.moves (form (printed_wants y) [] ∷ [])) (some_is x printed g)
+        ∙ ap (λ y. kinds.moves (form (printed_wants y) [] ∷ [])) (same_Some x printed g)
 
     by : (b1 : Bool) → bytes_eq desc (codes "(I)V") ≡ b1 → (b2 : Bool) → bytes_eq desc (codes "(J)V") ≡ b2 → (b3 : Bool)
         → bytes_eq desc (codes "(Z)V") ≡ b3 → (b4 : Bool) → bytes_eq desc (codes "()V") ≡ b4
@@ -207,9 +203,9 @@ module _ {program : Program} {s : Shared} {f : Frame} {c : Linked} {b : Body} {k
           → step_of b.uses (returns_of b) (insns.Member op place) ≡ kinds.moves
           (form [] (kind (verification.object (codes "java/io/PrintStream")) ∷ []) ∷ [])
       stream_is e =
-          let p = both (nat_eq op opcode.getstatic) _ e in
-          let q = both (bytes_eq class (codes "java/lang/System")) _ p.1 in
-          let r = both (bytes_eq name (codes "out")) (bytes_eq desc (codes "Ljava/io/PrintStream;")) q.1 in
+          let p = and_parts (nat_eq op opcode.getstatic) _ e in
+          let q = and_parts (bytes_eq class (codes "java/lang/System")) _ p.1 in
+          let r = and_parts (bytes_eq name (codes "out")) (bytes_eq desc (codes "Ljava/io/PrintStream;")) q.1 in
           field_is opcode.getstatic p.0 ∙ ap (λ x. field_step opcode.getstatic (field_type_in x))
           (bytes_are desc (codes "Ljava/io/PrintStream;") r.1) ∙ ap (field_step opcode.getstatic) stream_type
 
@@ -235,7 +231,7 @@ module _ {program : Program} {s : Shared} {f : Frame} {c : Linked} {b : Body} {k
       may_name callee body e g =
           let p : (nat_eq f.place 0 && nat_eq f.method.class callee.class) ≡ true =
           ap (λ z. not z || (nat_eq f.place 0 && nat_eq f.method.class callee.class)) (sym g) ∙ e in
-          let q = both (nat_eq f.place 0) (nat_eq f.method.class callee.class) p in
+          let q = and_parts (nat_eq f.place 0) (nat_eq f.method.class callee.class) p in
           (eqb-true f.place 0 q.0, eqb-true f.method.class callee.class q.1)
 
       at_call : (callee : Entry) → nat_eq op opcode.invokestatic ≡ true → callee_named program class name desc ≡ Some callee → StandsAtCall program f callee
@@ -257,7 +253,7 @@ module _ {program : Program} {s : Shared} {f : Frame} {c : Linked} {b : Body} {k
               → Fine program s f b (perform (entered_if z callee body) s f)
           in_body d p body q false r = tt
           in_body d p body q true r =
-              let y = both (is_enterable d body) (may_name_method (at_of f c b) callee.class body.name) r in
+              let y = and_parts (is_enterable d body) (may_name_method (at_of f c b) callee.class body.name) r in
               calls_fine turn callee d body whole p q y.0 n (may_name callee body y.1) (at_call callee e g)
 
           in_bodies : (d : Linked) → class_at program callee.class ≡ Some d → (o : Option Body)
@@ -273,8 +269,8 @@ module _ {program : Program} {s : Shared} {f : Frame} {c : Linked} {b : Body} {k
           → init_of (at_of f c b) ≡ o → Fine program s f b (perform (init_call (at_of f c b) z o) s f)
       unfolding perform Fine
       asking e true g (Some init) i =
-          let p = both (bytes_eq class runtime_class) _ g in
-          let q = both (bytes_eq name fetch_name) (bytes_eq desc fetch_type) p.1 in
+          let p = and_parts (bytes_eq class runtime_class) _ g in
+          let q = and_parts (bytes_eq name fetch_name) (bytes_eq desc fetch_type) p.1 in
           fetches_fine turn f.method.class init (field_text (Array Boolean))
           (method_is opcode.invokestatic e
           ∙ ap (λ x. method_step opcode.invokestatic name (method_type_in x)) (bytes_are desc fetch_type q.1) ∙ asked) (inl refl)
@@ -312,8 +308,8 @@ module _ {program : Program} {s : Shared} {f : Frame} {c : Linked} {b : Body} {k
               → (o : Option Thrown) → Fine program s f b (perform (build_operation o) s f)
           builds g None = tt
           builds g (Some d) =
-              let p = both (not (in_init (at_of f c b))) _ g in
-              let q = both (bytes_eq name (codes "<init>")) (bytes_eq desc (codes "()V")) p.1 in
+              let p = and_parts (not (in_init (at_of f c b))) _ g in
+              let q = and_parts (bytes_eq name (codes "<init>")) (bytes_eq desc (codes "()V")) p.1 in
               builds_fine turn d (method_is opcode.invokespecial e
               ∙ ap (λ x. method_step opcode.invokespecial x (method_type_in desc)) (bytes_are name (codes "<init>") q.0)
               ∙ ap (λ x. method_step opcode.invokespecial (codes "<init>") (method_type_in x))

@@ -1,11 +1,12 @@
 -- Each turn keeps a world fitting: a frame that waited goes on behind its call.
 use Rattle.std.proofs.Common.{◌≡◌, inl, ℕ, ◌+◌, is_some, Bool, true, false, ◌&&◌, cond, List, [], ◌∷◌, ◌++◌, length, map, Option}
-use Rattle.std.proofs.Common.{Some, None, nat_eq, refl, sym, ◌∙◌, ap, subst, arith, append-nil}
-use Rattle.std.proofs.lemmas.Bool.{eqb-true}
-use Rattle.std.proofs.lemmas.Option.{slice_get_within}
+use Rattle.std.proofs.Common.{Some, None, nat_eq, refl, sym, ◌∙◌, ap, subst, append-nil}
+use Rattle.std.proofs.lemmas.Bool.{eqb-true, and_parts}
+use Rattle.std.proofs.lemmas.Option.{slice_get_within, same_Some}
 use Rattle.std.proofs.lemmas.Slice.Eq.{bytes_eq-Decides}
 use Rattle.std.specs.Prelude.{slice_get, option_and_then, bytes_eq}
 use Rattle.jc_bytes.specs.Descriptor.{FieldType}
+use Rattle.jc_bytes.proofs.OptionLaws.{none_some, some_there, map_some, then_some}
 use Rattle.jc_methods.specs.declared.insn.Insn.{Insn}
 use Rattle.jc_methods.specs.declared.body.Body.{Body}
 use Rattle.jc_methods.specs.declared.body.Use.{Use}
@@ -22,7 +23,7 @@ use Rattle.jc_programs.specs.declared.program.Program.{Program}
 use Rattle.jc_programs.specs.declared.program.Linked.{Linked}
 use Rattle.jc_programs.specs.declared.run_end.Entry.{Entry}
 use Rattle.jc_programs.specs.Members.{class_named, class_at, method_named}
-use Rattle.jc_kinds_after.specs.Step.{Gives, kind, StackEffect, below, upper, given_of, moved_by, apply}
+use Rattle.jc_kinds_after.specs.Step.{below, upper, given_of, moved_by, apply}
 use Rattle.jc_kinds_after.specs.After.{want_of, result_of, call_form, member_step, step_of, returns_of, ground_of, after_of}
 use Rattle.jc_kinds_after.specs.Step as kinds
 use Rattle.jc_machine_model.specs.Programs.{IsProgram}
@@ -32,12 +33,12 @@ use Rattle.jc_machine_model.specs.World.{Frame}
 use Rattle.jc_machine_model.specs.Profile.{Location, method_in, callee_named}
 use Rattle.jc_machine_model.specs.Step.{LocatedInsn, located_in_body, located_in_class, located, given_back}
 use Rattle.jc_machine_model.specs.Fits.{AreInSlots, IsStack, FitsTop, named_by, called_by, parameter_count, FitsWaiting}
-use Rattle.jc_machine_model.proofs.BeginLaws.{both, none_some, some_is, then_some, map_some, no_body}
+use Rattle.jc_machine_model.proofs.BeginLaws.{no_body, map_length}
 use Rattle.jc_machine_laws.proofs.OnwardLaws.{Here, here_of, after_there, onward}
 use Rattle.jc_machine_laws.proofs.StackLaws.{below_is, pushed, one_moved}
 use Rattle.jc_machine_laws.proofs.StepLaws.{ReturnFits, with_stack_is}
 use Rattle.jc_machine_laws.proofs.CallLaws.{body_is}
-use Rattle.jc_machine_laws.proofs.StaticLaws.{position_found, some_of}
+use Rattle.jc_machine_laws.proofs.StaticLaws.{position_found}
 
 -- ---- where a frame stands
 
@@ -55,7 +56,7 @@ located_is program f c b insn k h =
 pub after_is : (program : Program) (f : Frame) (c : Linked) (b : Body) (insn : Insn) (k : TypeState) → Here program f c b insn k
     → (t : TypeState) × (after_of b f.place k ≡ Some t)
 after_is program f c b insn k h =
-    some_of (after_of b f.place k)
+    some_there (after_of b f.place k)
     (subst (λ o. is_some o ≡ true) (after_there program f c b insn k h)
     (h.whole.checked.after f.place (slice_get_within b.code f.place insn h.insn_is)))
 
@@ -81,7 +82,7 @@ named_is program class name desc callee e =
     let q = then_some (method_in name desc p.0) (class_at program p.0) callee p.2 in
     let r = map_some (λ (j : ℕ). record { class = p.0; method = j }) (method_named q.0.bodies name desc) callee q.2 in
     let x = position_found (λ (g : Body). bytes_eq g.name name && bytes_eq g.desc desc) q.0.bodies r.0 no_body r.1 in
-    let y = both (bytes_eq x.0.name name) (bytes_eq x.0.desc desc) x.2 in
+    let y = and_parts (bytes_eq x.0.name name) (bytes_eq x.0.desc desc) x.2 in
     subst (Named program name desc) r.2 (record {
       linked = q.0;
       class_is = q.1;
@@ -96,7 +97,7 @@ desc_of : (program : Program) (name desc : List ℕ) (callee : Entry) (d : Linke
     → class_at program callee.class ≡ Some d → slice_get d.bodies callee.method ≡ Some body → body.desc ≡ desc
 desc_of program name desc callee d body n e g =
     let o = sym (body_is program callee d body e g) ∙ body_is program callee n.linked n.body n.class_is n.body_is in
-    ap (λ (x : Body). x.desc) (some_is body n.body o) ∙ n.desc_is
+    ap (λ (x : Body). x.desc) (same_Some body n.body o) ∙ n.desc_is
 
 -- an instruction that calls the method
 record CallsIt (program : Program) (uses : List Use) (insn : Insn) (callee : Entry) : Type 0 where
@@ -127,10 +128,6 @@ calls_it program at insn callee e = absurd (none_some e)
 
 -- ---- the frame that goes on
 
-map_length : {X Y : Type 0} (g : X → Y) (xs : List X) → length (map g xs) ≡ length xs
-map_length g [] = refl
-map_length g (x ∷ xs) = let e = map_length g xs in grind (arith, e)
-
 -- what comes back stands in the place of the arguments
 stack_back : (program : Program) (heap : List HeapObject) (type : Option FieldType) (v : Option Value) (stack : List Value)
     (low : List VerificationType) → ReturnFits program heap type v → IsStack stack low → (verification_type : List VerificationType)
@@ -154,7 +151,7 @@ back_fits program heap callee d body f v p e g w r = by v r
     after = after_is program f w.stands.linked w.stands.body h.0 w.state h.1
 
     stood_there : w.at_call.insn ≡ record { at = at_of f w.stands.linked w.stands.body; insn = h.0 }
-    stood_there = some_is _ _ (sym w.at_call.stands ∙ located_is program f w.stands.linked w.stands.body h.0 w.state h.1)
+    stood_there = same_Some _ _ (sym w.at_call.stands ∙ located_is program f w.stands.linked w.stands.body h.0 w.state h.1)
 
     call : CallsIt program w.stands.body.uses h.0 callee
     call =

@@ -1,79 +1,44 @@
 -- The values on a stack are at most as many as the stack has slots.
 use Rattle.std.proofs.Common.{◌≡◌, ℕ, zero, suc, ◌+◌, ◌≤◌, Bool, true, false, cond, List, [], ◌∷◌, ◌++◌, length, map, reverse}
-use Rattle.std.proofs.Common.{Option, Some, None, nat_eq, nat_le, refl, sym, ◌∙◌, subst, arith}
-use Rattle.std.proofs.lemmas.Bool.{leb-true}
+use Rattle.std.proofs.Common.{Option, Some, None, nat_eq, refl, sym, ◌∙◌, subst, arith}
 use Rattle.std.proofs.lemmas.List.{length-reverse}
-use Rattle.std.proofs.lemmas.List.Sums.{sum_by-cons}
 use Rattle.std.specs.Prelude.{slice_index_or, option_and_then}
-use Rattle.std.specs.List.{sum_by, list_any}
+use Rattle.std.specs.List.{list_any}
+use Rattle.std.proofs.lemmas.Option.{same_Some}
+use Rattle.jc_bytes.proofs.OptionLaws.{none_some, then_some}
+use Rattle.jc_bytes.proofs.DecoderLaws.{guard_some}
 use Rattle.jc_methods.specs.declared.insn.Insn.{Insn}
-use Rattle.jc_methods.specs.declared.kind.Kind.{Kind}
 use Rattle.jc_methods.specs.declared.body.FrameAt.{FrameAt}
 use Rattle.jc_methods.specs.declared.body.Body.{Body}
 use Rattle.jc_methods.specs.EntryState.{entry_of}
-use Rattle.jc_methods.specs.VerificationTypes.{Names, VerificationType, TypeState, verification_type, type_state_at, width, slots}
-use Rattle.jc_methods.specs.WellMade.{kind_slots, AreFramesFrom, IsWellMade}
+use Rattle.jc_methods.specs.VerificationTypes.{Names, VerificationType, TypeState, verification_type, type_state_at, slots}
+use Rattle.jc_methods.specs.WellMade.{AreFramesFrom, IsWellMade}
 use Rattle.jc_methods.specs.Flow.{falls_at}
 use Rattle.jc_methods.specs.declared.kind.Kind.TheVariants as kinds
 use Rattle.jc_methods.specs.VerificationTypes as verification
+use Rattle.jc_methods.proofs.WidthLaws.{as_many}
 use Rattle.jc_kinds_after.specs.Wants.{is_int, accepts, accepts_all}
-use Rattle.jc_kinds_after.specs.Step.{Gives, StackEffect, Step, moves, loads, stores, counts, picks, makes, builds, fails, Ground}
-use Rattle.jc_kinds_after.specs.Step.{below, upper, last, limited, has_form, moved, moved_by, with_stack, put_local, element_of}
+use Rattle.jc_kinds_after.specs.Step.{Gives, Step, moves, loads, stores, counts, picks, makes, builds, fails, Ground, below, upper, last, limited, moved_by, with_stack, put_local, element_of}
 use Rattle.jc_kinds_after.specs.Step.{is_made, without, class_built, replaced, built_as, given_of, apply}
 use Rattle.jc_kinds_after.specs.After.{step_of, returns_of, insn_at, ground_of, after_of}
 use Rattle.jc_kinds_after.specs.declared.want.Want.TheVariants as wants
+use Rattle.jc_kinds_after.proofs.KeepLaws.{limit_by, limit}
+use Rattle.jc_kinds_after.proofs.LeaveLaws.{kinds_sum}
 use Rattle.jc_kinds.specs.States.{frames_of, frame_at, or_else, state_of}
 use Rattle.jc_machine_model.specs.Values.{Value}
 use Rattle.jc_machine_model.specs.Fits.{AreOfVerificationTypes}
-use Rattle.jc_machine_model.proofs.BeginLaws.{none_some, some_is, then_some}
 use Rattle.jc_machine_laws.specs.Laws.{RoomFits}
 use Rattle.jc_machine_laws.proofs.OnwardLaws.{here_of}
-use Rattle.jc_machine_laws.proofs.StackLaws.{chosen, not_chosen}
+use Rattle.jc_machine_laws.proofs.StackLaws.{not_chosen}
 use Rattle.jc_machine_laws.proofs.StepLaws.{with_stack_is}
 use Rattle.jc_machine_laws.proofs.CallLaws.{body_is}
 
 -- ---- slots
 
-kind_width : (names : Names) (k : Kind) → width (verification_type names k) ≡ kind_slots k
-kind_width names kinds.Top = refl
-kind_width names kinds.Int = refl
-kind_width names kinds.Float = refl
-kind_width names kinds.Double = refl
-kind_width names kinds.Long = refl
-kind_width names kinds.Null = refl
-kind_width names kinds.UninitThis = refl
-kind_width names (kinds.Object n) = refl
-kind_width names (kinds.Uninit n) = refl
-
-stack_width : (names : Names) (ks : List Kind) → slots (map (verification_type names) ks) ≡ sum_by kind_slots ks
-stack_width names [] = refl
-stack_width names (k ∷ ks) = let e = kind_width names k in let r = stack_width names ks in let c = sum_by-cons kind_slots k ks in grind (arith, e, r, c)
-
-some_width : (h : VerificationType) → 1 ≤ width h
-some_width verification.double = omega arith
-some_width verification.long = omega arith
-some_width h = omega arith
-
-as_many : (ks : List VerificationType) → length ks ≤ slots ks
-as_many [] = omega arith
-as_many (h ∷ ks) = let e = some_width h in let r = as_many ks in omega (arith, e, r)
-
 -- ---- the state after an instruction
 
-limited_room : (most : ℕ) (ks t : List VerificationType) → limited most ks ≡ Some t → slots t ≤ most
-limited_room most ks t e =
-    let p = chosen (nat_le (slots ks) most) (Some ks) t e in subst (λ l. slots l ≤ most) (some_is ks t p.1) (leb-true (slots ks) most p.0)
-
-moved_room : (most : ℕ) (fs : List StackEffect) (ks t : List VerificationType) → moved_by most fs ks ≡ Some t → slots t ≤ most
-moved_room most [] ks t e = absurd (none_some e)
-moved_room most (f ∷ fs) ks t e = by (has_form f ks) (λ g. moved_room most fs ks t g) e
-  where
-    by : (z : Bool) → (moved_by most fs ks ≡ Some t → slots t ≤ most) → cond z (limited most (moved f ks)) (moved_by most fs ks) ≡ Some t → slots t ≤ most
-    by true again g = limited_room most (moved f ks) t g
-    by false again g = again g
-
 with_room : (most : ℕ) (k t : TypeState) (ks : List VerificationType) → with_stack k (limited most ks) ≡ Some t → slots t.stack ≤ most
-with_room most k t ks e = limited_room most ks t.stack (with_stack_is k t (limited most ks) e).0
+with_room most k t ks e = limit most ks t.stack (with_stack_is k t (limited most ks) e).0
 
 built_room : (most : ℕ) (old : VerificationType) (rest given : List VerificationType) (o : Option (List ℕ)) (k t : TypeState)
     (gs : List Gives) → built_as most old rest gs o k ≡ Some t → slots t.stack ≤ most
@@ -83,16 +48,16 @@ built_room most old rest given (Some name) k t gs e =
     (map (replaced old name) rest ++ map (given_of []) gs) e
 
 step_room : (g : Ground) (step : Step) (k t : TypeState) → apply g step k ≡ Some t → slots t.stack ≤ g.most
-step_room g (moves forms) k t e = moved_room g.most forms k.stack t.stack (with_stack_is k t (moved_by g.most forms k.stack) e).0
+step_room g (moves forms) k t e = limit_by g.most forms k.stack t.stack (with_stack_is k t (moved_by g.most forms k.stack) e).0
 step_room g (loads n want) k t e =
     with_room g.most k t (k.stack ++ slice_index_or k.locals n verification.top ∷ [])
-    (chosen (accepts want (slice_index_or k.locals n verification.top)) _ t e).1
+    (guard_some (accepts want (slice_index_or k.locals n verification.top)) _ t e).1
 step_room g (stores n want) k t e =
     with_room g.most (record { locals = put_local n (last k.stack) k.locals; stack = k.stack }) t (below 1 k.stack)
-    (chosen (accepts want (last k.stack)) _ t e).1
-step_room g (counts n) k t e = with_room g.most k t k.stack (chosen (is_int (slice_index_or k.locals n verification.top)) _ t e).1
+    (guard_some (accepts want (last k.stack)) _ t e).1
+step_room g (counts n) k t e = with_room g.most k t k.stack (guard_some (is_int (slice_index_or k.locals n verification.top)) _ t e).1
 step_room g picks k t e =
-    with_room g.most k t _ (chosen _
+    with_room g.most k t _ (guard_some _
     (with_stack k (limited g.most (below 2 k.stack ++ element_of (slice_index_or (upper 2 k.stack) 0 verification.top) ∷ []))) t e).1
 step_room g makes k t e =
     with_room g.most (record { locals = map (without g.place) k.locals; stack = k.stack }) t
@@ -101,7 +66,7 @@ step_room g (builds f) k t e =
     built_room g.most (slice_index_or (upper (suc (length f.wanted)) k.stack) 0 verification.top)
     (below (suc (length f.wanted)) k.stack) []
     (class_built g (slice_index_or (upper (suc (length f.wanted)) k.stack) 0 verification.top)) k t f.given
-    (chosen (accepts_all (wants.Anything ∷ f.wanted) (upper (suc (length f.wanted)) k.stack)) _ t e).1
+    (guard_some (accepts_all (wants.Anything ∷ f.wanted) (upper (suc (length f.wanted)) k.stack)) _ t e).1
 step_room g fails k t e = absurd (none_some e)
 
 -- ---- states
@@ -113,11 +78,11 @@ module _ (names : Names) (code : List Insn) (most_locals most : ℕ) where
   frame_room first (f ∷ frames) i s w e = by (nat_eq f.at i) (λ g. frame_room (f.at + 1) frames i s w.3 g) e
     where
       room : slots (map (verification_type names) f.state.stack) ≤ most
-      room = subst (λ n. n ≤ most) (sym (stack_width names f.state.stack)) (w.2).stack
+      room = subst (λ n. n ≤ most) (sym (kinds_sum names f.state.stack)) (w.2).stack
 
       by : (z : Bool) → (frame_at (map (type_state_at names) frames) i ≡ Some s → slots s.stack ≤ most)
           → cond z (Some (type_state_at names f).state) (frame_at (map (type_state_at names) frames) i) ≡ Some s → slots s.stack ≤ most
-      by true again g = subst (λ (x : TypeState). slots x.stack ≤ most) (some_is (type_state_at names f).state s g) room
+      by true again g = subst (λ (x : TypeState). slots x.stack ≤ most) (same_Some (type_state_at names f).state s g) room
       by false again g = again g
 
 pub state_room : (names : Names) (b : Body) → IsWellMade b → (i : ℕ) (s : TypeState) → state_of names b i ≡ Some s → slots s.stack ≤ b.max_stack
@@ -125,7 +90,7 @@ unfolding state_of after_of
 state_room names b w zero s e = by (frame_at (frames_of names b) 0) refl e
   where
     by : (o : Option TypeState) → frame_at (frames_of names b) 0 ≡ o → or_else o (Some (entry_of b)) ≡ Some s → slots s.stack ≤ b.max_stack
-    by None q g = subst (λ (x : TypeState). slots x.stack ≤ b.max_stack) (some_is (entry_of b) s g) (omega arith)
+    by None q g = subst (λ (x : TypeState). slots x.stack ≤ b.max_stack) (same_Some (entry_of b) s g) (omega arith)
     by (Some k) q g = frame_room names b.code b.max_locals b.max_stack 0 b.frames 0 s w.of_any_size.frames (q ∙ g)
 state_room names b w (suc i) s e = by (frame_at (frames_of names b) (suc i)) refl e
   where
@@ -144,7 +109,7 @@ state_room names b w (suc i) s e = by (frame_at (frames_of names b) (suc i)) ref
 
 -- ---- frames
 
-same_count : (values : List Value) (ks : List VerificationType) → AreOfVerificationTypes values ks → length values ≡ length ks
+pub same_count : (values : List Value) (ks : List VerificationType) → AreOfVerificationTypes values ks → length values ≡ length ks
 same_count [] [] p = refl
 same_count [] (h ∷ ks) p = absurd p
 same_count (v ∷ values) [] p = absurd p
@@ -159,4 +124,4 @@ room_fits program f b p w e =
     let r = state_room program.names w.stands.body (h.1).whole.well_made f.place w.state w.stands.state_is in
     let all : length f.stack ≤ w.stands.body.max_stack = omega (arith, n, m, l, r) in
     subst (λ (x : Body). length f.stack ≤ x.max_stack)
-    (some_is w.stands.body b (sym (body_is program f.method w.stands.linked w.stands.body w.stands.class_is w.stands.body_is) ∙ e)) all
+    (same_Some w.stands.body b (sym (body_is program f.method w.stands.linked w.stands.body w.stands.class_is w.stands.body_is) ∙ e)) all

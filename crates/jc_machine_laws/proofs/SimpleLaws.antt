@@ -1,8 +1,9 @@
 -- Each turn keeps a world fitting: each instruction that names nothing in the pool.
 use Rattle.std.proofs.Common.{◌≡◌, ◌⊎◌, inl, inr, ⊎_elim, ℕ, ◌+◌, ◌-◌, ◌<◌, ◌≤◌, ℤ, Bool, true, false, ◌&&◌, ◌||◌, cond, List, []}
 use Rattle.std.proofs.Common.{◌∷◌, Option, Some, None, nat_eq, nat_le, nat_lt, refl, sym, ◌∙◌, ap, subst, arith, slice_index_or}
-use Rattle.std.proofs.lemmas.Bool.{eqb-true, cases_lt}
+use Rattle.std.proofs.lemmas.Bool.{eqb-true, cases_lt, false≢true, or_cases, true≢false}
 use Rattle.jc_bytes.specs.Descriptor.{FieldType, Byte, Char, Double, Float, Int, Long, Short, Boolean, Object, Array}
+use Rattle.jc_bytes.proofs.OptionLaws.{none_some}
 use Rattle.jc_methods.specs.declared.form.Form.{Form as OpForm}
 use Rattle.jc_methods.specs.declared.insn.Arm.{Arm}
 use Rattle.jc_methods.specs.declared.body.Body.{Body}
@@ -25,22 +26,18 @@ use Rattle.jc_kinds_after.specs.declared.want.Want.TheVariants as wants
 use Rattle.jc_kinds_after.specs.Step as kinds
 use Rattle.jc_machine_model.specs.Values.{int, ComputationalType, int_type, long_type, reference_type, computational_type}
 use Rattle.jc_machine_model.specs.World.{Frame, Shared}
-use Rattle.jc_machine_model.specs.Operations.{pushes, computes, counts, tests, jumps, indexes, matches, measures, makes_array}
-use Rattle.jc_machine_model.specs.Operations.{returns, returns_nothing, throws_top, outside}
+use Rattle.jc_machine_model.specs.Operations.{pushes, computes, counts, tests, jumps, indexes, matches, measures, makes_array, returns, returns_nothing, throws_top, outside}
 use Rattle.jc_machine_model.specs.Profile.{elements_of, read_operation, write_operation, return_operation, simple_operation}
 use Rattle.jc_machine_model.specs.Profile.{local_type, load_operation, store_operation, local_operation, array_operation}
 use Rattle.jc_machine_model.specs.Perform.{perform}
 use Rattle.jc_machine_model.specs.Calls.{by_return}
 use Rattle.jc_machine_model.specs.Jumps.{test_of}
 use Rattle.jc_plan.specs.Chosen.{table_target, lookup_target}
-use Rattle.jc_machine_model.proofs.BeginLaws.{none_some, false_true}
+use Rattle.jc_plan.proofs.ChosenLaws.{arm_listed}
 use Rattle.jc_machine_laws.proofs.StepLaws.{Turn, Fine, applied, leads, computes_fine, pushes_fine, loads_fine, stores_fine, counts_fine}
-use Rattle.jc_machine_laws.proofs.FlowLaws.{effect_there, each_below, each_at, tests_fine, switches_fine, jumps_fine, table_among, lookup_among}
+use Rattle.jc_machine_laws.proofs.FlowLaws.{effect_there, each_below, each_at, tests_fine, switches_fine, jumps_fine, table_among}
 use Rattle.jc_machine_laws.proofs.ElementLaws.{int_element, long_element, reads_fine, writes_fine, makes_array_fine, measures_fine, throws_fine}
 use Rattle.jc_machine_laws.proofs.CallLaws.{returns_fine, leaves_fine}
-
-true_false : true ≡ false → ⊥
-true_false e = cc
 
 -- ---- returns
 
@@ -51,31 +48,31 @@ int_return (Some Char) e = (Char, refl, refl)
 int_return (Some Int) e = (Int, refl, refl)
 int_return (Some Short) e = (Short, refl, refl)
 int_return (Some Boolean) e = (Boolean, refl, refl)
-int_return r e = absurd (false_true e)
+int_return r e = absurd (false≢true e)
 
 long_return : (r : Option FieldType) → nat_eq opcode.lreturn (return_op r) ≡ true
     → (type : FieldType) × (r ≡ Some type) × (computational_type type ≡ Some long_type)
 long_return (Some Long) e = (Long, refl, refl)
-long_return r e = absurd (false_true e)
+long_return r e = absurd (false≢true e)
 
 reference_return : (r : Option FieldType) → nat_eq opcode.areturn (return_op r) ≡ true
     → (type : FieldType) × (r ≡ Some type) × (computational_type type ≡ Some reference_type)
 reference_return (Some (Object name)) e = (Object name, refl, refl)
 reference_return (Some (Array component)) e = (Array component, refl, refl)
-reference_return r e = absurd (false_true e)
+reference_return r e = absurd (false≢true e)
 
 no_return : (r : Option FieldType) → nat_eq opcode.return (return_op r) ≡ true → r ≡ None
 no_return None e = refl
-no_return (Some Byte) e = absurd (false_true e)
-no_return (Some Char) e = absurd (false_true e)
-no_return (Some Double) e = absurd (false_true e)
-no_return (Some Float) e = absurd (false_true e)
-no_return (Some Int) e = absurd (false_true e)
-no_return (Some Long) e = absurd (false_true e)
-no_return (Some Short) e = absurd (false_true e)
-no_return (Some Boolean) e = absurd (false_true e)
-no_return (Some (Object name)) e = absurd (false_true e)
-no_return (Some (Array component)) e = absurd (false_true e)
+no_return (Some Byte) e = absurd (false≢true e)
+no_return (Some Char) e = absurd (false≢true e)
+no_return (Some Double) e = absurd (false≢true e)
+no_return (Some Float) e = absurd (false≢true e)
+no_return (Some Int) e = absurd (false≢true e)
+no_return (Some Long) e = absurd (false≢true e)
+no_return (Some Short) e = absurd (false≢true e)
+no_return (Some Boolean) e = absurd (false≢true e)
+no_return (Some (Object name)) e = absurd (false≢true e)
+no_return (Some (Array component)) e = absurd (false≢true e)
 
 -- ---- opcodes
 
@@ -84,16 +81,16 @@ not_pick op e = by (nat_eq op opcode.aaload) refl
   where
     by : (z : Bool) → nat_eq op opcode.aaload ≡ z → z ≡ false
     by false q = refl
-    by true q = absurd (true_false (subst (λ o. (nat_le opcode.iaload o && nat_le o opcode.saload) ≡ false) (eqb-true op opcode.aaload q) e))
+    by true q = absurd (true≢false (subst (λ o. (nat_le opcode.iaload o && nat_le o opcode.saload) ≡ false) (eqb-true op opcode.aaload q) e))
 
 goes_on : (x y : Bool) → x ≡ false → y ≡ false → cond x flows.Returns (cond y flows.Throws flows.GoesOn) ≡ flows.GoesOn
-goes_on true y p q = absurd (true_false p)
-goes_on false true p q = absurd (true_false q)
+goes_on true y p q = absurd (true≢false p)
+goes_on false true p q = absurd (true≢false q)
 goes_on false false p q = refl
 
 moves_on : (x y : Bool) (p q r : Step) → x ≡ false → y ≡ false → cond x p (cond y q r) ≡ r
-moves_on true y p q r e g = absurd (true_false e)
-moves_on false true p q r e g = absurd (true_false g)
+moves_on true y p q r e g = absurd (true≢false e)
+moves_on false true p q r e g = absurd (true≢false g)
 moves_on false false p q r e g = refl
 
 below_all : (op : ℕ) (g : OpForm) → form_of op ≡ g → (forms.Unknown ≡ g → ⊥) → op < 202
@@ -116,15 +113,11 @@ push_codes : (op : ℕ) → is_push (form_of op) ≡ true → op < 202 → (nat_
 unfolding push_code
 push_codes op e lt = ap (λ z. cond z (nat_eq op opcode.bipush || nat_eq op opcode.sipush) true) (sym e) ∙ each_at push_code 202 op each_push lt
 
-either_is : (a b : Bool) → (a || b) ≡ true → (a ≡ true) ⊎ (b ≡ true)
-either_is true b e = inl refl
-either_is false b e = inr e
-
 pushes_int : (op : ℕ) → (nat_eq op opcode.bipush || nat_eq op opcode.sipush) ≡ true → forms_at op ≡ form [] (kind verification.int ∷ []) ∷ []
 unfolding forms_at table
 pushes_int op e =
     ⊎_elim (λ q. ap forms_at (eqb-true op opcode.bipush q)) (λ q. ap forms_at (eqb-true op opcode.sipush q))
-    (either_is (nat_eq op opcode.bipush) (nat_eq op opcode.sipush) e)
+    (or_cases (nat_eq op opcode.bipush) (nat_eq op opcode.sipush) e)
 
 pushes_well : (op : ℕ) (value : ℤ) → IsWellFormed (insns.Push op value) → forms_at op ≡ form [] (kind verification.int ∷ []) ∷ []
 unfolding is_push
@@ -316,4 +309,4 @@ module _ {program : Program} {s : Shared} {f : Frame} {c : Linked} {b : Body} {k
   pub lookup_at : (default : ℕ) (arms : List Arm) → Turn program s f c b (insns.Lookup default arms) k t
       → Fine program s f b (perform (matches default arms) s f)
   unfolding perform forms_at table
-  lookup_at default arms turn = switches_fine turn (lookup_target default arms) refl (λ key. lookup_among default arms key) f.stack refl
+  lookup_at default arms turn = switches_fine turn (lookup_target default arms) refl (λ key. arm_listed default arms key) f.stack refl

@@ -2,6 +2,10 @@
 use Rattle.std.proofs.Common.{◌≡◌, ℕ, ◌-◌, Bool, true, false, cond, List, [], ◌∷◌, ◌++◌, length, take, drop, reverse, map, Option}
 use Rattle.std.proofs.Common.{Some, None, refl, sym, ◌∙◌, ap, subst, arith, append_assoc, append-nil, length-append}
 use Rattle.std.proofs.lemmas.List.{map-append, reverse-append, reverse-reverse}
+use Rattle.std.proofs.lemmas.Option.{same_Some}
+use Rattle.std.proofs.lemmas.Bool.{false≢true}
+use Rattle.jc_bytes.proofs.OptionLaws.{none_some}
+use Rattle.jc_bytes.proofs.DecoderLaws.{guard_some}
 use Rattle.jc_methods.specs.VerificationTypes.{VerificationType}
 use Rattle.jc_methods.specs.VerificationTypes as verification
 use Rattle.jc_kinds_after.specs.declared.want.Want.{Want}
@@ -11,7 +15,6 @@ use Rattle.jc_kinds_after.specs.Step.{kind, StackEffect, below, upper, has_form,
 use Rattle.jc_kinds_after.specs.Table.{form}
 use Rattle.jc_machine_model.specs.Values.{Value, int, long, is_pair, is_reference}
 use Rattle.jc_machine_model.specs.Fits.{IsInt, IsLong, IsOfVerificationType, AreOfVerificationTypes, IsStack}
-use Rattle.jc_machine_model.proofs.BeginLaws.{none_some, some_is, false_true}
 
 pub reverse_map : {X Y : Type 0} (g : X → Y) (xs : List X) → reverse (map g xs) ≡ map g (reverse xs)
 reverse_map g [] = refl
@@ -23,7 +26,7 @@ reverse_map g (x ∷ xs) =
 
 -- a reference is no long
 pub reference_single : (v : Value) → is_reference v ≡ true → is_pair v ≡ false
-reference_single (long x) e = absurd (false_true e)
+reference_single (long x) e = absurd (false≢true e)
 reference_single v e = refl
 
 pub int_single : (v : Value) → IsInt v → is_pair v ≡ false
@@ -35,8 +38,8 @@ long_pair (long x) e = refl
 long_pair v e = absurd e
 
 pub top_refused : (want : Want) → accepts want verification.top ≡ true → ⊥
-top_refused wants.Int e = false_true e
-top_refused _ e = false_true e
+top_refused wants.Int e = false≢true e
+top_refused _ e = false≢true e
 
 -- a value takes as many slots as its type, where that is one for an operand
 pub pair_as_type : (want : Want) (v : Value) (h : VerificationType) → IsOfVerificationType v h → accepts want h ≡ true
@@ -119,21 +122,17 @@ upper_is low kinds n e = ap (λ k. drop k (low ++ kinds)) (low_length low kinds 
 
 -- ---- one form
 
-pub chosen : {X : Type 0} (b : Bool) (o : Option X) (y : X) → cond b o None ≡ Some y → (b ≡ true) × (o ≡ Some y)
-chosen true o y e = (refl, e)
-chosen false o y e = absurd (none_some e)
-
 pub not_chosen : {X : Type 0} (b : Bool) (o : Option X) (y : X) → cond b None o ≡ Some y → o ≡ Some y
 not_chosen true o y e = absurd (none_some e)
 not_chosen false o y e = e
 
 pub limited_is : (b : Bool) (ks t : List VerificationType) → cond b (Some ks) None ≡ Some t → ks ≡ t
-limited_is true ks t e = some_is ks t e
+limited_is true ks t e = same_Some ks t e
 limited_is false ks t e = absurd (none_some e)
 
 -- where the one form fits, the state after it is that of the form
 pub one_moved : (most : ℕ) (f : StackEffect) (ks t : List VerificationType) → moved_by most (f ∷ []) ks ≡ Some t → moved_kinds f ks ≡ t
-one_moved most f ks t e = let p = chosen (has_form f ks) (limited most (moved_kinds f ks)) t e in limited_is _ (moved_kinds f ks) t p.1
+one_moved most f ks t e = let p = guard_some (has_form f ks) (limited most (moved_kinds f ks)) t e in limited_is _ (moved_kinds f ks) t p.1
 
 -- values that are taken from the top, and one that stands in their place
 pub leaf : (most : ℕ) (vs stack : List Value) (ks : List VerificationType) (wanted : List Want) (h : VerificationType) (v : Value)

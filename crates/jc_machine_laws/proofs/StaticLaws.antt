@@ -2,12 +2,15 @@
 use Rattle.std.proofs.Common.{◌≡◌, ◌⊎◌, inl, inr, ⊎_elim, ℕ, zero, suc, ◌+◌, pos, Bool, true, false, ◌&&◌, cond, List, [], ◌∷◌}
 use Rattle.std.proofs.Common.{length, Option, Some, None, is_some, get_or, le_refl, refl, sym, ◌∙◌, ap, subst, slice_set}
 use Rattle.std.proofs.Common.{slice_index_or}
-use Rattle.std.proofs.lemmas.Option.{slice_get-get_or}
+use Rattle.std.proofs.lemmas.Option.{slice_get-get_or, same_Some}
 use Rattle.std.proofs.lemmas.List.Quantifiers.{position-Some}
 use Rattle.std.proofs.lemmas.Slice.Eq.{bytes_eq-Decides}
 use Rattle.std.specs.Prelude.{IsTrue, slice_get, position, bytes_eq}
 use Rattle.std.specs.List.{AllByRecursion}
+use Rattle.std.proofs.lemmas.Bool.{and_parts, false≢true}
 use Rattle.jc_bytes.specs.Descriptor.{FieldType, Double, Float, Long, Object, Array}
+use Rattle.jc_bytes.proofs.OptionLaws.{none_some, some_there}
+use Rattle.jc_bytes.proofs.ListLaws.{all_at}
 use Rattle.jc_methods.specs.declared.insn.Insn.{Insn}
 use Rattle.jc_methods.specs.declared.body.Body.{Body}
 use Rattle.jc_methods.specs.DescriptorTypes.{field_type_in}
@@ -29,7 +32,6 @@ use Rattle.jc_machine_model.specs.World.{Frame, Shared}
 use Rattle.jc_machine_model.specs.Results.{goes_with, gets_stuck}
 use Rattle.jc_machine_model.specs.Statics.{static_at, with_static, by_get, is_of_type, by_put}
 use Rattle.jc_machine_model.specs.Fits.{IsInt, IsLong, IsOfVerificationType, IsThere, IsOfType, AreClassStatics, AreStatics}
-use Rattle.jc_machine_model.proofs.BeginLaws.{both, none_some, some_is, false_true}
 use Rattle.jc_machine_laws.proofs.StepLaws.{Turn, Fine, SharedFits, falls, pushes_fine, takes_fine}
 
 -- ---- lists
@@ -60,29 +62,24 @@ at_each P [] j p = tt
 at_each P (xs ∷ xss) zero p = p.0
 at_each P (xs ∷ xss) (suc j) p = at_each P xss j p.1
 
-pub get_each : {X : Type 0} (P : X → Type 0) (xs : List X) (k : ℕ) (x : X) → AllByRecursion P xs → slice_get xs k ≡ Some x → P x
-get_each P [] k x p e = absurd (none_some e)
-get_each P (y ∷ xs) zero x p e = subst P (some_is y x e) p.0
-get_each P (y ∷ xs) (suc k) x p e = get_each P xs k x p.1 e
-
 -- ---- values of a type
 
 int_of : (v : Value) → is_of int_type v ≡ true → IsInt v
 int_of (int x) e = tt
-int_of v e = absurd (false_true e)
+int_of v e = absurd (false≢true e)
 
 long_of : (v : Value) → is_of long_type v ≡ true → IsLong v
 long_of (long x) e = tt
-long_of v e = absurd (false_true e)
+long_of v e = absurd (false≢true e)
 
 pub computational_kind : (type : FieldType) (computational : ComputationalType) (v : Value)
     → computational_type type ≡ Some computational → is_of computational v ≡ true → IsOfVerificationType v (held_of type)
 computational_kind Float computational v e p = absurd (none_some e)
 computational_kind Double computational v e p = absurd (none_some e)
-computational_kind Long computational v e p = long_of v (subst (λ x. is_of x v ≡ true) (sym (some_is long_type computational e)) p)
-computational_kind (Object name) computational v e p = subst (λ x. is_of x v ≡ true) (sym (some_is reference_type computational e)) p
-computational_kind (Array component) computational v e p = subst (λ x. is_of x v ≡ true) (sym (some_is reference_type computational e)) p
-computational_kind type computational v e p = int_of v (subst (λ x. is_of x v ≡ true) (sym (some_is int_type computational e)) p)
+computational_kind Long computational v e p = long_of v (subst (λ x. is_of x v ≡ true) (sym (same_Some long_type computational e)) p)
+computational_kind (Object name) computational v e p = subst (λ x. is_of x v ≡ true) (sym (same_Some reference_type computational e)) p
+computational_kind (Array component) computational v e p = subst (λ x. is_of x v ≡ true) (sym (same_Some reference_type computational e)) p
+computational_kind type computational v e p = int_of v (subst (λ x. is_of x v ≡ true) (sym (same_Some int_type computational e)) p)
 
 -- the computational type of a value that is of a type
 pub of_type : (type : FieldType) (v : Value) → is_of_type type v ≡ true
@@ -92,24 +89,20 @@ of_type type v e = by (computational_type type) refl e
     by : (o : Option ComputationalType) → computational_type type ≡ o
         → elim o [ None ↦ false | Some computational ↦ is_of computational v ] ≡ true
         → (computational : ComputationalType) × (computational_type type ≡ Some computational) × (is_of computational v ≡ true)
-    by None q e = absurd (false_true e)
+    by None q e = absurd (false≢true e)
     by (Some computational) q e = (computational, q, e)
 
 pub stored_is : (computational : ComputationalType) (type : FieldType) (v : Value) → is_of computational v ≡ true
     → is_of computational (stored_as type v) ≡ true
 stored_is int_type type (int x) e = refl
-stored_is long_type type (int x) e = absurd (false_true e)
-stored_is reference_type type (int x) e = absurd (false_true e)
+stored_is long_type type (int x) e = absurd (false≢true e)
+stored_is reference_type type (int x) e = absurd (false≢true e)
 stored_is computational type v e = e
 
 pub stored_there : (program : Program) (heap : List HeapObject) (type : FieldType) (v : Value) → IsThere program heap v
     → IsThere program heap (stored_as type v)
 stored_there program heap type (int x) p = tt
 stored_there program heap type v p = p
-
-pub some_of : {X : Type 0} (o : Option X) → is_some o ≡ true → (x : X) × (o ≡ Some x)
-some_of None e = absurd (false_true e)
-some_of (Some x) e = (x, refl)
 
 -- ---- the fields of a class
 
@@ -120,7 +113,7 @@ static_found : (statics : List StaticField) (name desc : List ℕ) (j : ℕ) →
     → (g : StaticField) × (slice_get statics j ≡ Some g) × (g.name ≡ name) × (g.desc ≡ desc)
 static_found statics name desc j e =
     let r = position_found (λ (g : StaticField). bytes_eq g.name name && bytes_eq g.desc desc) statics j no_field e in
-    let p = both (bytes_eq r.0.name name) (bytes_eq r.0.desc desc) r.2 in
+    let p = and_parts (bytes_eq r.0.name name) (bytes_eq r.0.desc desc) r.2 in
     (r.0, r.1, (bytes_eq-Decides r.0.name name).0 p.0, (bytes_eq-Decides r.0.desc desc).0 p.1)
 
 statics_at : (classes : List Linked) (statics : List (List Value)) (j : ℕ) (d : Linked) → AreStatics classes statics
@@ -128,7 +121,7 @@ statics_at : (classes : List Linked) (statics : List (List Value)) (j : ℕ) (d 
 statics_at [] [] j d p e = absurd (none_some e)
 statics_at [] (v ∷ statics) j d p e = absurd p
 statics_at (g ∷ classes) [] j d p e = absurd p
-statics_at (g ∷ classes) (v ∷ statics) zero d p e = subst (λ x. AreClassStatics x v) (some_is g d e) p.0
+statics_at (g ∷ classes) (v ∷ statics) zero d p e = subst (λ x. AreClassStatics x v) (same_Some g d e) p.0
 statics_at (g ∷ classes) (v ∷ statics) (suc j) d p e = statics_at classes statics j d p.1 e
 
 right_type : (d : Linked) (values : List Value) (name desc : List ℕ) (j : ℕ) → AreClassStatics d values
@@ -144,7 +137,7 @@ put_statics : (classes : List Linked) (statics : List (List Value)) (j : ℕ) (d
 put_statics [] [] j d new e p q = absurd (none_some e)
 put_statics [] (v ∷ statics) j d new e p q = absurd p
 put_statics (g ∷ classes) [] j d new e p q = absurd p
-put_statics (g ∷ classes) (v ∷ statics) zero d new e p q = (subst (λ x. AreClassStatics x new) (sym (some_is g d e)) q, p.1)
+put_statics (g ∷ classes) (v ∷ statics) zero d new e p q = (subst (λ x. AreClassStatics x new) (sym (same_Some g d e)) q, p.1)
 put_statics (g ∷ classes) (v ∷ statics) (suc j) d new e p q = (p.0, put_statics classes statics j d new e p.1 q)
 
 put_field : (d : Linked) (values : List Value) (name desc : List ℕ) (j : ℕ) (type : FieldType) (v : Value)
@@ -156,7 +149,7 @@ put_field d values name desc j type v a e q h = record { count = set_length valu
     type_is : (i : ℕ) (g : StaticField) → slice_get d.statics i ≡ Some g → i ≡ j → field_type_in g.desc ≡ Some type
     type_is i g p z =
         let r = static_found d.statics name desc j e in
-        ap (λ (x : StaticField). field_type_in x.desc) (some_is g r.0 (sym p ∙ ap (slice_get d.statics) z ∙ r.1)) ∙ ap field_type_in r.3 ∙ q
+        ap (λ (x : StaticField). field_type_in x.desc) (same_Some g r.0 (sym p ∙ ap (slice_get d.statics) z ∙ r.1)) ∙ ap field_type_in r.3 ∙ q
 
     right : (i : ℕ) (g : StaticField) → slice_get d.statics i ≡ Some g → static_named d.statics g.name g.desc ≡ Some i
         → IsOfType (field_type_in g.desc) (slice_get (slice_set values j v) i)
@@ -176,7 +169,7 @@ module _ {program : Program} {s : Shared} {f : Frame} {c : Linked} {b : Body} {i
   gets_fine class field type d name desc e l g n q o = by (slice_get (slice_index_or s.statics class []) field) refl
     where
       computational : (computational : ComputationalType) × (computational_type type ≡ Some computational)
-      computational = some_of (computational_type type) o
+      computational = some_there (computational_type type) o
 
       typed : IsOfType (Some type) (slice_get (slice_index_or s.statics class []) field)
       typed =
@@ -190,7 +183,7 @@ module _ {program : Program} {s : Shared} {f : Frame} {c : Linked} {b : Body} {i
           pushes_fine turn v (held_of type) e l
           (computational_kind type computational.0 v computational.1
           (subst (λ x. IsOfType (Some type) x) z typed computational.0 computational.1))
-          (get_each (IsThere program s.heap) (slice_index_or s.statics class []) field v
+          (all_at (IsThere program s.heap) (slice_index_or s.statics class []) field v
           (at_each (IsThere program s.heap) s.statics class (turn.shared).there) z)
 
   pub puts_fine : (class field : ℕ) (type : FieldType) (d : Linked) (name desc : List ℕ) (want : Want)
@@ -214,7 +207,7 @@ module _ {program : Program} {s : Shared} {f : Frame} {c : Linked} {b : Body} {i
             (put_field d (slice_index_or s.statics class []) name desc field type (stored_as type v)
             (statics_at program.classes s.statics class d (turn.shared).statics g) n q
             (λ computational w. let r = of_type type v o in stored_is computational type v
-            (subst (λ x. is_of x v ≡ true) (some_is r.0 computational (sym r.1 ∙ w)) r.2)));
+            (subst (λ x. is_of x v ≡ true) (same_Some r.0 computational (sym r.1 ∙ w)) r.2)));
         there =
             set_each (AllByRecursion (IsThere program s.heap)) s.statics class
             (slice_set (slice_index_or s.statics class []) field (stored_as type v)) (turn.shared).there

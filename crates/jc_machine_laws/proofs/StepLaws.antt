@@ -4,7 +4,12 @@ use Rattle.std.proofs.Common.{Option, Some, None, le_refl, refl, sym, ◌∙◌,
 use Rattle.std.specs.Prelude.{⊤, Contains, option_and_then}
 use Rattle.std.specs.List.{AllByRecursion}
 use Rattle.std.specs.Int.{w32, int_wrapping_add}
+use Rattle.std.proofs.lemmas.Option.{same_Some}
+use Rattle.std.proofs.lemmas.Bool.{false≢true}
 use Rattle.jc_bytes.specs.Descriptor.{FieldType}
+use Rattle.jc_bytes.proofs.OptionLaws.{none_some}
+use Rattle.jc_bytes.proofs.EachLaws.{all_both}
+use Rattle.jc_bytes.proofs.DecoderLaws.{guard_some}
 use Rattle.jc_methods.specs.declared.insn.Insn.{Insn}
 use Rattle.jc_methods.specs.declared.body.Body.{Body}
 use Rattle.jc_methods.specs.EntryState.{held_of}
@@ -29,13 +34,11 @@ use Rattle.jc_machine_model.specs.Results.{Result, goes, hits, calls, leaves, ra
 use Rattle.jc_machine_model.specs.Perform.{by_effect}
 use Rattle.jc_machine_model.specs.Locals.{by_load, by_store, by_count, put_local}
 use Rattle.jc_machine_model.specs.Step.{new_frame}
-use Rattle.jc_machine_model.specs.Fits.{IsReference, IsInSlot, AreInSlots, IsOfVerificationType, IsStack, IsThere, IsThereInSlot}
-use Rattle.jc_machine_model.specs.Fits.{AreThereIn, AreStatics, FitsTop, FitsWaiting, IsProbe}
-use Rattle.jc_machine_model.proofs.BeginLaws.{none_some, some_is, false_true}
+use Rattle.jc_machine_model.specs.Fits.{IsReference, IsInSlot, AreInSlots, IsOfVerificationType, IsStack, IsThere, IsThereInSlot, AreThereIn, AreStatics, FitsTop, FitsWaiting, IsProbe}
 use Rattle.jc_machine_model.specs.Effects as effects
 use Rattle.jc_machine_laws.specs.Laws.{Leaves}
 use Rattle.jc_machine_laws.proofs.OnwardLaws.{Here, onward}
-use Rattle.jc_machine_laws.proofs.StackLaws.{pair_as_type, below_is, upper_is, pushed, Top, top_of, chosen, leaf}
+use Rattle.jc_machine_laws.proofs.StackLaws.{pair_as_type, below_is, upper_is, pushed, Top, top_of, leaf}
 use Rattle.jc_machine_laws.proofs.EffectLaws.{leaf_none, effects_fit}
 use Rattle.jc_machine_laws.proofs.LocalLaws.{read_fits, from_slot, put_fits, set_there, put_there, read_there}
 
@@ -120,11 +123,7 @@ module _ {program : Program} {s : Shared} {f : Frame} {c : Linked} {b : Body} {i
 pub with_stack_is : (k t : TypeState) (o : Option (List VerificationType)) → with_stack k o ≡ Some t → (o ≡ Some t.stack) × (k.locals ≡ t.locals)
 with_stack_is k t None e = absurd (none_some e)
 with_stack_is k t (Some stack) e =
-    let q = some_is (record k { stack = stack }) t e in (ap (λ (x : TypeState). Some x.stack) q, ap (λ (x : TypeState). x.locals) q)
-
-pub each_append : {X : Type 0} (P : X → Type 0) (xs ys : List X) → AllByRecursion P xs → AllByRecursion P ys → AllByRecursion P (xs ++ ys)
-each_append P [] ys h g = g
-each_append P (x ∷ xs) ys h g = (h.0, each_append P xs ys h.1 g)
+    let q = same_Some (record k { stack = stack }) t e in (ap (λ (x : TypeState). Some x.stack) q, ap (λ (x : TypeState). x.locals) q)
 
 pub each_drop : {X : Type 0} (P : X → Type 0) (n : ℕ) (xs : List X) → AllByRecursion P xs → AllByRecursion P (drop n xs)
 each_drop P zero xs h = h
@@ -145,7 +144,7 @@ effect_goes : {program : Program} {s : Shared} {f : Frame} {c : Linked} {b : Bod
 unfolding Fine EffectThere
 effect_goes {program = program} {s = s} {f = f} turn (gives taken results) h l p q =
     stacked turn (f.place + 1) (results ++ drop taken f.stack) (falls turn h) l p
-    (each_append (IsThere program s.heap) results (drop taken f.stack) q
+    (all_both (IsThere program s.heap) results (drop taken f.stack) q
     (each_drop (IsThere program s.heap) taken f.stack (turn.there).stack))
 effect_goes turn (effects.raises c) h l p q = tt
 effect_goes turn unfit h l p q = tt
@@ -208,7 +207,7 @@ count_fits (l ∷ locals) (h ∷ ks) (suc j) x p e = (p.0, count_fits locals ks 
 
 int_is : (h : VerificationType) → is_int h ≡ true → h ≡ verification.int
 int_is verification.int e = refl
-int_is h e = absurd (false_true e)
+int_is h e = absurd (false≢true e)
 
 module _ {program : Program} {s : Shared} {f : Frame} {c : Linked} {b : Body} {insn : Insn} {k t : TypeState} (turn : Turn program s f c b insn k t) where
   pub stepped : (step : Step) → step_of b.uses (returns_of b) insn ≡ step → apply (ground_of b f.place) step k ≡ Some t
@@ -227,14 +226,14 @@ module _ {program : Program} {s : Shared} {f : Frame} {c : Linked} {b : Body} {i
       loaded_is : (limited b.max_stack (k.stack ++ top_kind ∷ []) ≡ Some t.stack) × (k.locals ≡ t.locals)
       loaded_is =
           with_stack_is k t (limited b.max_stack (k.stack ++ top_kind ∷ []))
-          (chosen (accepts want top_kind) (with_stack k (limited b.max_stack (k.stack ++ top_kind ∷ []))) t
+          (guard_some (accepts want top_kind) (with_stack k (limited b.max_stack (k.stack ++ top_kind ∷ []))) t
           (stepped (kinds.loads slot want) e)).1
 
       value_is : IsOfVerificationType v top_kind
       value_is = from_slot v top_kind (subst (λ l. IsInSlot l top_kind) q (read_fits f.locals k.locals slot turn.locals))
 
       stack_is : k.stack ++ top_kind ∷ [] ≡ t.stack
-      stack_is = some_is (k.stack ++ top_kind ∷ []) t.stack (chosen _ (Some (k.stack ++ top_kind ∷ [])) t.stack loaded_is.0).1
+      stack_is = same_Some (k.stack ++ top_kind ∷ []) t.stack (guard_some _ (Some (k.stack ++ top_kind ∷ [])) t.stack loaded_is.0).1
 
       by : (x : Bool) → Fine program s f b (cond x (goes_with s f (v ∷ f.stack)) gets_stuck)
       by false = tt
@@ -248,9 +247,9 @@ module _ {program : Program} {s : Shared} {f : Frame} {c : Linked} {b : Body} {i
   unfolding Fine
   counts_fine slot n e h None = tt
   counts_fine slot n e h (Some (int x)) =
-      let p = chosen (is_int (slice_index_or k.locals slot verification.top)) (with_stack k (limited b.max_stack k.stack)) t (stepped (kinds.counts slot) e) in
+      let p = guard_some (is_int (slice_index_or k.locals slot verification.top)) (with_stack k (limited b.max_stack k.stack)) t (stepped (kinds.counts slot) e) in
       let w = with_stack_is k t (limited b.max_stack k.stack) p.1 in
-      let same : k.stack ≡ t.stack = some_is k.stack t.stack (chosen _ (Some k.stack) t.stack w.0).1 in
+      let same : k.stack ≡ t.stack = same_Some k.stack t.stack (guard_some _ (Some k.stack) t.stack w.0).1 in
       going turn s (f.place + 1) _ f.stack (falls turn h)
       (subst (λ l. AreInSlots (slice_set f.locals slot (Some (int (int_wrapping_add w32 x n)))) l) w.1
       (count_fits f.locals k.locals slot (int_wrapping_add w32 x n) turn.locals (int_is _ p.0)))
@@ -278,7 +277,7 @@ module _ {program : Program} {s : Shared} {f : Frame} {c : Linked} {b : Body} {i
       put = record { locals = kinds.put_local slot (kinds.last k.stack) k.locals; stack = k.stack }
 
       stored : (accepts want (kinds.last k.stack) ≡ true) × (with_stack put (limited b.max_stack (kinds.below 1 k.stack)) ≡ Some t)
-      stored = chosen (accepts want (kinds.last k.stack)) (with_stack put (limited b.max_stack (kinds.below 1 k.stack))) t (stepped (kinds.stores slot want) e)
+      stored = guard_some (accepts want (kinds.last k.stack)) (with_stack put (limited b.max_stack (kinds.below 1 k.stack))) t (stepped (kinds.stores slot want) e)
 
       left : (limited b.max_stack (kinds.below 1 k.stack) ≡ Some t.stack) × (put.locals ≡ t.locals)
       left = with_stack_is put t (limited b.max_stack (kinds.below 1 k.stack)) stored.1
@@ -287,7 +286,7 @@ module _ {program : Program} {s : Shared} {f : Frame} {c : Linked} {b : Body} {i
       locals_are = ap (λ x. kinds.put_local slot x k.locals) (sym last_is) ∙ left.1
 
       stack_is : top.low ≡ t.stack
-      stack_is = sym below_stack ∙ some_is (kinds.below 1 k.stack) t.stack (chosen _ (Some (kinds.below 1 k.stack)) t.stack left.0).1
+      stack_is = sym below_stack ∙ same_Some (kinds.below 1 k.stack) t.stack (guard_some _ (Some (kinds.below 1 k.stack)) t.stack left.0).1
 
       there : AllByRecursion (IsThere program s.heap) (v ∷ stack)
       there = subst (AllByRecursion (IsThere program s.heap)) q (turn.there).stack

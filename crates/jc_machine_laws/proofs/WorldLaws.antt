@@ -2,6 +2,8 @@
 use Rattle.std.proofs.Common.{◌≡◌, ℕ, ◌≤◌, List, length, Option, Some, None, le_refl, refl, sym, ap, subst, ◌∙◌, [], ◌∷◌}
 use Rattle.std.specs.List.{AllByRecursion}
 use Rattle.std.specs.Prelude.{slice_get}
+use Rattle.jc_bytes.proofs.ListLaws.{all_at as get_each}
+use Rattle.jc_bytes.proofs.EachLaws.{all_both}
 use Rattle.jc_methods.specs.declared.insn.Insn.{Insn}
 use Rattle.jc_methods.specs.declared.body.Body.{Body}
 use Rattle.jc_methods.specs.VerificationTypes.{TypeState}
@@ -27,9 +29,9 @@ use Rattle.jc_machine_model.specs.Fits.{FitsRunning, FitsThread, FitsWorld, IsPr
 use Rattle.jc_machine_model.proofs.BeginLaws.{all_at, begin_fits}
 use Rattle.jc_machine_laws.specs.Laws.{StepFits, StepHits, RunFits}
 use Rattle.jc_machine_laws.proofs.OnwardLaws.{Here, here_of}
-use Rattle.jc_machine_laws.proofs.StepLaws.{Turn, Fine, SharedFits, each_append}
+use Rattle.jc_machine_laws.proofs.StepLaws.{Turn, Fine, SharedFits}
 use Rattle.jc_machine_laws.proofs.GrowLaws.{each_to}
-use Rattle.jc_machine_laws.proofs.StaticLaws.{set_each, get_each}
+use Rattle.jc_machine_laws.proofs.StaticLaws.{set_each}
 use Rattle.jc_machine_laws.proofs.ReturnLaws.{at_of, located_is, after_is}
 use Rattle.jc_machine_laws.proofs.ThreadLaws.{Lands, lands, running_grows}
 use Rattle.jc_machine_laws.proofs.SimpleLaws.{simple_at, push_at, local_at, inc_at, new_array_at, jump_at, table_at, lookup_at}
@@ -129,7 +131,7 @@ step_hits program w t p h g = by (slice_get w.threads t) refl
   where
     by : (o : Option Thread) → slice_get w.threads t ≡ o → AllByRecursion (IsProbe program) (step_of program w t o).hits
     by None e = g
-    by (Some thread) e = each_append (IsProbe program) (turn_of program w.shared thread).hits w.hits (world_turn program w t thread p h e).hits g
+    by (Some thread) e = all_both (IsProbe program) (turn_of program w.shared thread).hits w.hits (world_turn program w t thread p h e).hits g
 
 -- ---- runs
 

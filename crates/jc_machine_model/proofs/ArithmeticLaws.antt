@@ -6,6 +6,7 @@ use Rattle.std.proofs.lemmas.Int.{ints, wrapping_add_is, wrapping_sub_is, wrappi
 use Rattle.std.proofs.Math.Facts.{sfits_to_z}
 use Rattle.std.proofs.Math.Dec.{T}
 use Rattle.std.proofs.Math.Nat.{div-add-mod', div-le_self, mod-lt, mod-le}
+use Rattle.jc_bytes.proofs.BooleanLaws.{test_true}
 use Rattle.jc_programs.specs.declared.run_end.Thrown.TheVariants as thrown
 use Rattle.jc_machine_model.specs.Values.{Value, int, long}
 use Rattle.jc_machine_model.specs.Effects.{effect, gives, raises, int_pair, int_bits, long_pair, long_shift, int_single, long_single, single, pair, compared, count_of_32, count_of_64}
@@ -76,7 +77,7 @@ wrap_64 : (z : ℤ) → Wraps 63 z (int_wrap w64 z)
 unfolding int_wrap
 wrap_64 z = wraps_from 63 z _ _ (rest_differs 18446744073709551615 z)
     (subst (λ r. Wraps 63 r (int_wrap w64 z)) (rest_is 18446744073709551615 z)
-      (cast_64 (unsigned_abs (int_rem_euclid z (pos 18446744073709551616))) (rest_within 18446744073709551615 z)))
+    (cast_64 (unsigned_abs (int_rem_euclid z (pos 18446744073709551616))) (rest_within 18446744073709551615 z)))
 
 fits_32 : (z : ℤ) → FitsInt z → SFits w32 z
 fits_32 (pos n) h = record { sfits = h }
@@ -308,18 +309,18 @@ converts x y stack p q = let n = narrows x p in record {
   i2c = (_, refl, n.char);
   i2s = (_, refl, n.short);
   i2l = refl;
-  l2i = (_, refl, wraps_from 31 y (pos (cast_unsigned w64 y)) _ (differ_in 4294967296 4294967296 _ _ (unsigned_64 y q))
-      (wraps_from 31 _ _ _ (rest_differs 4294967295 (pos (cast_unsigned w64 y))) (cast_32 _ (mod-lt (cast_unsigned w64 y) (omega arith)))));
+  l2i = (
+    _,
+    refl,
+    wraps_from 31 y (pos (cast_unsigned w64 y)) _ (differ_in 4294967296 4294967296 _ _ (unsigned_64 y q))
+        (wraps_from 31 _ _ _ (rest_differs 4294967295 (pos (cast_unsigned w64 y))) (cast_32 _ (mod-lt (cast_unsigned w64 y) (omega arith)))),
+  );
 }
 
 -- ---- comparisons
 
-holds : (b : Bool) → T b → b ≡ true
-holds true t = refl
-holds false t = absurd t
-
 below_is : (x y : ℤ) → x <ℤ y → int_lt x y ≡ true
-below_is x y l = holds (int_lt x y) l.lt
+below_is x y l = test_true (int_lt x y) l.lt
 
 not_below : (x y : ℤ) → y ≤ℤ x → int_lt x y ≡ false
 not_below x y l = by (int_lt x y) refl

@@ -1,10 +1,13 @@
 -- The world in which a case begins fits its program.
-use Rattle.std.proofs.Common.{◌≡◌, inl, inr, ℕ, zero, suc, ◌-◌, ◌≤◌, ℤ, Bool, true, false, not, ◌&&◌, cond, List, [], ◌∷◌, ◌++◌, length, replicate, map, Option, Some, None, get_or, refl, sym, ◌∙◌, ap, subst, arith}
-use Rattle.std.proofs.lemmas.Option.{slice_get_within, get_or_from_slice_get, slice_get-get_or, slice_get-map}
+use Rattle.std.proofs.Common.{◌≡◌, inl, inr, ℕ, zero, suc, ◌-◌, ◌≤◌, ℤ, Bool, true, false, not, cond, List, [], ◌∷◌, ◌++◌, length, replicate, map, Option, Some, None, get_or, refl, sym, ◌∙◌, ap, subst, arith}
+use Rattle.std.proofs.lemmas.Option.{slice_get_within, get_or_from_slice_get, slice_get-get_or, slice_get-map, same_Some}
 use Rattle.std.proofs.lemmas.List.Quantifiers.{position-Some}
 use Rattle.std.specs.Prelude.{All, IsTrue, slice_get, option_and_then, option_map, position}
 use Rattle.std.specs.List.{AllByRecursion}
+use Rattle.std.proofs.lemmas.Bool.{and_parts, not-true, false≢true}
 use Rattle.jc_bytes.specs.Descriptor.{FieldType, Byte, Char, Double, Float, Int, Long, Short, Boolean, Object, Array}
+use Rattle.jc_bytes.proofs.OptionLaws.{none_some, map_some, then_some}
+use Rattle.jc_bytes.proofs.EachLaws.{all_both}
 use Rattle.jc_methods.specs.declared.body.Body.{Body}
 use Rattle.jc_methods.specs.DescriptorTypes.{field_type_in, method_type_in}
 use Rattle.jc_methods.specs.EntryState.{is_static, spread_one, spread, in_locals, held_of, this_of, entry_of as first_state}
@@ -31,37 +34,8 @@ use Rattle.jc_machine_model.specs.Laws.{BeginFits}
 
 -- ---- options and tests
 
-pub none_some : {X : Type 0} {x : X} → None ≡ Some x → ⊥
-none_some e = cc
-
-pub some_is : {X : Type 0} (x y : X) → Some x ≡ Some y → x ≡ y
-some_is x y e = cc
-
-pub false_true : false ≡ true → ⊥
-false_true e = cc
-
-pub both : (a b : Bool) → (a && b) ≡ true → (a ≡ true) × (b ≡ true)
-both true b e = (refl, e)
-both false b e = absurd (false_true e)
-
-pub not_is : (a : Bool) → not a ≡ true → a ≡ false
-not_is true e = absurd (false_true e)
-not_is false e = refl
-
-pub then_some : {X Y : Type 0} (f : X → Option Y) (o : Option X) (y : Y) → option_and_then f o ≡ Some y → (x : X) × (o ≡ Some x) × (f x ≡ Some y)
-then_some f None y e = absurd (none_some e)
-then_some f (Some x) y e = (x, refl, e)
-
-pub map_some : {X Y : Type 0} (f : X → Y) (o : Option X) (y : Y) → option_map f o ≡ Some y → (x : X) × (o ≡ Some x) × (f x ≡ y)
-map_some f None y e = absurd (none_some e)
-map_some f (Some x) y e = (x, refl, some_is (f x) y e)
-
 pub all_at : {X : Type 0} (P : X → Type 0) (xs : List X) (k : ℕ) (x : X) → All P xs → slice_get xs k ≡ Some x → P x
 all_at P xs k x h e = subst P (get_or_from_slice_get xs k x x e) (h k x (slice_get_within xs k x e))
-
-each_append : {X : Type 0} (P : X → Type 0) (xs ys : List X) → AllByRecursion P xs → AllByRecursion P ys → AllByRecursion P (xs ++ ys)
-each_append P [] ys h g = g
-each_append P (x ∷ xs) ys h g = (h.0, each_append P xs ys h.1 g)
 
 pub each_replicate : {X : Type 0} (P : X → Type 0) (n : ℕ) (x : X) → P x → AllByRecursion P (replicate n x)
 each_replicate P zero x h = tt
@@ -76,10 +50,10 @@ value_fits Char n e = (tt, tt)
 value_fits Short n e = (tt, tt)
 value_fits Int n e = (tt, tt)
 value_fits Long n e = (tt, (tt, tt))
-value_fits Float n e = absurd (false_true e)
-value_fits Double n e = absurd (false_true e)
-value_fits (Object name) n e = absurd (false_true e)
-value_fits (Array component) n e = absurd (false_true e)
+value_fits Float n e = absurd (false≢true e)
+value_fits Double n e = absurd (false≢true e)
+value_fits (Object name) n e = absurd (false≢true e)
+value_fits (Array component) n e = absurd (false≢true e)
 
 pub slots_append : (a b : List (Option Value)) (x y : List VerificationType) → AreInSlots a x → AreInSlots b y → AreInSlots (a ++ b) (x ++ y)
 slots_append [] b [] y p q = q
@@ -99,12 +73,12 @@ all_top (suc n) = (tt, all_top n)
 
 values_fit : (types : List FieldType) (numbers : List ℤ) → are_arguments types numbers ≡ true → AreInSlots (spread_values (argument_values types numbers)) (spread (map held_of types))
 values_fit [] [] e = tt
-values_fit [] (n ∷ numbers) e = absurd (false_true e)
-values_fit (type ∷ types) [] e = absurd (false_true e)
+values_fit [] (n ∷ numbers) e = absurd (false≢true e)
+values_fit (type ∷ types) [] e = absurd (false≢true e)
 values_fit (type ∷ types) (n ∷ numbers) e =
-    let p = both (is_argument type n) (are_arguments types numbers) e in
+    let p = and_parts (is_argument type n) (are_arguments types numbers) e in
     slots_append (spread_value (number_value type n)) (spread_values (argument_values types numbers)) (spread_one (held_of type))
-        (spread (map held_of types)) (value_fits type n p.0) (values_fit types numbers p.1)
+    (spread (map held_of types)) (value_fits type n p.0) (values_fit types numbers p.1)
 
 locals_fit : (most : ℕ) (types : List FieldType) (numbers : List ℤ) → are_arguments types numbers ≡ true
     → AreInSlots (locals_for most (argument_values types numbers)) (in_locals most (map held_of types))
@@ -179,7 +153,7 @@ values_there : (program : Program) (types : List FieldType) (numbers : List ℤ)
 values_there program [] numbers = tt
 values_there program (type ∷ types) [] = tt
 values_there program (type ∷ types) (n ∷ numbers) =
-    each_append (IsThereInSlot program []) (spread_value (number_value type n)) (spread_values (argument_values types numbers)) (spread_there program type n) (values_there program types numbers)
+    all_both (IsThereInSlot program []) (spread_value (number_value type n)) (spread_values (argument_values types numbers)) (spread_there program type n) (values_there program types numbers)
 
 first_there : (program : Program) (type : Option FieldType) (n : ℤ) → IsThere program [] (first_of type n)
 first_there program None n = tt
@@ -205,7 +179,7 @@ statics_there program (c ∷ classes) = (fields_there program c.statics, statics
 -- ---- static fields
 
 sort_holds : (a b : ComputationalType) (v : Value) → IsTrue (is_of a v) → Some a ≡ Some b → IsTrue (is_of b v)
-sort_holds a b v h e = subst (λ s. IsTrue (is_of s v)) (some_is a b e) h
+sort_holds a b v h e = subst (λ s. IsTrue (is_of s v)) (same_Some a b e) h
 
 first_right : (type : Option FieldType) (n : ℤ) → IsOfType type (Some (first_of type n))
 first_right None n = tt
@@ -224,7 +198,7 @@ field_right : (c : Linked) (k : ℕ) (f : StaticField) → slice_get c.statics k
 field_right c k f e n =
     subst (λ o. IsOfType (field_type_in f.desc) o) (sym (slice_get-map first_value c.statics k ∙ ap (option_map first_value) e)) (first_right (field_type_in f.desc) f.first)
 
-map_length : {X Y : Type 0} (f : X → Y) (xs : List X) → length (map f xs) ≡ length xs
+pub map_length : {X Y : Type 0} (f : X → Y) (xs : List X) → length (map f xs) ≡ length xs
 map_length f [] = refl
 map_length f (x ∷ xs) = let e = map_length f xs in grind (arith, e)
 
@@ -235,8 +209,23 @@ statics_fit (c ∷ classes) = (record { count = map_length first_value c.statics
 -- ---- threads
 
 pub no_body : Body
-no_body = record { method = 0; owner = []; name = []; desc = []; flags = 0; arg_slots = 0; max_stack = 0; max_locals = 0; code = []; handlers = [];
-    lines = []; vars = []; kind_vars = []; frames = []; uses = [] }
+no_body = record {
+  method = 0;
+  owner = [];
+  name = [];
+  desc = [];
+  flags = 0;
+  arg_slots = 0;
+  max_stack = 0;
+  max_locals = 0;
+  code = [];
+  handlers = [];
+  lines = [];
+  vars = [];
+  kind_vars = [];
+  frames = [];
+  uses = [];
+}
 
 -- what an entry is
 record IsEntry (program : Program) (thread : ThreadLine) (entry : Entry) : Type 0 where
@@ -272,10 +261,10 @@ record Passed (thread : ThreadLine) (b : Body) : Type 0 where
 
 passed : (thread : ThreadLine) (b : Body) → is_entry thread b ≡ true → Passed thread b
 passed thread b e =
-    let p = both (is_static b.flags) _ e in
-    let q = both _ _ p.1 in
-    let r = both _ _ q.1 in
-    record { static = p.0; no_init = not_is (is_init_name b.name) r.0; arguments = r.1 }
+    let p = and_parts (is_static b.flags) _ e in
+    let q = and_parts _ _ p.1 in
+    let r = and_parts _ _ q.1 in
+    record { static = p.0; no_init = not-true (is_init_name b.name) r.0; arguments = r.1 }
 
 -- what is known of the method with which a thread begins
 record Begun (program : Program) (method : Entry) (numbers : List ℤ) (c : Linked) (b : Body) : Type 0 where
@@ -296,12 +285,12 @@ begins_in_slots : (program : Program) (method : Entry) (numbers : List ℤ) (c :
     → AreInSlots (first_frame method b numbers).locals (first_state b).locals
 begins_in_slots program method numbers c b k =
     subst (λ s. AreInSlots (locals_for b.max_locals (argument_values (method_type_in b.desc).parameters numbers))
-        (in_locals b.max_locals ((cond s [] (this_of b.owner b.name ∷ [])) ++ map held_of (method_type_in b.desc).parameters))) (sym k.static)
+    (in_locals b.max_locals ((cond s [] (this_of b.owner b.name ∷ [])) ++ map held_of (method_type_in b.desc).parameters))) (sym k.static)
     (locals_fit b.max_locals (method_type_in b.desc).parameters numbers k.arguments)
 
 frame_there : (program : Program) (method : Entry) (b : Body) (numbers : List ℤ) → AreThereIn program [] (first_frame method b numbers)
 frame_there program method b numbers = let values = argument_values (method_type_in b.desc).parameters numbers in record {
-  locals = each_append (IsThereInSlot program []) (spread_values values) (replicate (b.max_locals - length (spread_values values)) None)
+  locals = all_both (IsThereInSlot program []) (spread_values values) (replicate (b.max_locals - length (spread_values values)) None)
       (values_there program (method_type_in b.desc).parameters numbers) (each_replicate (IsThereInSlot program []) (b.max_locals - length (spread_values values)) None tt);
   stack = tt;
 }
@@ -312,8 +301,15 @@ frame_fits program method numbers c b k e =
     let s = there_is (first_state b) (state_of program.names b 0) k.whole.checked.entry in
     record {
       state = s.0;
-      stands = record { linked = c; class_is = k.class_is; body = b; body_is = k.body_is;
-          plain = (both (is_plain c b) (not (is_synchronized b)) e).0; within = k.whole.well_made.of_any_size.code.some; state_is = s.1 };
+      stands = record {
+        linked = c;
+        class_is = k.class_is;
+        body = b;
+        body_is = k.body_is;
+        plain = (and_parts (is_plain c b) (not (is_synchronized b)) e).0;
+        within = k.whole.well_made.of_any_size.code.some;
+        state_is = s.1;
+      };
       locals = slots_fit (first_frame method b numbers).locals (first_state b).locals s.0.locals (begins_in_slots program method numbers c b k) s.2.locals;
       stack = nothing_fits s.0.stack s.2.stack;
     }
@@ -346,7 +342,7 @@ thread_fits program thread entry p e =
     (subst (λ o. FitsThread program [] (elim o [ None ↦ stuck entry 0 | Some b ↦ thread_in entry thread.args i.linked b ])) (sym i.body_is)
     (thread_if program entry thread.args i.linked i.body (is_enterable i.linked i.body) refl k))
 
-threads_fit : (program : Program) (threads : List ThreadLine) (entries : List Entry) → IsProgram program → AreEntries program threads entries
+pub threads_fit : (program : Program) (threads : List ThreadLine) (entries : List Entry) → IsProgram program → AreEntries program threads entries
     → AllByRecursion (FitsThread program []) (first_threads program threads entries)
 threads_fit program [] [] p e = tt
 threads_fit program [] (entry ∷ entries) p e = absurd e

@@ -6,7 +6,7 @@ use Rattle.std.proofs.lemmas.Bool.Decides.{nat_tests}
 use Rattle.jc_programs.specs.declared.run_end.Thrown.{Thrown}
 use Rattle.jc_machine_model.specs.Effects as effects
 use Rattle.jc_machine_model.specs.Values.{Value, int, long, null}
-use Rattle.jc_machine_model.specs.Effects.{Effect, gives, unfit, when, Move, stand_categories, results_at, moved, moves_of, constant, divided, int_bits, int_pair, long_pair, long_shift, int_single, long_single, single, pair, has_one_operand, effect}
+use Rattle.jc_machine_model.specs.Effects.{Effect, gives, unfit, Move, stand_categories, results_at, moved, moves_of, constant, int_bits, int_pair, long_pair, long_shift, int_single, long_single, single, pair, effect}
 
 abbrev pub Few : Effect → Type 0
 Few (gives taken results) = length results ≤ 6

@@ -12,20 +12,9 @@ use Rattle.std.specs.Ordering.{nat_cmp}
 use Rattle.std.specs.Cmp.Lexicographic.{slice_cmp}
 use Rattle.std.specs.Str.{bytes_eq}
 use Rattle.std.specs.FinMap.{get, insert, find, get-from_entries, get-insert, same_map}
+use Rattle.jc_bytes.proofs.TextEqualLaws.{turned, same_bytes}
 use Rattle.jc_outside.specs.Outside.{FileMap, Begins, IsPart, LeavesPart}
 use Rattle.jc_outside.specs.InMemory.{Kept, entry_of, held, emptied}
-
-same_bytes : (a b : List ℕ) → a ≡ b → bytes_eq a b ≡ true
-same_bytes a b e = (bytes_eq-Decides a b).1 e
-
-turned : (a b : List ℕ) → bytes_eq a b ≡ bytes_eq b a
-turned a b = by (bytes_eq a b) (bytes_eq b a) refl refl
-  where
-    by : (x y : Bool) → bytes_eq a b ≡ x → bytes_eq b a ≡ y → x ≡ y
-    by true true p q = refl
-    by false false p q = refl
-    by true false p q = sym (same_bytes b a (sym ((bytes_eq-Decides a b).0 p))) ∙ q
-    by false true p q = sym p ∙ same_bytes a b (sym ((bytes_eq-Decides b a).0 q))
 
 -- the bytes that were found
 abbrev found : Option (Vec ℕ Global) → Option (List ℕ)
@@ -45,7 +34,7 @@ module _ (path : List ℕ) where
   get_held m = get-from_entries nat_list_cmp_total (map entry_of m.entries) path ∙ find_found m.entries
 
 -- what a map that was written at a path holds
-get_inserted : (m : FileMap) (path bytes q : List ℕ) → get (insert m path bytes) q ≡ cond (bytes_eq path q) (Some bytes) (get m q)
+pub get_inserted : (m : FileMap) (path bytes q : List ℕ) → get (insert m path bytes) q ≡ cond (bytes_eq path q) (Some bytes) (get m q)
 get_inserted m path bytes q = get-insert nat_list_cmp_total m path bytes q ∙ ap (λ b. cond b (Some bytes) (get m q)) (is_eq-slice_cmp q path ∙ turned q path)
 
 pub get_here : (m : FileMap) (path bytes : List ℕ) → get (insert m path bytes) path ≡ Some bytes

@@ -13,7 +13,7 @@ pub part_taken : (file : List ℕ) (from start count : ℕ) → start ≡ min fr
     → count ≡ min 65536 (length (take (length file - start) (drop start file))) → take count (take (length file - start) (drop start file)) ≡ take 65536 (drop from file)
 part_taken file from start count starts counts =
     let rest : take (length file - start) (drop start file) ≡ drop from file = take_all (length file - start) (drop start file)
-            (omega (arith, length-drop start file)) ∙ ap (λ n. drop n file) starts ∙ drop_min from file in
+    (omega (arith, length-drop start file)) ∙ ap (λ n. drop n file) starts ∙ drop_min from file in
     ap (λ n. take n (take (length file - start) (drop start file))) counts ∙ take_min 65536 (take (length file - start) (drop start file)) ∙ ap (take 65536) rest
 
 -- the part of a file that is told

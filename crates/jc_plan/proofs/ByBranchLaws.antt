@@ -1,14 +1,13 @@
 -- A plan read by branch.
-use Rattle.std.proofs.Common.{◌≡◌, inl, inr, ⊎_elim, ℕ, zero, suc, ◌+◌, ◌<◌, true, List, [], ◌∷◌, ◌++◌, map, length, Some, refl, sym, ap, ◌∙◌, subst, arith}
+use Rattle.std.proofs.Common.{◌≡◌, ⊎_elim, ℕ, zero, suc, ◌+◌, ◌<◌, true, List, [], ◌∷◌, ◌++◌, map, length, Some, sym, ap, ◌∙◌, subst, arith}
 use Rattle.std.specs.Prelude.{Contains, slice_get, option_map, option_and_then}
 use Rattle.std.specs.List.{sum_by}
 use Rattle.std.proofs.lemmas.List.{take_all}
 use Rattle.std.proofs.lemmas.Bool.{cases_order}
 use Rattle.std.proofs.lemmas.Option.{slice_get-map, slice_get_within, same_Some, none-some}
-use Rattle.jc_methods.specs.Flow.{flow_of, FallsThrough, goes_on}
+use Rattle.jc_methods.specs.Flow.{flow_of, goes_on}
 use Rattle.jc_methods.specs.WellMade.{IsCode}
 use Rattle.jc_methods.specs.declared.insn.Insn.{Insn}
-use Rattle.jc_methods.specs.declared.insn.Flow.{Flow}
 use Rattle.jc_methods.specs.declared.insn.Flow.TheVariants as flows
 use Rattle.jc_methods.specs.declared.body.Body.{Body}
 use Rattle.jc_methods.proofs.FlowLaws.{falls_decided}
@@ -47,7 +46,7 @@ out_is : (b : Body) (first i k : ℕ) (insn : Insn) (x : Branch) → slice_get b
     → no_probe (option_and_then (λ out. slice_get out k) (slice_get (plan_of b first).out i)) ≡ out_probe b first x
 out_is b first i k insn x h g =
     let there : slice_get (map (out_probe b first) (branches_of i insn)) k ≡ Some (out_probe b first x) =
-            slice_get-map (out_probe b first) (branches_of i insn) k ∙ ap (option_map (out_probe b first)) g in
+    slice_get-map (out_probe b first) (branches_of i insn) k ∙ ap (option_map (out_probe b first)) g in
     ap (λ o. no_probe (option_and_then (λ out. slice_get out k) o)) (out_read b first i insn h) ∙ ap no_probe there
 
 pub branch_planned : (b : Body) (first i k : ℕ) (insn : Insn) (x : Branch) → IsCode b.code → slice_get b.code i ≡ Some insn → slice_get (branches_of i insn) k ≡ Some x → IsOf insn i x

@@ -1,9 +1,9 @@
 -- What an instruction chooses is one of its branches.
-use Rattle.std.proofs.Common.{◌≡◌, ◌⊎◌, inl, inr, ⊎_elim, ℕ, ℤ, zero, suc, ◌+◌, Bool, true, false, cond, not, ◌&&◌, List, [], ◌∷◌, map, length, Option, Some, None, refl, sym, ap, ◌∙◌, subst, arith, nat_eq, get_or, zero-add}
+use Rattle.std.proofs.Common.{◌≡◌, ◌⊎◌, inl, inr, ⊎_elim, ℕ, ℤ, zero, suc, ◌+◌, Bool, true, false, cond, not, ◌&&◌, List, [], ◌∷◌, map, Some, None, refl, sym, ap, ◌∙◌, subst, arith, nat_eq, get_or, zero-add}
 use Rattle.std.specs.Prelude.{slice_get, Contains, int_lt, int_le, unsigned_abs, ◌-ℤ◌}
 use Rattle.std.specs.List.{position_or_len}
 use Rattle.std.proofs.lemmas.Bool.{eqb-true, eqb-false}
-use Rattle.std.proofs.lemmas.Option.{same_Some, none-some}
+use Rattle.std.proofs.lemmas.Option.{same_Some}
 use Rattle.jc_bytes.specs.PlainLists.{map_from}
 use Rattle.jc_bytes.specs.FirstSeen.{first_seen}
 use Rattle.jc_methods.specs.Flow.{is_return, flow_of, targets_of, jump_target}
@@ -18,7 +18,7 @@ use Rattle.jc_bytes.proofs.FirstSeenLaws.{first_seen_all}
 use Rattle.jc_bytes.proofs.BooleanLaws.{none_in, first_in, later_in, which_in}
 use Rattle.jc_plan.specs.declared.branch.Branch.{Branch}
 use Rattle.jc_plan.specs.Edges.{place_of, sequence, jump, arm, exit, branches_by, branches_of, branches}
-use Rattle.jc_plan.specs.Chosen.{Outcome, one_way, condition, key, table_target, lookup_target, key_target, arm_to, chosen_by, chosen, onward_by, onward}
+use Rattle.jc_plan.specs.Chosen.{Outcome, one_way, condition, key, lookup_target, key_target, arm_to, chosen_by, chosen, onward_by, onward}
 use Rattle.jc_plan.proofs.ListedLaws.{lists_from}
 use Rattle.jc_plan.proofs.OneWayLaws.{HasOne, tests_one, jumps_one}
 
@@ -43,7 +43,7 @@ in_or_default (x ∷ xs) (suc n) d =
     (λ later. later_in d (x ∷ xs) (get_or xs n d) (later_in x xs (get_or xs n d) later))
     (which_in d xs (get_or xs n d) (in_or_default xs n d))
 
-arm_listed : (default : ℕ) (arms : List Arm) (k : ℤ) → Contains (default ∷ map (λ (a : Arm). a.to) arms) (lookup_target default arms k)
+pub arm_listed : (default : ℕ) (arms : List Arm) (k : ℤ) → Contains (default ∷ map (λ (a : Arm). a.to) arms) (lookup_target default arms k)
 arm_listed default [] k = first_in default []
 arm_listed default (a ∷ arms) k = by (int_le a.key k && int_le k a.key) (arm_listed default arms k)
   where
@@ -124,7 +124,7 @@ chosen_in insn i outcome x e = by (flow_of insn) refl outcome e
     by flows.Switches flow (key k) e =
         subst (Lists insn i flows.Switches) (same_Some (arm_to i (targets_of insn) (key_target insn k)) x e)
         (subst (λ (n : ℕ). Contains (map_from (arm i) 0 (first_seen (targets_of insn))) (arm i n (key_target insn k)))
-            (zero-add (position_or_len (nat_eq (key_target insn k)) (first_seen (targets_of insn))))
+        (zero-add (position_or_len (nat_eq (key_target insn k)) (first_seen (targets_of insn))))
         (arm_in i 0 (first_seen (targets_of insn)) (key_target insn k) (first_seen_all (targets_of insn) (key_target insn k) (key_listed insn flow k))))
     by flows.Returns flow one_way e = subst (Lists insn i flows.Returns) (same_Some (exit i) x e) (first_in (exit i) [])
     by flows.Throws flow one_way e = subst (Lists insn i flows.Throws) (same_Some (exit i) x e) (first_in (exit i) [])

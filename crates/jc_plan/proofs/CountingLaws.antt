@@ -68,7 +68,7 @@ module _ (b : Body) (rows : List Handler) (listed : List Branch) (same_rows : ro
             let jumps : count_by (enters i) listed ≡ count_by (leads_to i) b.code = ap (count_by (enters i)) same_branches ∙ all_entered i b.code in
             let starts : count_by (λ (h : Handler). nat_eq h.start i) rows ≡ count_by (λ (h : Handler). nat_eq h.start i) b.handlers = ap (count_by (λ (h : Handler). nat_eq h.start i)) same_rows in
             let targets : count_by (λ (h : Handler). nat_eq h.target i) rows ≡ count_by (λ (h : Handler). nat_eq h.target i) b.handlers =
-                    ap (count_by (λ (h : Handler). nat_eq h.target i)) same_rows in
+            ap (count_by (λ (h : Handler). nat_eq h.target i)) same_rows in
             get_or_default_zero all i d (let l : i < length all = omega (arith, size) in l)
             ∙ (let e : get_or all i 0 ≡ entries b i = omega (arith, nothing i, one_first, jumps, starts, targets, first i, second i, third i) in e)
 

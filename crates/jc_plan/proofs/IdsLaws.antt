@@ -60,8 +60,8 @@ module _ (b : Body) where
       and_from (is_probed b z) (is_before (position_of z) (position_of y)) both.0 (before_before (position_of z) (position_of x) (position_of y) both.1 h))
       c
       (false_from_ne_true (counted (position_of x) x)
-          (λ k. both_ways (is_before (position_of x) (position_of x)) (not_before_itself (position_of x))
-            (and_parts (is_probed b x) (is_before (position_of x) (position_of x)) k).1))
+      (λ k. both_ways (is_before (position_of x) (position_of x)) (not_before_itself (position_of x))
+      (and_parts (is_probed b x) (is_before (position_of x) (position_of x)) k).1))
       (and_from (is_probed b x) (is_before (position_of x) (position_of y)) probed h)
 
   -- the ids rise with the positions
@@ -82,6 +82,6 @@ module _ (b : Body) where
   ids_within first x c probed =
       let below = count_lt (counted (position_of x)) (is_probed b) (branches b.code) x (λ z k. (and_parts (is_probed b z) (is_before (position_of z) (position_of x)) k).0) c
       (false_from_ne_true (counted (position_of x) x)
-          (λ k. both_ways (is_before (position_of x) (position_of x)) (not_before_itself (position_of x))
-            (and_parts (is_probed b x) (is_before (position_of x) (position_of x)) k).1)) probed in
+      (λ k. both_ways (is_before (position_of x) (position_of x)) (not_before_itself (position_of x))
+      (and_parts (is_probed b x) (is_before (position_of x) (position_of x)) k).1)) probed in
       (omega arith, omega (arith, below))

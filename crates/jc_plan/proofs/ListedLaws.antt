@@ -1,10 +1,9 @@
 -- What stands in lists that are made of others.
 use Rattle.std.proofs.Common.{◌≡◌, ⊎_elim, ℕ, zero, suc, ◌+◌, List, [], ◌∷◌, Some, refl, sym, subst, arith}
 use Rattle.std.specs.Prelude.{slice_get, Contains}
-use Rattle.std.specs.List.{AllByRecursion}
 use Rattle.std.proofs.lemmas.List.Elements.{Contains-append_left, Contains-append_right, Contains-append_cases}
 use Rattle.jc_bytes.specs.PlainLists.{join_from}
-use Rattle.jc_bytes.proofs.BooleanLaws.{none_in, which_in}
+use Rattle.jc_bytes.proofs.BooleanLaws.{none_in}
 
 -- ---- joined lists
 
@@ -38,8 +37,3 @@ module _ {X Y : Type 0} (f : ℕ → X → List Y) where
       found i (z ∷ xs) (suc k) {x = x} h c =
           let e : i + suc k ≡ i + 1 + k = omega arith in
           Contains-append_right (f i z) (join_from f (i + 1) xs) y (found (i + 1) xs k h (subst (λ k. Contains (f k x) y) e c))
-
--- what holds of each holds of what is listed
-pub all_listed : {X : Type 0} (P : X → Type 0) (xs : List X) (y : X) → AllByRecursion P xs → Contains xs y → P y
-all_listed P [] y a c = absurd (none_in y c)
-all_listed P (x ∷ xs) y a c = ⊎_elim (λ same. subst P same a.0) (λ later. all_listed P xs y a.1 later) (which_in x xs y c)

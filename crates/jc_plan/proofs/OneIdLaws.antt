@@ -13,6 +13,7 @@ use Rattle.jc_methods.specs.declared.insn.Flow.{Flow}
 use Rattle.jc_methods.specs.declared.insn.Flow.TheVariants as flows
 use Rattle.jc_methods.specs.declared.body.Body.{Body}
 use Rattle.jc_bytes.proofs.BooleanLaws.{none_in, which_in, first_in}
+use Rattle.jc_bytes.proofs.ListLaws.{each_in}
 use Rattle.jc_plan.specs.declared.branch.Branch.{Branch}
 use Rattle.jc_plan.specs.declared.branch.Way.{Way}
 use Rattle.jc_plan.specs.declared.branch.Way.TheVariants.{Falls, Jumps, Switches, Exits}
@@ -21,7 +22,7 @@ use Rattle.jc_plan.specs.Entries.{one_if, is_multi_target, is_invocation_line}
 use Rattle.jc_plan.specs.Probed.{Position, position_by, position_of, is_probed_way, is_probed, probes_before, probe_count, id_of, IsUsed}
 use Rattle.jc_plan.proofs.CountLaws.{count_cons}
 use Rattle.jc_plan.proofs.FlowLaws.{IsAt, GoesFrom, all_at, IsRising, all_rise, has_targets}
-use Rattle.jc_plan.proofs.ListedLaws.{listed_from, lists_from, all_listed}
+use Rattle.jc_plan.proofs.ListedLaws.{listed_from, lists_from}
 use Rattle.jc_plan.proofs.IdsLaws.{one_position}
 use Rattle.jc_plan.proofs.NumberingLaws.{own_by, own, fallen_next, in_front, below, before_own, before_next}
 use Rattle.jc_plan.proofs.PlannedProbesLaws.{count_below, in_front_more}
@@ -67,7 +68,7 @@ listed code x c =
       insn = l.item;
       stands = l.stands;
       listed = here;
-      at = all_listed (IsAt l.place) (branches_of l.place l.item) x (all_at l.place (flow_of l.item) (targets_of l.item)) here;
+      at = each_in (IsAt l.place) (branches_of l.place l.item) x (all_at l.place (flow_of l.item) (targets_of l.item)) here;
     }
 
 -- the probe of such a branch stands at the branch's own instruction
@@ -207,7 +208,7 @@ module _ (b : Body) where
       let p = passing (own b) (branches_of i insn) (n - in_front b i) (omega (arith, low, high)) in
       let x = p.item in
       let here : Contains (branches_of i insn) x = subst (λ (l : List Branch). Contains l x) (sym p.split) (Contains-append_right p.pre (x ∷ p.post) x (first_in x p.post)) in
-      let at = all_listed (IsAt i) (branches_of i insn) x (all_at i (flow_of insn) (targets_of insn)) here in
+      let at = each_in (IsAt i) (branches_of i insn) x (all_at i (flow_of insn) (targets_of insn)) here in
       let rising : IsRising 0 (p.pre ++ x ∷ p.post) = subst (IsRising 0) p.split (all_rise (flow_of insn) i (targets_of insn) (has_targets insn)) in
       let position : position_of x ≡ record { at = i; number = 1 + x.number } =
       own_position x.way p.passes x.at x.number ∙ ap (λ (k : ℕ). record { at = k; number = 1 + x.number }) at.at in

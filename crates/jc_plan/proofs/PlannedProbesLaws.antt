@@ -72,8 +72,12 @@ module _ (b : Body) where
   own_arms : (k n : ℕ) (targets : List ℕ) → count_by (is_probed b) (map_from (arm k) n targets) ≡ count_by (own b) (map_from (arm k) n targets)
   own_arms k n [] = refl
   own_arms k n (to ∷ targets) =
-      omega (arith, count_cons (is_probed b) (arm k n to) (map_from (arm k) (n + 1) targets),
-        count_cons (own b) (arm k n to) (map_from (arm k) (n + 1) targets), own_arms k (n + 1) targets)
+      omega (
+        arith,
+        count_cons (is_probed b) (arm k n to) (map_from (arm k) (n + 1) targets),
+        count_cons (own b) (arm k n to) (map_from (arm k) (n + 1) targets),
+        own_arms k (n + 1) targets,
+      )
 
   -- where nothing falls into the next instruction, that has no probe of a fall-through
   no_lead : (i : ℕ) → is_fallen_into b.code i ≡ false → lead i ≡ 0

@@ -2,11 +2,10 @@
 use Rattle.std.proofs.Common.{◌≡◌, ◌≢◌, ◌⊎◌, inl, inr, ℕ, ℤ, zero, suc, ◌<◌, ◌≤◌, Bool, List, [], ◌∷◌, ◌++◌, length, Option, Some, None, Decides, int_eq, refl, sym, ◌∙◌, ap, subst, true≢false, arith}
 use Rattle.std.proofs.lemmas.Bool.{cases_Bool, cases_lt}
 use Rattle.std.proofs.lemmas.Bool.Decides.{Decides-int_eq}
-use Rattle.std.proofs.lemmas.Option.{none-some}
+use Rattle.std.proofs.lemmas.Option.{none-some, same_Some}
 use Rattle.std.proofs.lemmas.Slice.Eq.{bytes_eq-Decides}
 use Rattle.std.specs.Str.{bytes_eq}
 use Rattle.jc_bytes.specs.Decoder.{◌>>=◌}
-use Rattle.jc_bytes.proofs.DecoderLaws.{some_is}
 use Rattle.jc_pool.specs.declared.entry.Entry.{Entry}
 use Rattle.jc_pool.specs.declared.entry.Entry.TheVariants as entry
 use Rattle.jc_pool.specs.declared.index.Naming.{Naming}
@@ -133,7 +132,7 @@ module _ {X : Type 0} (same : X → X → Bool) (tells : (x y : X) → Decides (
   decide None x = inr (λ is. none-some x is)
   decide (Some y) x = elim (cases_Bool (same y x)) [
     | inl is ↦ inl (ap Some ((tells y x).0 is))
-    | inr other ↦ inr (λ is. true≢false (sym ((tells y x).1 (some_is y x is)) ∙ other))
+    | inr other ↦ inr (λ is. true≢false (sym ((tells y x).1 (same_Some y x is)) ∙ other))
   ]
 
   searched : (found : ℕ → Option X) (x : X) (end : ℕ) → ((p : ℕ) × IsFirst found x p) ⊎ ((p : ℕ) → p < end → found p ≢ Some x)
@@ -228,7 +227,7 @@ put_keeps old new e at name place put fresh first =
 
 utf8_keeps_first : (old new : PoolValue) (text name : List ℕ) (at place : ℕ) → HasUtf8 old text new at → IsFirst (class_name_of old) name place → IsFirst (class_name_of new) name place
 utf8_keeps_first old new text name at place (inl has) first = subst (λ (l : PoolValue). IsFirst (class_name_of l) name place) (sym has.1) first
-utf8_keeps_first old new text name at place (inr put) first = put_keeps old new (entry.Utf8 text) at name place put.1 (λ t is. subst (IsNowhere (utf8_of old)) (some_is text t is) put.0) first
+utf8_keeps_first old new text name at place (inr put) first = put_keeps old new (entry.Utf8 text) at name place put.1 (λ t is. subst (IsNowhere (utf8_of old)) (same_Some text t is) put.0) first
 
 -- a class keeps its first place, whatever class is added
 pub class_keeps_first : (old new : PoolValue) (other name : List ℕ) (at place : ℕ) → HasClass old other new at → IsFirst (class_name_of old) name place → IsFirst (class_name_of new) name place

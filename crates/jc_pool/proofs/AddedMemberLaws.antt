@@ -139,8 +139,8 @@ put_within old classed signed m class sig e is has_class has_sig =
     subst (λ (f : Entry). NamesWithin (length signed) (Some f)) (sym is)
     (member_within m.tag class sig (length signed)
     (class_within signed class m.class
-        (naming_kept naming.Class classed signed m.class class (signature_extends classed signed (signature m) sig has_sig)
-          (naming_there naming.Class old classed m.class class has_class)))
+    (naming_kept naming.Class classed signed m.class class (signature_extends classed signed (signature m) sig has_sig)
+    (naming_there naming.Class old classed m.class class has_class)))
     (signature_within signed sig (signature m) (signature_there classed (signature m) signed sig has_sig)))
 
 -- ---- there is one such pool
@@ -183,9 +183,9 @@ same_member a b = (a.tag == b.tag) && (bytes_eq a.class b.class && same_texts (s
 member_decided : (a b : Member) → Decides (same_member a b) (a ≡ b)
 member_decided a b =
     let texts = and_decided (bytes_eq a.class b.class) (same_texts (signature a) (signature b)) (a.class ≡ b.class) (signature a ≡ signature b)
-            (bytes_eq-Decides a.class b.class) (texts_decided (signature a) (signature b)) in
+    (bytes_eq-Decides a.class b.class) (texts_decided (signature a) (signature b)) in
     let told = and_decided (a.tag == b.tag) (bytes_eq a.class b.class && same_texts (signature a) (signature b)) (a.tag ≡ b.tag)
-            ((a.class ≡ b.class) × (signature a ≡ signature b)) (Decides-eqb a.tag b.tag) texts in (
+    ((a.class ≡ b.class) × (signature a ≡ signature b)) (Decides-eqb a.tag b.tag) texts in (
       λ is. (let same = told.0 is in λ i. record { tag = same.0 i; class = same.1.0 i; name = (same.1.1 i).name; desc = (same.1.1 i).desc }),
       λ same. told.1 (ap (λ (m : Member). m.tag) same, (ap (λ (m : Member). m.class) same, ap signature same)),
     )

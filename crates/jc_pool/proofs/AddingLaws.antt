@@ -2,12 +2,11 @@
 use Rattle.std.proofs.Common.{◌≡◌, inl, inr, ℕ, ◌+◌, ◌<◌, ◌≤◌, List, [], ◌∷◌, ◌++◌, length, take, IfOk, IsTrue, OnErr, Option, Some, None, Result, Ok, Err, refl, sym, ◌∙◌, ap, subst, arith, append_assoc}
 use Rattle.std.proofs.Math.Seq.{take-append_seam}
 use Rattle.std.proofs.lemmas.List.{append-nil}
-use Rattle.std.proofs.lemmas.Option.{none-some}
+use Rattle.std.proofs.lemmas.Option.{none-some, same_Some}
 use Rattle.jc_bytes.specs.declared.fail.Fail.{Fail}
 use Rattle.jc_bytes.specs.declared.fail.Fail.TheVariants as fails
 use Rattle.jc_bytes.specs.Decoder.{◌>>=◌}
 use Rattle.jc_bytes.specs.Texts.{IsShortText}
-use Rattle.jc_bytes.proofs.DecoderLaws.{some_is}
 use Rattle.jc_pool.specs.declared.add.PoolFull.{PoolFull}
 use Rattle.jc_pool.specs.declared.entry.Entry.{Entry}
 use Rattle.jc_pool.specs.declared.entry.Entry.TheVariants as entry
@@ -37,7 +36,7 @@ pub text_tables : (pool new : PoolValue) (old more : List ℕ → Option ℕ) (f
     → Notes old more text place first → IsNowhere (utf8_of pool) text → AreTables pool old firsts keys → AreTables new more firsts keys
 text_tables pool new old more firsts keys text place first put notes none is = subst (λ (l : PoolValue). AreTables l more firsts keys) (sym put.grown) (record {
   texts = texts_grow pool text old more place first put.last notes is.texts;
-  standins = text_standins pool (Some (entry.Utf8 text)) firsts (λ t at. subst (IsNowhere (utf8_of pool)) (some_is text t at) none) is.standins;
+  standins = text_standins pool (Some (entry.Utf8 text)) firsts (λ t at. subst (IsNowhere (utf8_of pool)) (same_Some text t at) none) is.standins;
   keys = keys_grow firsts pool (Some (entry.Utf8 text)) keys keys (length pool) refl (λ k. refl) is.keys;
 })
 
@@ -48,7 +47,7 @@ text_indexed pool new old index text place first same put notes none is = record
       subst (λ (l : List ℕ). AreTables new (text_place index.texts.entries (λ x. x.items)) l (key_place index.keys.entries)) (sym same.firsts)
       (subst (λ l. AreTables new (text_place index.texts.entries (λ x. x.items)) old.firsts.items (key_place l)) (sym same.keys)
       (text_tables pool new (text_place old.texts.entries (λ x. x.items)) (text_place index.texts.entries (λ x. x.items)) old.firsts.items
-          (key_place old.keys.entries) text place first put notes none is.tables));
+      (key_place old.keys.entries) text place first put notes none is.tables));
   members = λ within.
       subst (λ (l : List ℕ). AreMembersOf new l (key_place index.members.keys.entries)) (sym same.firsts)
       (subst (λ l. AreMembersOf new old.firsts.items (key_place l)) (sym same.members)
@@ -119,7 +118,7 @@ pub naming_narrow : (kind : Naming) (at : ℕ) → width (entry_naming kind at) 
 naming_narrow naming.Class at = refl
 naming_narrow naming.String at = refl
 
-naming_small : (kind : Naming) (at : ℕ) → IsSmall (entry_naming kind at)
+pub naming_small : (kind : Naming) (at : ℕ) → IsSmall (entry_naming kind at)
 naming_small naming.Class at = tt
 naming_small naming.String at = tt
 

@@ -4,10 +4,10 @@ use Rattle.std.specs.Int.{w32, w64, cast_signed}
 use Rattle.std.proofs.lemmas.Bool.{eqb-true}
 use Rattle.std.proofs.lemmas.Bool.Decides.{nat_tests}
 use Rattle.std.proofs.lemmas.List.{take_at}
-use Rattle.std.proofs.lemmas.Option.{none-some}
+use Rattle.std.proofs.lemmas.Option.{none-some, same_Some}
 use Rattle.byteorder.specs.Endian.{big_number}
 use Rattle.jc_bytes.specs.Decoder.{IsBig, ◌>>=◌, first, byte_at, number_at}
-use Rattle.jc_bytes.proofs.DecoderLaws.{bind_some, some_is, chosen, test_some, first_takes, first_again, number_takes, number_again, byte_takes, byte_again}
+use Rattle.jc_bytes.proofs.DecoderLaws.{bind_some, chosen, test_some, first_takes, first_again, number_takes, number_again, byte_takes, byte_again}
 use Rattle.jc_pool.specs.declared.entry.Entry.{Entry}
 use Rattle.jc_pool.specs.declared.entry.Entry.TheVariants as entry
 use Rattle.jc_pool.specs.Pool.{is_wide}
@@ -19,7 +19,7 @@ and_left x left = Some (x, left)
 
 pair_is : {A : Type 0} (x y : A) (left rest : List ℕ) → and_left x left ≡ and_left y rest → (x ≡ y) × (left ≡ rest)
 pair_is {A} x y left rest e =
-    let same = some_is (x, left) (y, rest) e in
+    let same = same_Some (x, left) (y, rest) e in
     (ap (λ (p : A × List ℕ). p.0) same, ap (λ (p : A × List ℕ). p.1) same)
 
 -- ---- what is read is spelled so
@@ -107,7 +107,7 @@ pub record Chosen (tag : ℕ) (Info : List ℕ → Type 0) (e : Entry) : Type 0 
 by_tag : (k tag : ℕ) (Info : List ℕ → Type 0) (x : Entry) (other : Option Entry) (e : Entry) → tag_of x ≡ k → ((bytes : List ℕ) → Info bytes → IsInfo bytes x)
     → cond (nat_eq tag k) (Some x) other ≡ Some e → Chosen tag Info e ⊎ (other ≡ Some e)
 by_tag k tag Info x other e tagged spelled read = elim (chosen (nat_eq tag k) (Some x) other (Some e) read) [
-  | inl h ↦ inl (subst (Chosen tag Info) (some_is x e h.1) (record { tag_is = tagged ∙ sym (eqb-true tag k h.0); spelled = spelled }))
+  | inl h ↦ inl (subst (Chosen tag Info) (same_Some x e h.1) (record { tag_is = tagged ∙ sym (eqb-true tag k h.0); spelled = spelled }))
   | inr h ↦ inr h.1
 ]
 
@@ -226,7 +226,7 @@ again_utf8 info rest text is =
     ap utf8_at (ap (λ (l : List ℕ). l ++ rest) is.parts ∙ append_assoc is.size text rest)
     ∙ ap (λ (r : Option (ℕ × List ℕ)). r >>= λ size. first size.0 (take size.0) size.1 >>= λ text. and_left (entry.Utf8 text.0) text.1) (number_again 2 is.size (text ++ rest) (length text) is.spells)
     ∙ ap (λ (r : Option (List ℕ × List ℕ)). r >>= λ text. and_left (entry.Utf8 text.0) text.1)
-        (first_again (length text) (take (length text)) text rest text refl (take_at text rest (length text) refl))
+    (first_again (length text) (take (length text)) text rest text refl (take_at text rest (length text) refl))
 
 again_handle : (info rest : List ℕ) (kind reference : ℕ) → IsHandle info kind reference → handle_at (info ++ rest) ≡ Some (entry.MethodHandle kind reference, rest)
 unfolding handle_at

@@ -1,9 +1,8 @@
 -- First places, and tables that have them.
 use Rattle.std.proofs.Common.{◌≡◌, ◌≢◌, ◌⊎◌, inl, inr, ℕ, ◌+◌, ◌<◌, ◌≤◌, Option, Some, None, refl, sym, ◌∙◌, ap, subst, arith}
 use Rattle.std.proofs.lemmas.Bool.{cases_lt}
-use Rattle.std.proofs.lemmas.Option.{none-some}
+use Rattle.std.proofs.lemmas.Option.{none-some, same_Some}
 use borrow.Author.Count.{below_more}
-use Rattle.jc_bytes.proofs.DecoderLaws.{some_is}
 use Rattle.jc_bytes.proofs.LeastLaws.{least_one}
 use Rattle.jc_pool.specs.Adding.{IsFirst, IsNowhere}
 use Rattle.jc_pool.specs.Index.{IsFirstBelow, AreFirsts, Notes}
@@ -29,13 +28,13 @@ module _ {X : Type 0} where
       → AreFirsts (end + 1) found new
   noted found end old new x first at (inl known) firsts y =
       subst (IsFirstBelow (end + 1) found y) (sym (known.1 y))
-      (further found end y (old y) (λ there none. none-some first (sym none ∙ ap old (sym (some_is x y (sym at ∙ there))) ∙ known.0)) (firsts y))
+      (further found end y (old y) (λ there none. none-some first (sym none ∙ ap old (sym (same_Some x y (sym at ∙ there))) ∙ known.0)) (firsts y))
   noted found end old new x first at (inr fresh) firsts y = by (fresh.2 y)
     where
       by : ((y ≢ x) × (new y ≡ old y)) ⊎ ((y ≡ x) × (new y ≡ Some end)) → IsFirstBelow (end + 1) found y (new y)
       by (inl other) =
           subst (IsFirstBelow (end + 1) found y) (sym other.1)
-          (further found end y (old y) (λ there none. other.0 (sym (some_is x y (sym at ∙ there)))) (firsts y))
+          (further found end y (old y) (λ there none. other.0 (sym (same_Some x y (sym at ∙ there)))) (firsts y))
       by (inr this) =
           let none : IsFirstBelow end found y None = subst (IsFirstBelow end found y) (ap old this.0 ∙ fresh.0) (firsts y) in
           subst (IsFirstBelow (end + 1) found y) (sym this.1) (omega arith, record { there = at ∙ ap Some (sym this.0); first = none })

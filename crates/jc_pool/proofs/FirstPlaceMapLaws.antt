@@ -46,8 +46,11 @@ module _ {X K : Type 0} (same : K → K → Bool) (tells : (a b : K) → Decides
       each other = elim (cases_Bool (same other (key_of k))) [
         | inl passes ↦
             let this : other ≡ what = (tells other (key_of k)).0 passes ∙ is in
-            inr (this, ap (λ (l : List (X × ℕ)). place_of l other) last ∙ push_same (λ x. same other (key_of x)) es k place passes
-                (none_passes_from_lookup (λ x. same other (key_of x)) es (ap (place_of es) this ∙ none)))
+            inr (
+              this,
+              ap (λ (l : List (X × ℕ)). place_of l other) last ∙ push_same (λ x. same other (key_of x)) es k place passes
+                  (none_passes_from_lookup (λ x. same other (key_of x)) es (ap (place_of es) this ∙ none)),
+            )
         | inr fails ↦ inl (
           (λ this. true≢false (sym ((tells other (key_of k)).1 (this ∙ sym is)) ∙ fails)),
           ap (λ (l : List (X × ℕ)). place_of l other) last ∙ push_other (λ x. same other (key_of x)) es k place fails,

@@ -3,9 +3,8 @@ use Rattle.std.proofs.Common.{◌≡◌, inl, inr, ℕ, ◌+◌, ◌<◌, ◌≤
 use Rattle.std.proofs.Math.Seq.{get_or-append_seam}
 use Rattle.std.proofs.lemmas.Bool.{cases_lt}
 use Rattle.std.proofs.lemmas.List.{get_or_append_left, get_or_default, get_or_past, length-append}
-use Rattle.std.proofs.lemmas.Option.{none-some}
+use Rattle.std.proofs.lemmas.Option.{none-some, same_Some}
 use Rattle.jc_bytes.specs.Decoder.{◌>>=◌}
-use Rattle.jc_bytes.proofs.DecoderLaws.{some_is}
 use Rattle.jc_pool.specs.declared.entry.Entry.{Entry}
 use Rattle.jc_pool.specs.declared.index.Key.{Key}
 use Rattle.jc_pool.specs.Pool.{PoolValue}
@@ -50,7 +49,7 @@ place_noted : (found : ℕ → Option (List ℕ)) (end first : ℕ) (old new : L
     → ((text : List ℕ) → found end ≡ Some text → IsFirst found text first) × (found end ≡ None → first ≡ end)
 place_noted found end first old new None at notes firsts = (λ text there. absurd (none-some text (sym at ∙ there)), λ none. notes.0)
 place_noted found end first old new (Some text) at notes firsts = (
-  λ other there. subst (λ (t : List ℕ). IsFirst found t first) (some_is text other (sym at ∙ there)) (noted_first found end old new text first at notes firsts),
+  λ other there. subst (λ (t : List ℕ). IsFirst found t first) (same_Some text other (sym at ∙ there)) (noted_first found end old new text first at notes firsts),
   λ none. absurd (none-some text (sym none ∙ at)),
 )
 

@@ -1,11 +1,10 @@
 -- Where entries stand, by their keys.
 use Rattle.std.proofs.Common.{◌≡◌, inl, inr, ℕ, ℤ, ◌<◌, ◌≤◌, List, length, IfOk, IfSome, IfNone, Option, Some, None, Result, Ok, Err, refl, sym, ◌∙◌, ap}
 use Rattle.std.proofs.lemmas.Bool.{cases_lt}
-use Rattle.std.proofs.lemmas.Option.{none-some}
+use Rattle.std.proofs.lemmas.Option.{none-some, same_Some}
 use Rattle.jc_bytes.specs.Decoder.{◌>>=◌}
 use Rattle.jc_bytes.specs.declared.fail.Fail.{Fail}
 use Rattle.jc_bytes.specs.declared.fail.Fail.TheVariants as fails
-use Rattle.jc_bytes.proofs.DecoderLaws.{some_is}
 use Rattle.jc_pool.specs.declared.add.PoolFull.{PoolFull}
 use Rattle.jc_pool.specs.declared.entry.Entry.{Entry}
 use Rattle.jc_pool.specs.declared.entry.Entry.TheVariants as entry
@@ -67,11 +66,11 @@ module _ (part : Entry → Option ℕ) where
       by (Some name) some is = (f, name, refl, some, is)
 
 class_is : (e : Entry) (name : ℕ) → class_in e ≡ Some name → e ≡ entry.Class name
-class_is (entry.Class n) name is = ap entry.Class (some_is n name is)
+class_is (entry.Class n) name is = ap entry.Class (same_Some n name is)
 class_is e name is = absurd (none-some name is)
 
 string_is : (e : Entry) (name : ℕ) → string_in e ≡ Some name → e ≡ entry.String name
-string_is (entry.String n) name is = ap entry.String (some_is n name is)
+string_is (entry.String n) name is = ap entry.String (same_Some n name is)
 string_is e name is = absurd (none-some name is)
 
 -- an entry of this kind that names the text stands at the place
@@ -153,11 +152,11 @@ module _ (pool : PoolValue) (firsts : List ℕ) (text : List ℕ) (at : ℕ) (st
 
 integer_keyed : (firsts : List ℕ) (e : Entry) (value : ℤ) → (integer_in e ≡ Some value → key_in firsts e ≡ Some (key.Integer value))
     × (key_in firsts e ≡ Some (key.Integer value) → integer_in e ≡ Some value)
-integer_keyed firsts (entry.Integer n) value = (λ is. ap (λ (z : ℤ). Some (key.Integer z)) (some_is n value is), λ is. cc)
+integer_keyed firsts (entry.Integer n) value = (λ is. ap (λ (z : ℤ). Some (key.Integer z)) (same_Some n value is), λ is. cc)
 integer_keyed firsts e value = (λ is. absurd (none-some value is), λ is. absurd cc)
 
 long_keyed : (firsts : List ℕ) (e : Entry) (value : ℤ) → (long_in e ≡ Some value → key_in firsts e ≡ Some (key.Long value)) × (key_in firsts e ≡ Some (key.Long value) → long_in e ≡ Some value)
-long_keyed firsts (entry.Long n) value = (λ is. ap (λ (z : ℤ). Some (key.Long z)) (some_is n value is), λ is. cc)
+long_keyed firsts (entry.Long n) value = (λ is. ap (λ (z : ℤ). Some (key.Long z)) (same_Some n value is), λ is. cc)
 long_keyed firsts e value = (λ is. absurd (none-some value is), λ is. absurd cc)
 
 -- what is read off an entry
@@ -188,7 +187,7 @@ sig_of name desc = Some (record { name = name; desc = desc })
 sig_parts : (r q : Option (List ℕ)) (s : Signature) → (r >>= λ name. q >>= λ desc. sig_of name desc) ≡ Some s → (r ≡ Some s.name) × (q ≡ Some s.desc)
 sig_parts None q s is = absurd (none-some s is)
 sig_parts (Some name) None s is = absurd (none-some s is)
-sig_parts (Some name) (Some desc) s is = let same = some_is (record { name = name; desc = desc }) s is in (ap (λ (t : Signature). Some t.name) same, ap (λ (t : Signature). Some t.desc) same)
+sig_parts (Some name) (Some desc) s is = let same = same_Some (record { name = name; desc = desc }) s is in (ap (λ (t : Signature). Some t.name) same, ap (λ (t : Signature). Some t.desc) same)
 
 signature_named : (pool : PoolValue) (e : Option Entry) (s : Signature)
     → (e >>= λ e. signature_in e >>= λ parts. utf8_of pool parts.0 >>= λ name. utf8_of pool parts.1 >>= λ desc. sig_of name desc) ≡ Some s

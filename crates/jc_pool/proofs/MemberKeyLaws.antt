@@ -1,8 +1,7 @@
 -- Where members stand, by their keys.
 use Rattle.std.proofs.Common.{◌≡◌, ◌↔◌, ℕ, ◌<◌, Bool, IsTrue, List, [], length, IfSome, IfNone, Option, Some, None, refl, sym, ◌∙◌, ap, subst, arith}
-use Rattle.std.proofs.lemmas.Option.{none-some}
+use Rattle.std.proofs.lemmas.Option.{none-some, same_Some}
 use Rattle.jc_bytes.specs.Decoder.{◌>>=◌}
-use Rattle.jc_bytes.proofs.DecoderLaws.{some_is}
 use Rattle.jc_pool.specs.declared.entry.Entry.{Entry}
 use Rattle.jc_pool.specs.declared.entry.Entry.TheVariants as entry
 use Rattle.jc_pool.specs.declared.index.Key.{Key}
@@ -36,7 +35,7 @@ ref_parts pool m tag class sig is = by (class_name_of pool class) (signature_of 
     by None q named signed is = absurd (none-some m is)
     by (Some name) None named signed is = absurd (none-some m is)
     by (Some name) (Some s) named signed is =
-        let same = some_is (record { tag = tag; class = name; name = s.name; desc = s.desc }) m is in record {
+        let same = same_Some (record { tag = tag; class = name; name = s.name; desc = s.desc }) m is in record {
           tag = ap (λ (x : Member). x.tag) same;
           class = named ∙ ap (λ (x : Member). Some x.class) same;
           signed = signed ∙ ap (λ (x : Member). Some (signature x)) same;
@@ -49,7 +48,7 @@ no_dynamic pool m tag sig large tagged is = by (signature_of pool sig) is
   where
     by : (q : Option Signature) → (q >>= λ s. member_by tag [] s) ≡ Some m → ⊥
     by None is = none-some m is
-    by (Some s) is = let same = ap (λ (x : Member). x.tag) (some_is (record { tag = tag; class = []; name = s.name; desc = s.desc }) m is) in omega (arith, same, large, tagged.1)
+    by (Some s) is = let same = ap (λ (x : Member). x.tag) (same_Some (record { tag = tag; class = []; name = s.name; desc = s.desc }) m is) in omega (arith, same, large, tagged.1)
 
 entry_names : (pool : PoolValue) (m : Member) (e : Entry) → IsMemberTag m.tag → member_in pool e ≡ Some m → (named : NamedPlaces) × (named_places e ≡ Some named) × NamesParts pool m named
 entry_names pool m (entry.Fieldref class sig) tagged is = (record { tag = 9; class = class; name_and_type = sig }, refl, ref_parts pool m 9 class sig is)
@@ -67,9 +66,9 @@ parts_read pool m tag class sig named same parts =
     ref_read pool m tag class sig own.tag own.class own.signed
 
 entry_is : (pool : PoolValue) (m : Member) (e : Entry) (named : NamedPlaces) → named_places e ≡ Some named → NamesParts pool m named → member_in pool e ≡ Some m
-entry_is pool m (entry.Fieldref class sig) named is parts = parts_read pool m 9 class sig named (some_is _ named is) parts
-entry_is pool m (entry.Methodref class sig) named is parts = parts_read pool m 10 class sig named (some_is _ named is) parts
-entry_is pool m (entry.InterfaceMethodref class sig) named is parts = parts_read pool m 11 class sig named (some_is _ named is) parts
+entry_is pool m (entry.Fieldref class sig) named is parts = parts_read pool m 9 class sig named (same_Some _ named is) parts
+entry_is pool m (entry.Methodref class sig) named is parts = parts_read pool m 10 class sig named (same_Some _ named is) parts
+entry_is pool m (entry.InterfaceMethodref class sig) named is parts = parts_read pool m 11 class sig named (same_Some _ named is) parts
 entry_is pool m e named is parts = absurd (none-some named is)
 
 -- the same at a place
@@ -141,7 +140,7 @@ module _ (pool : PoolValue) (texts : List ℕ → Option ℕ) (firsts : List ℕ
   -- where the texts have first places, the member is found by its key
   pub keyed_as_one : (c n d : Option ℕ) (k : Key) → c ≡ texts m.class → n ≡ texts m.name → d ≡ texts m.desc → texts_key m.tag c n d ≡ Some k → AreAsOne (member_of pool) m (member_key_at firsts pool) k
   keyed_as_one (Some c) (Some n) (Some d) k classed named described is =
-      subst (AreAsOne (member_of pool) m (member_key_at firsts pool)) (some_is (key.Member m.tag c n d) k is)
+      subst (AreAsOne (member_of pool) m (member_key_at firsts pool)) (same_Some (key.Member m.tag c n d) k is)
       (member_as_one c n d (first_text m.class c (sym classed)) (first_text m.name n (sym named)) (first_text m.desc d (sym described)))
   keyed_as_one None n d k classed named described is = absurd (none-some k is)
   keyed_as_one (Some c) None d k classed named described is = absurd (none-some k is)
@@ -173,5 +172,5 @@ none_as_member pool m firsts k (Some place) as_one none = tt
 pub key_told : (r : Bool) (found : Option Key) (f k : Key) → found ≡ Some f → r ≡ same_key f k → IsTrue r ↔ (found ≡ Some k)
 key_told r found f k is told = (
   λ true. is ∙ ap Some ((one_key f k).0 (sym told ∙ true)),
-  λ there. told ∙ (one_key f k).1 (some_is f k (sym is ∙ there)),
+  λ there. told ∙ (one_key f k).1 (same_Some f k (sym is ∙ there)),
 )

@@ -148,13 +148,13 @@ member_lacks pool index m missing count put name desc found same is named descri
     let signed = signature_had is.classed texts index.firsts.items is.keys (signature m) is.tables found there in
     let last : Entry = entry_of_member m.tag is.place signed.1 in
     let lacks : missing_signature found same name desc ≡ missing_signature found (bytes_eq m.desc m.name) (texts m.name) (texts m.desc) =
-            (λ i. missing_signature found (same_is i) (named i) (described i)) in (
+    (λ i. missing_signature found (same_is i) (named i) (described i)) in (
       signed.0 ++ slots_of last,
       length signed.0,
       (is.classed, is.place, is.has, signed.0, signed.1, signed.2, put_at_end signed.0 last),
       grown_length signed.0 last
           ∙ total (width last) (length signed.0) (length is.classed) (missing_signature found (bytes_eq m.desc m.name) (texts m.name) (texts m.desc))
-              (missing_signature found same name desc) (length pool) missing
+          (missing_signature found same name desc) (length pool) missing
           (member_narrow m.tag is.place signed.1) signed.3 is.size lacks
           ∙ ap (λ (n : ℕ). length pool + n) (sym counts),
     )
@@ -229,9 +229,9 @@ class_new pool index class named r is read found none unnamed =
     let put = put_at_end pool (entry.Utf8 class) in
     let size = grown_length pool (entry.Utf8 class) in
     class_put pool (pool ++ Some (entry.Utf8 class) ∷ []) index class (length pool) 2 (Some (class, length pool))
-        (naming_missing naming.Class pool index class named r is read found none) (inr (nowhere, put))
+    (naming_missing naming.Class pool index class named r is read found none) (inr (nowhere, put))
     (text_tables pool (pool ++ Some (entry.Utf8 class) ∷ []) (text_place index.texts.entries (λ x. x.items))
-        (with_text (text_place index.texts.entries (λ x. x.items)) (Some (class, length pool))) index.firsts.items
+    (with_text (text_place index.texts.entries (λ x. x.items)) (Some (class, length pool))) index.firsts.items
     (key_place index.keys.entries) class (length pool) (length pool) put (noted_one (text_place index.texts.entries (λ x. x.items)) class (length pool) (sym read ∙ unnamed)) nowhere is.tables)
     (omega (arith, size))
 

@@ -13,10 +13,11 @@ use Rattle.std.specs.Result.{result_ok}
 use Rattle.std.specs.Str.{encode_utf8_all}
 use Rattle.std.proofs.lemmas.Bool.Decides.{nat_tests}
 use Rattle.std.proofs.lemmas.Grind.{flat_map-append}
-use Rattle.jc_bytes.proofs.DecoderLaws.{some_is, some_none}
+use Rattle.std.proofs.lemmas.Option.{same_Some}
 use Rattle.jc_bytes.specs.Modified.{unit_bytes, IsModified, unit_at}
 use Rattle.jc_bytes.proofs.EachLaws.{all_push}
 use Rattle.jc_bytes.proofs.ModifiedLaws.{SameVerdict, next_unit, unit_again}
+use Rattle.jc_bytes.proofs.OptionLaws.{some_none}
 use Rattle.jc_pool.specs.Text.{SpellsUnits, SpellsText, IsTextOf, AreUnitsOf}
 
 -- ---- units
@@ -61,8 +62,8 @@ one_spelling bytes us vs p q = same us vs p.small q.small (sym p.parts ∙ q.par
     same [] (v ∷ vs) small fits is = absurd (some_none (sym (unit_again v (flat_map unit_bytes vs) fits.0) ∙ ap unit_at (sym is)))
     same (u ∷ us) [] small fits is = absurd (some_none (sym (unit_again u (flat_map unit_bytes us) small.0) ∙ ap unit_at is))
     same (u ∷ us) (v ∷ vs) small fits is =
-        let first = some_is (u, flat_map unit_bytes us) (v, flat_map unit_bytes vs)
-                (sym (unit_again u (flat_map unit_bytes us) small.0) ∙ ap unit_at is ∙ unit_again v (flat_map unit_bytes vs) fits.0) in
+        let first = same_Some (u, flat_map unit_bytes us) (v, flat_map unit_bytes vs)
+        (sym (unit_again u (flat_map unit_bytes us) small.0) ∙ ap unit_at is ∙ unit_again v (flat_map unit_bytes vs) fits.0) in
         let rest = same us vs small.1 fits.1 (ap (λ (read : ℕ × List ℕ). read.1) first) in
         λ i. (first i).0 ∷ rest i
 

@@ -91,7 +91,7 @@ set_blocks r r' at len i word sound live less words ends count =
 
 -- ---- one block more
 
-zeros-length : (n : ℕ) → length (replicate {A = ℕ} n 0) ≡ n
+pub zeros-length : (n : ℕ) → length (replicate {A = ℕ} n 0) ≡ n
 zeros-length n = length-replicate n 0
 
 filled-length : (used len : ℕ) (ws zs : List ℕ) → used + len ≤ length ws → length zs ≡ len → length (take used ws ++ (zs ++ drop (used + len) ws)) ≡ length ws

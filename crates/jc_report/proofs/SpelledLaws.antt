@@ -36,7 +36,7 @@ more_are bytes read None spelled none = behind
     behind [] s = let lt = unit_takes read.0 read.1 in omega (arith, lt, ap length (sym spelled.1 ∙ s.parts))
     behind (u ∷ us) s =
         let again = same_Some read (u, flat_map unit_bytes us) (sym (ap unit_at spelled.1 ∙ unit_again read.0 read.1 spelled.0) ∙ ap unit_at s.parts
-                ∙ unit_again u (flat_map unit_bytes us) s.small.0) in
+        ∙ unit_again u (flat_map unit_bytes us) s.small.0) in
         none us (record { small = s.small.1; parts = ap (λ (r : ℕ × List ℕ). r.1) again })
 
 units_are : (n : ℕ) (bytes : List ℕ) → length bytes ≤ n → AreUnitsOf bytes (units_of n bytes)

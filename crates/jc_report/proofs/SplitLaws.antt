@@ -3,6 +3,7 @@ use Rattle.std.proofs.Common.{◌≡◌, ◌≢◌, ◌↔◌, ℕ, ◌+◌, ◌
 use Rattle.std.proofs.lemmas.Bool.{eqb-true, eq-eqb, both_ways}
 use Rattle.std.proofs.lemmas.List.{drop_more, get_or-drop}
 use Rattle.std.proofs.lemmas.List.Elements.{All-nil, All-cons, All-head, All-tail, All-from_get_or}
+use Rattle.jc_bytes.proofs.ListLaws.{head_is, tail_is}
 use Rattle.jc_report.specs.Split.{IsSplitAtLast, with_first, split_at_last}
 
 -- not this byte
@@ -31,18 +32,12 @@ has_it : (byte : ℕ) (front back : List ℕ) → All (IsOther byte) (front ++ b
 has_it byte [] back none = All-head (IsOther byte) byte back none refl
 has_it byte (b ∷ front) back none = has_it byte front back (All-tail (IsOther byte) b (front ++ byte ∷ back) none)
 
-heads : {b c : ℕ} {xs ys : List ℕ} → b ∷ xs ≡ c ∷ ys → b ≡ c
-heads {b = b} e = ap (λ l. get_or l 0 b) e
-
-tails : {b c : ℕ} {xs ys : List ℕ} → b ∷ xs ≡ c ∷ ys → xs ≡ ys
-tails e = ap (λ l. drop 1 l) e
-
 -- there is one last place
 one_split : (byte : ℕ) (f g h k : List ℕ) → f ++ byte ∷ g ≡ h ++ byte ∷ k → All (IsOther byte) g → All (IsOther byte) k → (f ≡ h) × (g ≡ k)
-one_split byte [] g [] k e p q = (refl, tails e)
-one_split byte [] g (c ∷ h) k e p q = absurd (has_it byte h k (subst (All (IsOther byte)) (tails e) p))
-one_split byte (b ∷ f) g [] k e p q = absurd (has_it byte f g (subst (All (IsOther byte)) (sym (tails e)) q))
-one_split byte (b ∷ f) g (c ∷ h) k e p q = let more = one_split byte f g h k (tails e) p q in (ap₂ (λ x xs. x ∷ xs) (heads e) more.0, more.1)
+one_split byte [] g [] k e p q = (refl, tail_is e)
+one_split byte [] g (c ∷ h) k e p q = absurd (has_it byte h k (subst (All (IsOther byte)) (tail_is e) p))
+one_split byte (b ∷ f) g [] k e p q = absurd (has_it byte f g (subst (All (IsOther byte)) (sym (tail_is e)) q))
+one_split byte (b ∷ f) g (c ∷ h) k e p q = let more = one_split byte f g h k (tail_is e) p q in (ap₂ (λ x xs. x ∷ xs) (head_is e) more.0, more.1)
 
 pub split_found : (byte : ℕ) (text front back : List ℕ) → (split_at_last byte text ≡ Some (front, back)) ↔ IsSplitAtLast byte text front back
 split_found byte text front back = (to, from (split_at_last byte text) (split_is byte text))

@@ -1,8 +1,10 @@
 -- Reading a run plan gives the run plan, or the first line that doesn't fit.
 use Rattle.std.proofs.Common.{◌≡◌, ◌⊎◌, inl, inr, ⊎_elim, ℕ, ◌+◌, ◌<◌, ◌≤◌, Bool, true, false, cond, List, [], ◌∷◌, ◌++◌, length, Option, Some, None, nat_lt, nat_le, codes, bytes_eq, refl, sym, ◌∙◌, ap, subst, arith, append_assoc, append-nil, length-append}
-use Rattle.std.proofs.lemmas.Bool.{ltb-true, lt-ltb, leb-true, le-leb}
+use Rattle.std.proofs.lemmas.Bool.{ltb-true, lt-ltb, leb-true, le-leb, false≢true}
 use Rattle.std.proofs.lemmas.Slice.Eq.{bytes_eq-Decides}
 use Rattle.std.specs.List.{flat_map}
+use Rattle.std.proofs.lemmas.Option.{same_Some}
+use Rattle.jc_bytes.proofs.OptionLaws.{none_some}
 use Rattle.jc_programs.specs.declared.run_plan.ThreadLine.{ThreadLine}
 use Rattle.jc_programs.specs.declared.run_plan.Schedule.{Schedule}
 use Rattle.jc_programs.specs.declared.run_plan.Schedule.TheVariants as schedules
@@ -15,18 +17,9 @@ use Rattle.jc_run_plans.specs.PlanReading.{with_case, with_thread, with_schedule
 
 -- ---- options and tests
 
-none_some : {X : Type 0} {x : X} → None ≡ Some x → ⊥
-none_some e = cc
-
-some_is : {X : Type 0} (x y : X) → Some x ≡ Some y → x ≡ y
-some_is x y e = cc
-
-false_true : false ≡ true → ⊥
-false_true e = cc
-
 -- what is given where a test holds
 chosen : {X : Type 0} (b : Bool) (x y : X) → cond b (Some x) None ≡ Some y → (b ≡ true) × (x ≡ y)
-chosen true x y e = (refl, some_is x y e)
+chosen true x y e = (refl, same_Some x y e)
 chosen false x y e = absurd (none_some e)
 
 part : List Line → List Line
@@ -237,8 +230,16 @@ with_thread_read lines cases threads line t b r f e =
       whole = ap (λ l. l ++ line ∷ []) r.whole ∙ append_assoc (joined r.parts) r.open_lines (line ∷ []);
       cases = r.cases;
       few = r.few;
-      rest = record { opens = o.opens; others = o.others ++ line ∷ []; parts = ap (λ l. l ++ line ∷ []) o.parts; opens_is = o.opens_is; threads_are =
-          threads_push o.others threads line t o.threads_are f; few = omega (arith, lt, n); room = o.room };
+      rest = record {
+        opens = o.opens;
+        others = o.others ++ line ∷ [];
+        parts = ap (λ l. l ++ line ∷ []) o.parts;
+        opens_is = o.opens_is;
+        threads_are =
+            threads_push o.others threads line t o.threads_are f;
+        few = omega (arith, lt, n);
+        room = o.room;
+      };
     })
 
 closed : (cases : List Case) (threads : List ThreadLine) (line : Line) (s : Schedule) (count : ℕ) (open_lines : List Line)
@@ -293,7 +294,7 @@ line_read lines cases (Some threads) line b r e = within lines cases threads lin
 
 lines_read : (before : List Line) (b : Begun) (lines : List Line) (c : Begun) → Reads before b → folded (Some b) lines ≡ Some c → Reads (before ++ lines) c
 unfolding folded
-lines_read before b [] c r e = subst (λ l. Reads l c) (sym (append-nil before)) (subst (λ x. Reads before x) (some_is b c e) r)
+lines_read before b [] c r e = subst (λ l. Reads l c) (sym (append-nil before)) (subst (λ x. Reads before x) (same_Some b c e) r)
 lines_read before b (line ∷ lines) c r e = by (λ d q g. lines_read (before ++ line ∷ []) d lines c q g) (with_line b line) refl e
   where
     by : ((d : Begun) → Reads (before ++ line ∷ []) d → folded (Some d) lines ≡ Some c → Reads ((before ++ line ∷ []) ++ lines) c)
@@ -451,7 +452,7 @@ no_plan_ends : (lines : List Line) (cases : List Case) (threads : Option (List T
     → (threads ≡ None) × (1 ≤ length cases)
 unfolding between
 no_plan_ends lines cases threads plan e p =
-    let q = some_is (record { cases = cases; threads = threads }) (record { cases = plan.cases; threads = None }) (sym e ∙ lines_of_plan lines plan p) in
+    let q = same_Some (record { cases = cases; threads = threads }) (record { cases = plan.cases; threads = None }) (sym e ∙ lines_of_plan lines plan p) in
     let n = cases_length p.parts plan.cases p.cases in
     let some = p.some in
     (ap (λ (x : Begun). x.threads) q, subst (λ c. 1 ≤ length c) (sym (ap (λ (x : Begun). x.cases) q)) (omega (arith, some, n)))
@@ -470,7 +471,7 @@ ends_right text cases None e = by (nat_le 1 (length cases)) refl
     by true f = plan_of (numbered_lines text) cases (all_read (numbered_lines text) (record { cases = cases; threads = None }) e) (leb-true 1 (length cases) f)
     by false f = inr (record {
       begun = begins (numbered_lines text) cases None (all_read (numbered_lines text) (record { cases = cases; threads = None }) e);
-      no_plan = λ plan p. false_true (sym f ∙ le-leb 1 (length cases) (no_plan_ends (numbered_lines text) cases None plan e p).1);
+      no_plan = λ plan p. false≢true (sym f ∙ le-leb 1 (length cases) (no_plan_ends (numbered_lines text) cases None plan e p).1);
       number_is = refl;
     })
 
@@ -514,7 +515,7 @@ reading_right text before b number [] m =
     subst (λ k. Right text (ended_in k b.cases b.threads)) count (ends_right text b.cases b.threads (ap (λ l. folded (Some (between [])) l) (m.whole ∙ append-nil before) ∙ m.read))
 reading_right text before b number (line ∷ lines) m =
     middle_next text before b number (words_of line) line lines (is_skipped (words_of line)) refl refl m (with_words b number (words_of line)) refl
-        (λ after c n. reading_right text after c (number + 1) lines n)
+    (λ after c n. reading_right text after c (number + 1) lines n)
 
 read_right : (text : List ℕ) → Right text (plan_read text)
 unfolding between folded
@@ -541,7 +542,7 @@ no_unfit_plan text plan number p (inr e) = e.no_plan plan p
 pub one_plan : (lines : List Line) (a b : RunPlan) → ArePlanLines lines a → ArePlanLines lines b → a ≡ b
 unfolding between
 one_plan lines a b p q =
-    let e = some_is (record { cases = a.cases; threads = None }) (record { cases = b.cases; threads = None }) (sym (lines_of_plan lines a p) ∙ lines_of_plan lines b q) in
+    let e = same_Some (record { cases = a.cases; threads = None }) (record { cases = b.cases; threads = None }) (sym (lines_of_plan lines a p) ∙ lines_of_plan lines b q) in
     ap (λ (x : Begun). record { cases = x.cases }) e
 
 pub plans_are_read_again : (text : List ℕ) (plan : RunPlan) → IsPlanText text plan → plan_read text ≡ plan_is plan

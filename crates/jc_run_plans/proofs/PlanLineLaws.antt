@@ -2,8 +2,10 @@
 use Rattle.std.proofs.Common.{◌≡◌, ℕ, ◌<◌, ◌≤◌, Bool, true, false, cond, List, [], ◌∷◌, length, Option, Some, None, Result, All, codes, bytes_eq, nat_lt, nat_le, refl, sym, ap, ◌∙◌, subst}
 use Rattle.std.proofs.lemmas.Bool.{ltb-true, leb-true}
 use Rattle.std.proofs.lemmas.List.Elements.{All-nil, All-cons}
+use Rattle.std.proofs.lemmas.Option.{same_Some}
 use Rattle.jc_bytes.specs.declared.fail.Fail.{Fail}
 use Rattle.jc_bytes.specs.declared.fail.Unfit.{Unfit}
+use Rattle.jc_bytes.proofs.OptionLaws.{none_some}
 use Rattle.jc_programs.specs.Turns.{AreThreads, turn_count, IsCase, IsRunPlan}
 use Rattle.jc_programs.specs.declared.run_plan.ThreadLine.{ThreadLine}
 use Rattle.jc_programs.specs.declared.run_plan.Schedule.{Schedule}
@@ -49,12 +51,6 @@ case_gives r b threads number words more word e f some g = subst (Gives r) (sym 
 
 -- ---- schedules
 
-none_some : {X : Type 0} {x : X} → None ≡ Some x → ⊥
-none_some e = cc
-
-some_is : {X : Type 0} (x y : X) → Some x ≡ Some y → x ≡ y
-some_is x y e = cc
-
 -- the turns are of the threads, and few enough
 record Keeps (threads : ℕ) (s : Schedule) : Type 0 where
   are : AreThreads threads s
@@ -65,25 +61,25 @@ one_is threads t None e = absurd (none_some e)
 one_is threads t (Some n) e = by (nat_lt n threads) refl e
   where
     by : (b : Bool) → nat_lt n threads ≡ b → cond b (Some n) None ≡ Some t → t < threads
-    by true f g = subst (λ k. k < threads) (some_is n t g) (ltb-true n threads f)
+    by true f g = subst (λ k. k < threads) (same_Some n t g) (ltb-true n threads f)
     by false f g = absurd (none_some g)
 
 turns_are : (threads : ℕ) (words : List (List ℕ)) (turns : List ℕ) → turns_in threads words ≡ Some turns → All (λ t. t < threads) turns
-turns_are threads [] turns e = subst (All (λ t. t < threads)) (some_is [] turns e) (All-nil (λ t. t < threads))
+turns_are threads [] turns e = subst (All (λ t. t < threads)) (same_Some [] turns e) (All-nil (λ t. t < threads))
 turns_are threads (word ∷ words) turns e = by (thread_number threads word) (turns_in threads words) refl refl (λ more f. turns_are threads words more f) e
   where
     by : (o : Option ℕ) (p : Option (List ℕ)) → thread_number threads word ≡ o → turns_in threads words ≡ p → ((more : List ℕ) → turns_in threads words ≡ Some more → All (λ t. t < threads) more)
         → with_item o p ≡ Some turns → All (λ t. t < threads) turns
     by None p f g again h = absurd (none_some h)
     by (Some t) None f g again h = absurd (none_some h)
-    by (Some t) (Some more) f g again h = subst (All (λ t. t < threads)) (some_is (t ∷ more) turns h) (All-cons (λ t. t < threads) t more (one_is threads t (decimal_in word) f) (again more g))
+    by (Some t) (Some more) f g again h = subst (All (λ t. t < threads)) (same_Some (t ∷ more) turns h) (All-cons (λ t. t < threads) t more (one_is threads t (decimal_in word) f) (again more g))
 
 listed_keeps : (threads : ℕ) (o : Option (List ℕ)) (s : Schedule) → ((turns : List ℕ) → o ≡ Some turns → All (λ t. t < threads) turns) → listed_in (few_turns o) ≡ Some s → Keeps threads s
 listed_keeps threads None s all e = absurd (none_some e)
 listed_keeps threads (Some turns) s all e = by (nat_le (length turns) most_turns) refl e
   where
     by : (b : Bool) → nat_le (length turns) most_turns ≡ b → listed_in (cond b (Some turns) None) ≡ Some s → Keeps threads s
-    by true f g = subst (Keeps threads) (some_is (schedules.Listed turns) s g) (record { are = all turns refl; few = leb-true (length turns) most_turns f })
+    by true f g = subst (Keeps threads) (same_Some (schedules.Listed turns) s g) (record { are = all turns refl; few = leb-true (length turns) most_turns f })
     by false f g = absurd (none_some g)
 
 up_to_keeps : (most n : ℕ) (o : Option ℕ) → up_to most o ≡ Some n → n ≤ most
@@ -91,7 +87,7 @@ up_to_keeps most n None e = absurd (none_some e)
 up_to_keeps most n (Some k) e = by (nat_le k most) refl e
   where
     by : (b : Bool) → nat_le k most ≡ b → cond b (Some k) None ≡ Some n → n ≤ most
-    by true f g = subst (λ m. m ≤ most) (some_is k n g) (leb-true k most f)
+    by true f g = subst (λ m. m ≤ most) (same_Some k n g) (leb-true k most f)
     by false f g = absurd (none_some g)
 
 robin_keeps : (threads : ℕ) (words : List (List ℕ)) (s : Schedule) → robin_in words ≡ Some s → Keeps threads s
@@ -100,7 +96,7 @@ robin_keeps threads (n ∷ []) s e = by (decimal_up_to most_turns n) refl e
   where
     by : (o : Option ℕ) → decimal_up_to most_turns n ≡ o → robin_with o ≡ Some s → Keeps threads s
     by None f g = absurd (none_some g)
-    by (Some turns) f g = subst (Keeps threads) (some_is (schedules.Robin turns) s g) (record { are = tt; few = up_to_keeps most_turns turns (decimal_in n) f })
+    by (Some turns) f g = subst (Keeps threads) (same_Some (schedules.Robin turns) s g) (record { are = tt; few = up_to_keeps most_turns turns (decimal_in n) f })
 robin_keeps threads (n ∷ m ∷ words) s e = absurd (none_some e)
 
 seed_keeps : (threads : ℕ) (words : List (List ℕ)) (s : Schedule) → seed_in words ≡ Some s → Keeps threads s
@@ -111,7 +107,7 @@ seed_keeps threads (x ∷ n ∷ []) s e = by (decimal_up_to 18446744073709551615
     by : (p o : Option ℕ) → decimal_up_to most_turns n ≡ o → seeded p o ≡ Some s → Keeps threads s
     by None o f g = absurd (none_some g)
     by (Some seed) None f g = absurd (none_some g)
-    by (Some seed) (Some turns) f g = subst (Keeps threads) (some_is (schedules.Seeded seed turns) s g) (record { are = tt; few = up_to_keeps most_turns turns (decimal_in n) f })
+    by (Some seed) (Some turns) f g = subst (Keeps threads) (same_Some (schedules.Seeded seed turns) s g) (record { are = tt; few = up_to_keeps most_turns turns (decimal_in n) f })
 seed_keeps threads (x ∷ n ∷ m ∷ words) s e = absurd (none_some e)
 
 schedule_keeps : (threads : ℕ) (words : List (List ℕ)) (s : Schedule) → schedule_of threads words ≡ Some s → Keeps threads s

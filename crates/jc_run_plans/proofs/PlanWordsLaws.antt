@@ -28,7 +28,7 @@ cut_here mark text i inside here before =
     others : All (λ b. (b == mark) ≡ false) (take i text)
     others = All-from_get_or (λ b. (b == mark) ≡ false) (take i text) 0
         (λ k less. let lt : k < i = let n = length-take-le i text (omega (arith, inside)) in omega (arith, less, n) in
-          rw get_or-take (differs (get_or text k 0) mark (before k lt)))
+        rw get_or-take (differs (get_or text k 0) mark (before k lt)))
 
 pub cut_nowhere : (mark : ℕ) (text : List ℕ) → All (λ b. b ≢ mark) text → parts_of mark text ≡ text ∷ []
 cut_nowhere mark text none = slice_split_none (λ b. b == mark) text (others text none)
@@ -85,7 +85,7 @@ pub behind_last_dot : (name : List ℕ) (i : ℕ) → i < length name → get_or
     → suffix_len (λ b. not (is_dot b)) name ≡ length name - (i + 1)
 behind_last_dot name i inside here after =
     suffix_len_is (λ b. not (is_dot b)) name (i + 1) 0 (omega (arith, inside)) (λ k le lt. ap not (differs (get_or name k 0) 46 (after k le lt)))
-        (λ some. here_false name i (i + 1 - 1) (sub-one-add i) here)
+    (λ some. here_false name i (i + 1 - 1) (sub-one-add i) here)
 
 pub in_front_of_last_dot : (name : List ℕ) (i : ℕ) → i < length name → suffix_len (λ b. not (is_dot b)) name ≡ length name - (i + 1) → take i name ≡ before_last is_dot name
 in_front_of_last_dot name i inside e = let z : i ≡ length name - suffix_len (λ b. not (is_dot b)) name - 1 = omega (arith, inside, e) in ap (λ n. take n name) z

@@ -2,7 +2,7 @@
 use Rattle.std.proofs.Common.{◌≡◌, ℕ, ◌-◌, ◌≤◌, true, not, nat_eq, List, [], ◌∷◌, Option, None, Some, Result, Ok, Err, IfOk, sym, subst, arith}
 use Rattle.std.proofs.lemmas.Bool.{and_parts}
 use Rattle.std.proofs.lemmas.Bool.Decides.{nat_tests}
-use Rattle.std.specs.List.{fold, list_all}
+use Rattle.std.specs.List.{list_all}
 use Rattle.jc_command_words.specs.Words.{Word}
 use Rattle.jc_command_words.specs.Numbers.{is_digit, is_decimal, one_more_digit, decimal_value, IsNumber}
 use Rattle.jc_command_words.specs.Forms.{Call}
@@ -12,11 +12,8 @@ use Rattle.jc_command_words.specs.declared.command.Command.{Command}
 use Rattle.jc_command_words.specs.declared.read.Usage.{Usage}
 use Rattle.jc_command_words.specs.Outcome.{CommandRead}
 use Rattle.jc_command_words.specs.Seen.{command_seen}
+use Rattle.jc_command_words.proofs.NumberLaws.{grows}
 use Rattle.jc_top.specs.Bounds.{IsBounded}
-
-grows : (n : ℕ) (bytes : Word) → n ≤ fold one_more_digit n bytes
-grows n [] = omega arith
-grows n (b ∷ bytes) = let rest = grows (one_more_digit n b) bytes in omega (arith, rest)
 
 -- a digit that isn't 0
 digit_not_zero : (b : ℕ) → not (nat_eq b 48) ≡ true → is_digit b ≡ true → 1 ≤ b - 48

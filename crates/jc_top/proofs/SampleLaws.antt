@@ -99,7 +99,7 @@ module _ (Is : End → Type 0) (done_is : Is done) (refused_is : (fault : Fault)
       ends_then Is (deciding (HaveEntries program (sample_plan n)) (IsEntryEnd program (sample_plan n))) _
       (ends_deciding Is (HaveEntries program (sample_plan n)) (IsEntryEnd program (sample_plan n)) (λ end is. refused_so _ _ end is.2))
       (λ _. ends_then Is (counting n store) _ (ends_deciding Is (AreCounters (sample_file n) store) (IsClashEnd (sample_file n) store)
-          (λ end is. refused_so _ _ end is.4)) (λ counters. ends_giving Is _))
+      (λ end is. refused_so _ _ end is.4)) (λ counters. ends_giving Is _))
 
   pub ends_sample : EndsIn Is (sample_work n)
   ends_sample =

@@ -96,8 +96,8 @@ module _ (landed : Landed) where
     has_work (report csv name None files) bounded = has_on_files files (report_answers csv name None []) (λ paths. report_has_one csv name None paths)
     has_work (report csv name (Some exec) files) bounded =
         has_behind exec (λ text. reporting csv name (Some exec) (text ∷ []) files)
-            (λ text file. has_on_files files (report_answers csv name (Some exec) (text ∷ []))
-              (λ paths read are. report_has_one csv name (Some exec) paths (text ∷ read) (file, are)))
+        (λ text file. has_on_files files (report_answers csv name (Some exec) (text ∷ []))
+        (λ paths read are. report_has_one csv name (Some exec) paths (text ∷ read) (file, are)))
     has_work (exec_info inputs) bounded = has_answered landed inputs (InfoAnswers inputs) (info_has_one inputs)
     has_work (class_info files) bounded = has_on_files files ListAnswers list_has_one
     has_work (cover dest plan destfile csv workers name files) bounded =
@@ -153,7 +153,7 @@ work_ends (merge destfile inputs) = ends_answered IsCommandEnd inputs (MergeAnsw
 work_ends (report csv name None files) = ends_on_files files (report_answers csv name None []) (report_refuses csv name None)
 work_ends (report csv name (Some exec) files) =
     ends_behind exec (λ text. reporting csv name (Some exec) (text ∷ []) files)
-        (λ text. ends_on_files files (report_answers csv name (Some exec) (text ∷ [])) (λ paths read. report_refuses csv name (Some exec) paths (text ∷ read)))
+    (λ text. ends_on_files files (report_answers csv name (Some exec) (text ∷ [])) (λ paths read. report_refuses csv name (Some exec) paths (text ∷ read)))
 work_ends (exec_info inputs) = ends_answered IsCommandEnd inputs (InfoAnswers inputs) tt (λ path. tt) (λ texts end is. of_refusal end (info_refuses inputs texts end is))
 work_ends (class_info files) = ends_on_files files ListAnswers list_refuses
 work_ends (cover dest plan destfile csv workers name files) =

@@ -16,18 +16,11 @@ use Rattle.jc_plan.specs.Leading.{LeadsTo}
 use Rattle.jc_plan.specs.Probed.{is_probed}
 use Rattle.jc_bytes.proofs.FirstSeenLaws.{contains_one}
 use Rattle.jc_bytes.proofs.BooleanLaws.{none_in, which_in, first_in, later_in}
+use Rattle.jc_bytes.proofs.ListLaws.{flat_cases}
 use Rattle.jc_plan.proofs.ListedLaws.{lists_from}
 use Rattle.jc_plan.proofs.OneWayLaws.{begins_at}
 use Rattle.jc_cover.specs.Followed.{CameTo, began, caught as came_caught, led}
 use Rattle.jc_twin.specs.Walks.{Walk, cut, returns, throws, takes, caught, flow_at, IsWalkFrom, EndedByReturn, NeverThrown, thrown_by, thrown_edges, taken, stood, lone_by, lone_of, lone_edges, reached}
-
-flat_cases : {X Y : Type 0} (f : X → List Y) (xs : List X) (y : Y) → Contains (flat_map f xs) y → (x : X) × Contains xs x × Contains (f x) y
-flat_cases f [] y c = absurd (none_in y c)
-flat_cases f (x ∷ xs) y c =
-    ⊎_elim
-    (λ front. (x, first_in x xs, front))
-    (λ rest. let more = flat_cases f xs y rest in (more.0, later_in x xs more.0 more.1, more.2))
-    (Contains-append_cases (f x) (flat_map f xs) y c)
 
 module _ (b : Body) where
   -- ---- exit edges
@@ -47,8 +40,13 @@ module _ (b : Body) where
           let z : i ≡ 0 + i = sym (zero-add i) in
           let one : branches_of i insn ≡ exit i ∷ [] = ap (λ g. branches_by g i (targets_of insn)) same ∙ exit_by flow i (targets_of insn) ends in
           lists_from branches_of 0 b.code (exit i)
-              (record { place = i; item = insn; stands = stands; listed = subst (λ k. Contains (branches_of k insn) (exit i)) z
-                  (subst (λ l. Contains l (exit i)) (sym one) (first_in (exit i) [])) })
+          (record {
+            place = i;
+            item = insn;
+            stands = stands;
+            listed = subst (λ k. Contains (branches_of k insn) (exit i)) z
+                (subst (λ l. Contains l (exit i)) (sym one) (first_in (exit i) []));
+          })
 
   thrown_is : (i : ℕ) (y : Branch) → Contains (thrown_edges b i) y → (exit i ≡ y) × (flow_at b.code i ≡ Some flows.Throws)
   thrown_is i y c = by (flow_at b.code i) refl c
@@ -147,7 +145,7 @@ module _ (b : Body) where
       ⊎_elim
       (λ there. inr (came_caught row is.1 there))
       (λ came. inr (came_more (λ x. Contains (taken b row.target rest) x) (λ x. Contains (thrown_edges b i ++ taken b row.target rest) x)
-          (λ x took. Contains-append_right (thrown_edges b i) (taken b row.target rest) x took) t came))
+      (λ x took. Contains-append_right (thrown_edges b i) (taken b row.target rest) x took) t came))
       (arrived t row.target rest is.4 later))
       (which_in i (stood row.target rest) t c)
 

@@ -1,11 +1,12 @@
 -- Something came to each instruction that has a turn: it is the first one, a handler, or an edge that was taken leads there.
-use Rattle.std.proofs.Common.{◌≡◌, ◌⊎◌, inl, inr, ⊎_elim, ℕ, ◌+◌, Bool, true, false, List, [], ◌∷◌, Option, Some, None, refl, sym, ap, ◌∙◌, subst, cond, if◌then◌else◌}
-use Rattle.std.specs.Prelude.{⊤, slice_get, Contains, find, option_and_then}
+use Rattle.std.proofs.Common.{◌≡◌, ◌⊎◌, inl, inr, ⊎_elim, ℕ, ◌+◌, Bool, true, false, List, [], ◌∷◌, Option, Some, None, refl, sym, ap, ◌∙◌, subst, if◌then◌else◌}
+use Rattle.std.specs.Prelude.{⊤, slice_get, Contains, option_and_then}
 use Rattle.std.specs.List.{AllByRecursion, flat_map}
 use Rattle.std.proofs.lemmas.List.Elements.{Contains-append_left, Contains-append_right, Contains-append_cases}
-use Rattle.std.proofs.lemmas.Option.{none-some, same_Some}
-use Rattle.jc_bytes.proofs.BooleanLaws.{first_in, later_in, which_in, none_in}
+use Rattle.std.proofs.lemmas.Option.{same_Some}
+use Rattle.jc_bytes.proofs.BooleanLaws.{first_in, later_in, none_in}
 use Rattle.jc_bytes.proofs.FirstSeenLaws.{contains_one}
+use Rattle.jc_bytes.proofs.ListLaws.{flat_cases, found_in, each_in, all_at}
 use Rattle.jc_methods.specs.Flow.{flow_of}
 use Rattle.jc_methods.specs.declared.insn.Flow.{Flow}
 use Rattle.jc_methods.specs.declared.insn.Flow.TheVariants as flows
@@ -31,38 +32,10 @@ use Rattle.jc_twin_simulation.proofs.FrameLaws.{body_is}
 use Rattle.jc_twin_exact.proofs.ValueLaws.{InStatics, set_each}
 use Rattle.jc_twin_exact.proofs.ResultLaws.{InFrame}
 use Rattle.jc_twin_exact.proofs.TurnedLaws.{Turned, stands}
-use Rattle.jc_twin_exact.proofs.GoodLaws.{IsOther, HasNoInit, get_each, turned_here, nowhere, IsAtCall, AreGoodWaits, IsGood, IsGoodWorld, step_good}
+use Rattle.jc_twin_exact.proofs.GoodLaws.{IsOther, HasNoInit, turned_here, nowhere, IsAtCall, AreGoodWaits, IsGood, IsGoodWorld, step_good}
 use Rattle.jc_twin_exact.proofs.EdgeLaws.{IsEdgeAt, chosen_at, call_at, went, came_back, edges_among, no_edges}
 
 -- ---- lists
-
-pub flat_cases : {X Y : Type 0} (f : X → List Y) (xs : List X) (y : Y) → Contains (flat_map f xs) y → (x : X) × Contains xs x × Contains (f x) y
-flat_cases f [] y c = absurd (none_in y c)
-flat_cases f (x ∷ xs) y c =
-    ⊎_elim
-    (λ front. (x, first_in x xs, front))
-    (λ rest. let more = flat_cases f xs y rest in (more.0, later_in x xs more.0 more.1, more.2))
-    (Contains-append_cases (f x) (flat_map f xs) y c)
-
-pub flat_in : {X Y : Type 0} (f : X → List Y) (xs : List X) (x : X) (y : Y) → Contains xs x → Contains (f x) y → Contains (flat_map f xs) y
-flat_in f [] x y c h = absurd (none_in x c)
-flat_in f (z ∷ xs) x y c h =
-    ⊎_elim
-    (λ same. Contains-append_left (f z) (flat_map f xs) y (subst (λ w. Contains (f w) y) (sym same) h))
-    (λ later. Contains-append_right (f z) (flat_map f xs) y (flat_in f xs x y later h))
-    (which_in z xs x c)
-
-pub each_in : {X : Type 0} (P : X → Type 0) (xs : List X) (x : X) → AllByRecursion P xs → Contains xs x → P x
-each_in P [] x h c = absurd (none_in x c)
-each_in P (y ∷ xs) x h c = ⊎_elim (λ same. subst P same h.0) (λ later. each_in P xs x h.1 later) (which_in y xs x c)
-
-found_in : {X : Type 0} (test : X → Bool) (xs : List X) (x : X) → find test xs ≡ Some x → Contains xs x
-found_in test [] x e = absurd (none-some x e)
-found_in test (y ∷ xs) x e = by (test y) e (λ q. found_in test xs x q)
-  where
-    by : (b : Bool) → cond b (Some y) (find test xs) ≡ Some x → (find test xs ≡ Some x → Contains xs x) → Contains (y ∷ xs) x
-    by true f again = subst (Contains (y ∷ xs)) (same_Some y x f) (first_in y xs)
-    by false f again = later_in y xs x (again f)
 
 -- ---- bodies
 
@@ -167,7 +140,7 @@ module _ (p : Program) (no_init : HasNoInit p) (Took : ProgramEdge → Type 0) w
   step_came_by w t g c None e took = c
   step_came_by w t g c (Some x) e took =
       set_each IsOther ThreadCame w.threads t (turn_of p w.shared x).thread c
-      (turn_came w.shared x g.statics (get_each (IsGood p) w.threads t x g.threads e) (get_each ThreadCame w.threads t x c e) took)
+      (turn_came w.shared x g.statics (all_at (IsGood p) w.threads t x g.threads e) (all_at ThreadCame w.threads t x c e) took)
 
   step_came : (w : World) (t : ℕ) → IsGoodWorld p w → WorldCame w → ((e : ProgramEdge) → Contains (turn_edges p w t) e → Took e) → WorldCame (step p w t)
   unfolding step
@@ -219,7 +192,7 @@ module _ (p : Program) (no_init : HasNoInit p) (Took : ProgramEdge → Type 0) w
       by : (o : Option Thread) → slice_get w.threads t ≡ o → Contains (thread_edges p w.shared o) e → EdgeCame e
       by None l i = absurd (none_in e i)
       by (Some x) l i =
-          thread_edge_came w.shared x g.statics (get_each (IsGood p) w.threads t x g.threads l) (get_each ThreadCame w.threads t x c l) e i
+          thread_edge_came w.shared x g.statics (all_at (IsGood p) w.threads t x g.threads l) (all_at ThreadCame w.threads t x c l) e i
 
   -- each edge that is taken
   pub taken_came : (turns : List ℕ) (w : World) → IsGoodWorld p w → WorldCame w → ((e : ProgramEdge) → Contains (taken_from p w turns) e → Took e)

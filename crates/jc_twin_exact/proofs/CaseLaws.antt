@@ -5,6 +5,7 @@ use Rattle.std.specs.List.{flat_map}
 use Rattle.std.proofs.lemmas.Bool.{true≢false}
 use Rattle.std.proofs.lemmas.Option.{none-some, same_Some, slice_get-get_or}
 use Rattle.jc_bytes.proofs.BooleanLaws.{first_in, stands_in}
+use Rattle.jc_bytes.proofs.ListLaws.{flat_in, all_at}
 use Rattle.jc_methods.specs.Flow.{flow_of, jump_target}
 use Rattle.jc_methods.specs.declared.insn.Insn.{Insn}
 use Rattle.jc_methods.specs.declared.insn.Insn.TheVariants as insns
@@ -40,8 +41,8 @@ use Rattle.jc_twin_simulation.proofs.RunLaws.{same_run}
 use Rattle.jc_twin_simulation.proofs.TurnLaws.{hit_top, inside_none}
 use Rattle.jc_twin_simulation.proofs.WorldLaws.{SameOption, same_get}
 use Rattle.jc_twin_exact.specs.Exact.{HasReturned, HaveReturned, IsChangedAt, EndsWell}
-use Rattle.jc_twin_exact.proofs.GoodLaws.{HasNoInit, get_each}
-use Rattle.jc_twin_exact.proofs.CameLaws.{flat_in, EdgeCame, run_came, taken_came, stood_came, reached_parts, taken_reached, stood_reached}
+use Rattle.jc_twin_exact.proofs.GoodLaws.{HasNoInit}
+use Rattle.jc_twin_exact.proofs.CameLaws.{EdgeCame, run_came, taken_came, stood_came, reached_parts, taken_reached, stood_reached}
 use Rattle.jc_twin_exact.proofs.MarkLaws.{IsIn, probe_in, IsProbeOf, AreMarked}
 use Rattle.jc_twin_exact.proofs.RunMarkLaws.{run_marked}
 use Rattle.jc_twin_exact.proofs.BeginLaws.{begin_good, begin_came, begin_marked}
@@ -162,7 +163,7 @@ module _ (p p' : Program) (sides : Entry → Side) (marks : Entry → Marks) (ar
 
   none_of : (of : Thread → Option Hit) → ((x : Thread) → HasReturned x → of x ≡ None) → (threads : List Thread) → HaveReturned threads → (h : Hit)
       → IsIn of threads h → ⊥
-  none_of of quiet threads r h i = none-some h (sym (quiet i.1 (get_each HasReturned threads i.0 i.1 r i.2)) ∙ i.3)
+  none_of of quiet threads r h i = none-some h (sym (quiet i.1 (all_at HasReturned threads i.0 i.1 r i.2)) ∙ i.3)
 
   no_due : (x : Thread) → HasReturned x → due_in p' sides x ≡ None
   no_due (returned v) r = refl

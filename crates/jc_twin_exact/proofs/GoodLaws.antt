@@ -1,8 +1,9 @@
 -- Worlds of a program without probes: no value of theirs is a probe array, and frames that wait stand at calls.
-use Rattle.std.proofs.Common.{◌≡◌, ℕ, zero, suc, Bool, true, false, List, [], ◌∷◌, ◌++◌, length, Option, Some, None, refl, sym, ap, ◌∙◌, subst, if◌then◌else◌}
+use Rattle.std.proofs.Common.{◌≡◌, ℕ, Bool, true, false, List, [], ◌∷◌, ◌++◌, length, Option, Some, None, refl, sym, ap, ◌∙◌, subst, if◌then◌else◌}
 use Rattle.std.specs.Prelude.{⊤, slice_get, ◌&&◌, bytes_eq}
 use Rattle.std.specs.List.{AllByRecursion}
-use Rattle.std.proofs.lemmas.Option.{none-some, same_Some}
+use Rattle.std.proofs.lemmas.Option.{none-some}
+use Rattle.jc_bytes.proofs.ListLaws.{all_at}
 use Rattle.jc_methods.specs.Flow.{flow_of}
 use Rattle.jc_methods.specs.ProbeMembers.{init_type}
 use Rattle.jc_methods.specs.declared.insn.Flow.TheVariants as flows
@@ -38,11 +39,6 @@ others = record { ints = λ x. tt; longs = λ x. tt; nulls = tt; objects = λ k.
 -- no method of the program is named `$jacocoInit`
 abbrev pub HasNoInit : Program → Type 0
 HasNoInit p = (m : Entry) (c : Linked) (b : Body) → slice_get p.classes m.class ≡ Some c → slice_get c.bodies m.method ≡ Some b → is_init_name b.name ≡ false
-
-pub get_each : {X : Type 0} (P : X → Type 0) (xs : List X) (k : ℕ) (x : X) → AllByRecursion P xs → slice_get xs k ≡ Some x → P x
-get_each P [] k x h e = absurd (none-some x e)
-get_each P (y ∷ xs) zero x h e = subst P (same_Some y x e) h.0
-get_each P (y ∷ xs) (suc k) x h e = get_each P xs k x h.1 e
 
 module _ (p : Program) where
   -- ---- frames
@@ -177,7 +173,7 @@ module _ (p : Program) (no_init : HasNoInit p) where
   step_by : (w : World) (t : ℕ) → IsGoodWorld p w → (o : Option Thread) → slice_get w.threads t ≡ o → IsGoodWorld p (step_of p w t o)
   step_by w t h None e = h
   step_by w t h (Some x) e =
-      let a = turn_good w.shared x h.statics (get_each (IsGood p) w.threads t x h.threads e) in
+      let a = turn_good w.shared x h.statics (all_at (IsGood p) w.threads t x h.threads e) in
       record { statics = a.statics; threads = set_each IsOther (IsGood p) w.threads t (turn_of p w.shared x).thread h.threads a.thread }
 
   pub step_good : (w : World) (t : ℕ) → IsGoodWorld p w → IsGoodWorld p (step p w t)
@@ -191,7 +187,7 @@ module _ (p : Program) (no_init : HasNoInit p) where
   -- what was raised stays so
   raised_by : (w : World) (t : ℕ) → IsGoodWorld p w → w.shared.raised ≡ true → (o : Option Thread) → slice_get w.threads t ≡ o → (step_of p w t o).shared.raised ≡ true
   raised_by w t h r None e = r
-  raised_by w t h r (Some x) e = (turn_good w.shared x h.statics (get_each (IsGood p) w.threads t x h.threads e)).raised r
+  raised_by w t h r (Some x) e = (turn_good w.shared x h.statics (all_at (IsGood p) w.threads t x h.threads e)).raised r
 
   step_raised : (w : World) (t : ℕ) → IsGoodWorld p w → w.shared.raised ≡ true → (step p w t).shared.raised ≡ true
   unfolding step

@@ -1,10 +1,11 @@
 -- A kept turn: the probe of each edge that it takes was hit beforehand, or is owed behind it.
-use Rattle.std.proofs.Common.{◌≡◌, ◌⊎◌, inl, inr, ⊎_elim, ℕ, ◌+◌, Bool, true, false, List, [], ◌∷◌, Option, Some, None, option_map, refl, sym, ap, ◌∙◌, subst, cond, if◌then◌else◌}
-use Rattle.std.specs.Prelude.{⊤, slice_get, Contains, find, option_and_then}
+use Rattle.std.proofs.Common.{◌≡◌, ◌⊎◌, inl, inr, ⊎_elim, ℕ, ◌+◌, Bool, true, false, List, [], ◌∷◌, Option, Some, None, option_map, refl, sym, ap, ◌∙◌, subst, if◌then◌else◌}
+use Rattle.std.specs.Prelude.{⊤, slice_get, Contains, option_and_then}
 use Rattle.std.specs.List.{AllByRecursion}
 use Rattle.std.proofs.lemmas.Option.{none-some, same_Some, get_or_from_slice_get, slice_get-get_or}
 use Rattle.jc_bytes.proofs.BooleanLaws.{first_in, later_in, which_in, none_in}
 use Rattle.jc_bytes.proofs.FirstSeenLaws.{contains_one}
+use Rattle.jc_bytes.proofs.ListLaws.{found_in}
 use Rattle.jc_methods.specs.Flow.{flow_of}
 use Rattle.jc_methods.specs.declared.insn.Insn.{Insn}
 use Rattle.jc_methods.specs.declared.insn.Insn.TheVariants as insns
@@ -63,14 +64,6 @@ frame_any f = record { locals = each_any (InSlot Any) slot_any f.locals; stack =
 
 any_holds : HoldsOfOthers Any
 any_holds = record { ints = λ x. tt; longs = λ x. tt; nulls = tt; objects = λ k. tt; errors = tt; streams = tt; texts = λ k. tt }
-
-found_in : {X : Type 0} (test : X → Bool) (xs : List X) (x : X) → find test xs ≡ Some x → Contains xs x
-found_in test [] x e = absurd (none-some x e)
-found_in test (y ∷ xs) x e = by (test y) e (λ q. found_in test xs x q)
-  where
-    by : (b : Bool) → cond b (Some y) (find test xs) ≡ Some x → (find test xs ≡ Some x → Contains xs x) → Contains (y ∷ xs) x
-    by true f again = subst (Contains (y ∷ xs)) (same_Some y x f) (first_in y xs)
-    by false f again = later_in y xs x (again f)
 
 -- each row of the twin's is that of a row
 row_of : (Kept : Handler → Handler → Type 0) (hs rs : List Handler) → OkRows Kept hs rs → (r : Handler) → Contains rs r → (h : Handler) × Kept h r

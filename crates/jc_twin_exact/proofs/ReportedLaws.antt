@@ -3,9 +3,10 @@ use Rattle.std.proofs.Common.{◌≡◌, ◌⊎◌, inl, inr, ⊎_elim, ◌↔�
 use Rattle.std.specs.Prelude.{slice_get, slice_index_or, Contains, IsTrue}
 use Rattle.std.specs.List.{flat_map}
 use Rattle.std.proofs.lemmas.List.Elements.{Contains-append_right}
-use Rattle.std.proofs.lemmas.Option.{same_Some, slice_get-get_or}
+use Rattle.std.proofs.lemmas.Option.{same_Some}
 use Rattle.jc_bytes.proofs.BooleanLaws.{first_in, none_in, stands_in}
 use Rattle.jc_bytes.proofs.FirstSeenLaws.{contains_one}
+use Rattle.jc_bytes.proofs.ListLaws.{flat_cases, stands_at}
 use Rattle.jc_methods.specs.Flow.{flow_of, targets_of}
 use Rattle.jc_methods.specs.declared.insn.Insn.{Insn}
 use Rattle.jc_methods.specs.declared.insn.Flow.{Flow}
@@ -41,7 +42,7 @@ use Rattle.jc_twin_simulation.proofs.RunLaws.{run_append}
 use Rattle.jc_twin_exact.specs.Exact.{HaveReturned, IsChangedAt, HaveEntries, OfSomeCase, OfEachCase, Took, Reached, HasHit, EndsWell, TellHits, IsExact}
 use Rattle.jc_twin_exact.specs.Reported.{branch_edge, kept_in, WasTaken, IsNext, WasExecuted, IsNextInsn, HadTurn, AllEndWell, TellsTaken, IsReported, ReportedEdges}
 use Rattle.jc_twin_exact.proofs.GoodLaws.{run_good}
-use Rattle.jc_twin_exact.proofs.CameLaws.{flat_cases, insn_there, reached_parts}
+use Rattle.jc_twin_exact.proofs.CameLaws.{insn_there, reached_parts}
 use Rattle.jc_twin_exact.proofs.StayLaws.{taken_with, each_leaves}
 use Rattle.jc_twin_exact.proofs.BeginLaws.{begin_good}
 use Rattle.jc_twin_exact.proofs.CaseLaws.{no_init, both_returned, both_calm}
@@ -56,13 +57,10 @@ turns_if (Some case) = turns_in case
 abbrev own_turns : RunPlan → ℕ → List ℕ
 own_turns plan number = turns_if (slice_get plan.cases number)
 
-number_of : {X : Type 0} (xs : List X) (x : X) → Contains xs x → (k : ℕ) × (slice_get xs k ≡ Some x)
-number_of xs x c = (c.0, slice_get-get_or xs c.0 x c.1 ∙ ap Some c.2)
-
 module _ (plan : RunPlan) (Fact : Case → List ℕ → Type 0) where
   to_some : (case : Case) → Contains plan.cases case → Fact case (turns_in case) → OfSomeCase plan (own_turns plan) Fact
   to_some case c h =
-      let n = number_of plan.cases case c in
+      let n = stands_at plan.cases case c in
       record { number = n.0; case = case; listed = n.1; holds = subst (λ o. Fact case (turns_if o)) (sym n.1) h }
 
   from_some : OfSomeCase plan (own_turns plan) Fact → (case : Case) × Contains plan.cases case × Fact case (turns_in case)

@@ -3,6 +3,7 @@ use Rattle.std.proofs.Common.{◌≡◌, inl, inr, ℕ, Bool, true, false, List,
 use Rattle.std.specs.Prelude.{slice_get}
 use Rattle.std.proofs.lemmas.Bool.{true≢false}
 use Rattle.std.proofs.lemmas.List.{append-nil}
+use Rattle.jc_bytes.proofs.ListLaws.{all_at}
 use Rattle.jc_programs.specs.declared.program.Program.{Program}
 use Rattle.jc_programs.specs.declared.run_end.Entry.{Entry}
 use Rattle.jc_plan.specs.ClassEdges.{ProgramEdge}
@@ -21,7 +22,7 @@ use Rattle.jc_twin_simulation.proofs.OwnLaws.{AtImage}
 use Rattle.jc_twin_simulation.proofs.TurnLaws.{hit_top}
 use Rattle.jc_twin_simulation.proofs.WorldLaws.{keeps_top, keeps_inside, aside_thread, SameOption, same_get, one_turn}
 use Rattle.jc_twin_exact.proofs.ValueLaws.{InStatics}
-use Rattle.jc_twin_exact.proofs.GoodLaws.{IsOther, HasNoInit, get_each, IsGood, IsGoodWorld, step_good}
+use Rattle.jc_twin_exact.proofs.GoodLaws.{IsOther, HasNoInit, IsGood, IsGoodWorld, step_good}
 use Rattle.jc_twin_exact.proofs.MarkLaws.{Moves, passes_move, owes_move, AreMarked, turn_marked}
 use Rattle.jc_twin_exact.proofs.OwnMoveLaws.{own_moves}
 
@@ -105,7 +106,7 @@ module _ (p p' : Program) (sides : Entry → Side) (marks : Entry → Marks) (ar
         none_if false = refl
     step_by b (Some x) (Some x') e e' h k =
         turn_marked p' sides edges (edges_if b (thread_edges p w.shared (Some x))) w' t x' (turn_of p' w'.shared x') e'
-        (thread_moved w.shared w'.shared mid.shared good.statics x x' h (get_each (IsGood p) w.threads t x good.threads e) b k) marked
+        (thread_moved w.shared w'.shared mid.shared good.statics x x' h (all_at (IsGood p) w.threads t x good.threads e) b k) marked
     step_by b None (Some x') e e' h k = absurd h
     step_by b (Some x) None e e' h k = absurd h
 

@@ -5,6 +5,7 @@ use Rattle.std.proofs.lemmas.Bool.{true≢false, eqb-true, eqb-false}
 use Rattle.std.proofs.lemmas.List.Elements.{Contains-append_left, Contains-append_right, Contains-append_cases}
 use Rattle.jc_bytes.proofs.BooleanLaws.{first_in, later_in, which_in, none_in}
 use Rattle.jc_bytes.proofs.FirstSeenLaws.{contains_one}
+use Rattle.jc_bytes.proofs.ListLaws.{all_at}
 use Rattle.jc_programs.specs.declared.program.Program.{Program}
 use Rattle.jc_programs.specs.declared.run_end.Entry.{Entry}
 use Rattle.jc_plan.specs.declared.branch.Branch.{Branch}
@@ -24,7 +25,7 @@ use Rattle.jc_twin_exact.specs.Exact.{HasReturned, HaveReturned}
 use Rattle.jc_twin_exact.proofs.ValueLaws.{InStatics}
 use Rattle.jc_twin_exact.proofs.ResultLaws.{InFrame}
 use Rattle.jc_twin_exact.proofs.TurnedLaws.{Turned}
-use Rattle.jc_twin_exact.proofs.GoodLaws.{IsOther, HasNoInit, get_each, turned_here, nowhere, IsGood, IsGoodWorld, step_good, run_raised}
+use Rattle.jc_twin_exact.proofs.GoodLaws.{IsOther, HasNoInit, turned_here, nowhere, IsGood, IsGoodWorld, step_good, run_raised}
 use Rattle.jc_twin_exact.proofs.EdgeLaws.{went, Stopped, at_throw, elsewhere, stopped, called, came_back, frames_in, no_edges}
 
 -- an edge that leaves the method
@@ -77,7 +78,7 @@ module _ (p : Program) where
       by false h = step_other p w k t (eqb-false k t h) ∙ e
 
   returned_at : (threads : List Thread) (t : ℕ) (x : Thread) → HaveReturned threads → slice_get threads t ≡ Some x → HasReturned x
-  returned_at threads t x h e = get_each HasReturned threads t x h e
+  returned_at threads t x h e = all_at HasReturned threads t x h e
 
 module _ (p : Program) (no_init : HasNoInit p) where
   -- ---- one turn of a thread
@@ -260,7 +261,7 @@ module _ (p : Program) (no_init : HasNoInit p) where
 
       by : ((y : Thread) → slice_get (step p w k).threads t ≡ Some y → (h : Frame) → Contains (frames_in y) h → IsLeft p (step p w k) turns h)
           → (b : Bool) → nat_eq k t ≡ b → IsLeft p w (k ∷ turns) f
-      by again true h = own again (eqb-true k t h) (thread_stays w.shared x g.statics (get_each (IsGood p) w.threads t x g.threads e) f c)
+      by again true h = own again (eqb-true k t h) (thread_stays w.shared x g.statics (all_at (IsGood p) w.threads t x g.threads e) f c)
       by again false h = then_left w k turns f (again x (step_other p w k t (eqb-false k t h) ∙ e) f c)
 
   -- ---- behind each edge that doesn't leave its method another one is taken
@@ -291,4 +292,4 @@ module _ (p : Program) (no_init : HasNoInit p) where
 
       by : (o : Option Thread) → slice_get w.threads k ≡ o → Contains (thread_edges p w.shared o) e → IsFollowed p w (k ∷ turns) e left
       by None l c = absurd (none_in e c)
-      by (Some x) l c = behind x l (thread_follows w.shared x g.statics (get_each (IsGood p) w.threads k x g.threads l) e c)
+      by (Some x) l c = behind x l (thread_follows w.shared x g.statics (all_at (IsGood p) w.threads k x g.threads l) e c)

@@ -1,10 +1,11 @@
 -- Worlds that fit and are together, in terms of the two programs, belong together.
-use Rattle.std.proofs.Common.{◌≡◌, inl, inr, ⊎_elim, ℕ, zero, suc, ◌+◌, ◌-◌, ◌<◌, ◌≤◌, Bool, true, false, not, ◌&&◌, List, [], ◌∷◌, ◌++◌, length, insert, drop, map, Option, Some, None, option_map, option_and_then, nat_eq, refl, sym, ap, ap₂, ◌∙◌, subst, arith, if◌then◌else◌}
+use Rattle.std.proofs.Common.{◌≡◌, inl, inr, ⊎_elim, ℕ, zero, suc, ◌+◌, ◌-◌, ◌<◌, ◌≤◌, Bool, true, false, not, ◌&&◌, List, [], ◌∷◌, ◌++◌, length, insert, drop, Option, Some, None, option_and_then, nat_eq, refl, sym, ap, ap₂, ◌∙◌, subst, arith, if◌then◌else◌}
 use Rattle.std.specs.Prelude.{IsTrue, slice_get, slice_index_or}
 use Rattle.std.specs.List.{AllByRecursion}
 use Rattle.std.proofs.lemmas.Bool.{true≢false, lt-ltb, le-ltb, eqb-true, eqb-false, and_parts, not-true, cases_lt}
-use Rattle.std.proofs.lemmas.Option.{none-some, same_Some, slice_get-map, slice_get-get_or, get_or_from_slice_get, slice_get_within, slice_get_past}
+use Rattle.std.proofs.lemmas.Option.{none-some, same_Some, slice_get-get_or, get_or_from_slice_get, slice_get_within, slice_get_past}
 use Rattle.jc_bytes.proofs.BooleanLaws.{stands_in}
+use Rattle.jc_bytes.proofs.ListLaws.{mapped_at}
 use Rattle.jc_methods.specs.Opcode as opcode
 use Rattle.jc_methods.specs.Flow.{flow_of}
 use Rattle.jc_methods.specs.WellMade.{what_used}
@@ -33,8 +34,9 @@ use Rattle.jc_machine_model.specs.Methods.{is_init_name, declares_init, is_nativ
 use Rattle.jc_methods.specs.EntryState.{is_static}
 use Rattle.jc_machine_model.specs.Profile.{Location}
 use Rattle.jc_emit.specs.Seen.{IsInsnOf, IsPlain}
+use Rattle.jc_emit.proofs.ToldLaws.{mapped}
 use Rattle.jc_machine_model.specs.Step.{LocatedInsn, located_in_body, located_in_class, located, named_init, is_init_method}
-use Rattle.jc_twin_simulation.specs.Same.{twin_slot, array_slot, is_named_data, is_data_in, is_data, static_in, frames_of, Same}
+use Rattle.jc_twin_simulation.specs.Same.{twin_slot, array_slot, is_named_data, is_data_in, is_data, frames_of}
 use Rattle.jc_twin_simulation.specs.Same as spec
 use Rattle.jc_twin_simulation.specs.Sides.{Side, count_in, array_of, IsSide, AreSides, AreMarksOf}
 use Rattle.jc_twin_simulation.specs.Mid.{pushed_of, null_or, step_stack, SameLocals, OneMethod, SameFrame, SameWait, SameWaits, init_method, SameStuck, Inside, extra_in, SameStatics, values_of, SameShared, SameThread, SameThreads, Mid}
@@ -46,7 +48,6 @@ use Rattle.jc_twin_simulation.proofs.PlaceLaws.{any_at}
 use Rattle.jc_twin_simulation.proofs.SameLaws.{slot_is, no_class, last_is, one_more, is_added}
 use Rattle.jc_twin_simulation.proofs.PushedLaws.{item_off, past_prelude}
 use Rattle.jc_twin_simulation.proofs.SlotLaws.{get-shifted, read-shifted, get_own}
-use Rattle.jc_twin_simulation.proofs.WorldLaws.{told_at}
 use Rattle.jc_twin_simulation.proofs.TogetherLaws.{number_form}
 
 -- ---- lists
@@ -56,14 +57,6 @@ same_items [] [] h = refl
 same_items [] (y ∷ ys) h = absurd (none-some y (h 0))
 same_items (x ∷ xs) [] h = absurd (none-some x (sym (h 0)))
 same_items (x ∷ xs) (y ∷ ys) h = ap₂ (λ z l. z ∷ l) (same_Some x y (h 0)) (same_items xs ys (λ k. h (suc k)))
-
--- the item of which a list tells something
-map_at : {X Y : Type 0} (g : X → Y) (xs : List X) (k : ℕ) (y : Y) → slice_get (map g xs) k ≡ Some y → (x : X) × (slice_get xs k ≡ Some x) × (g x ≡ y)
-map_at g xs k y e = by (slice_get xs k) refl (sym (slice_get-map g xs k) ∙ e)
-  where
-    by : (o : Option _) → slice_get xs k ≡ o → option_map g o ≡ Some y → (x : _) × (slice_get xs k ≡ Some x) × (g x ≡ y)
-    by None h e = absurd (none-some y e)
-    by (Some x) h e = (x, h, same_Some (g x) y e)
 
 -- ---- local variables
 
@@ -208,10 +201,10 @@ module _ (p p' : Program) (sides : Entry → Side) (marks : Entry → Marks) (ar
       let t = sides f.method in
       let a = array_of t f.method.class in
       let m = told f.method o.side in
-      let i = map_at at_of t.items f'.place f.place (ap (λ l. slice_get l f'.place) (sym m.at) ∙ same.place) in
+      let i = mapped_at at_of t.items f'.place f.place (ap (λ l. slice_get l f'.place) (sym m.at) ∙ same.place) in
       let x = i.0 in
       let marked : slice_get (marks f.method).extra f'.place ≡ Some (extra_of x) =
-      ap (λ l. slice_get l f'.place) m.extra ∙ told_at extra_of t.items f'.place x i.1 in
+      ap (λ l. slice_get l f'.place) m.extra ∙ mapped extra_of t.items f'.place x i.1 in
       let more : same.extra ≡ extra_of x = same_Some same.extra (extra_of x) (sym same.extra_is ∙ marked) in
       let body : body_of p' f'.method ≡ Some t.twin = ap (body_of p') o.method ∙ body_is p' f.method t.new t.twin o.side.new_is o.side.twin_is in
       let array : array_in p' f'.method.class ≡ a = ap (λ (e : Entry). array_in p' e.class) o.method ∙ array_is f.method o.side in
@@ -427,7 +420,7 @@ module _ (p p' : Program) (sides : Entry → Side) (marks : Entry → Marks) (ar
         by None e h = absurd (none-some inside.0 h)
         by (Some c) e h =
             let side = are.side m c inside.0 e h in
-            let i = map_at at_of (sides m).items q' q (ap (λ l. slice_get l q') (sym (told m side).at) ∙ same.1) in
+            let i = mapped_at at_of (sides m).items q' q (ap (λ l. slice_get l q') (sym (told m side).at) ∙ same.1) in
             record { same = same.0; side = side; item = i.0; here = i.1; at = i.2 }
 
     thread_of : (heap heap' : List HeapObject) (x x' : Thread) → spec.SameThread p' marks x x' → HasState p' marks x' → IsStuckWithin p x → FitsThread p heap x

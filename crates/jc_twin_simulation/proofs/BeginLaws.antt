@@ -5,8 +5,11 @@ use Rattle.std.specs.List.{sum_by}
 use Rattle.std.proofs.lemmas.Bool.{and_parts}
 use Rattle.std.proofs.lemmas.List.{length-map}
 use Rattle.std.proofs.lemmas.List.Sums.{sum_by-cons}
-use Rattle.std.proofs.lemmas.Option.{none-some, same_Some, slice_get-map, get_or_from_slice_get}
+use Rattle.std.proofs.lemmas.Option.{none-some, slice_get-map, get_or_from_slice_get}
 use Rattle.jc_bytes.specs.Descriptor.{FieldType, Byte, Char, Double, Float, Int, Long, Short, Boolean, Object, Array, slots_of}
+use Rattle.jc_bytes.proofs.OptionLaws.{map_some, then_some}
+use Rattle.jc_bytes.proofs.TextEqualLaws.{same_bytes}
+use Rattle.jc_bytes.proofs.ListLaws.{map_append}
 use Rattle.jc_methods.specs.VerificationTypes.{Names}
 use Rattle.jc_methods.specs.DescriptorTypes.{types_from, method_type_in}
 use Rattle.jc_methods.specs.EntryState.{is_static}
@@ -32,7 +35,7 @@ use Rattle.jc_machine_model.specs.Begin.{number_value, first_value, first_static
 use Rattle.jc_twin_simulation.specs.Sides.{Side, count_in, IsSide, AreSides}
 use Rattle.jc_twin_simulation.specs.Mid.{SameFrame, extra_in, SameStatics, SameShared, SameThread, SameThreads, Mid}
 use Rattle.jc_twin_simulation.proofs.PlaceLaws.{place, position_place, place_there, place_before, place_last, place-map}
-use Rattle.jc_twin_simulation.proofs.ClassLaws.{name_again, class_same, class_there, unchanged_declares, changed_declares}
+use Rattle.jc_twin_simulation.proofs.ClassLaws.{class_same, class_there, unchanged_declares, changed_declares}
 use Rattle.jc_twin_simulation.proofs.EnterLaws.{static_slots, enters_same}
 use Rattle.jc_twin_simulation.proofs.MemberLaws.{enterable_same, entered_static}
 use Rattle.jc_twin_simulation.proofs.SameLaws.{no_class}
@@ -46,10 +49,6 @@ read_past : {X Y : Type 0} (g : X → List Y) (xs : List X) (k : ℕ) → slice_
 read_past g [] k e = refl
 read_past g (x ∷ xs) zero e = absurd (none-some x (sym e))
 read_past g (x ∷ xs) (suc k) e = read_past g xs k e
-
-map_push : {X Y : Type 0} (g : X → Y) (xs : List X) (y : X) → map g (xs ++ y ∷ []) ≡ map g xs ++ g y ∷ []
-map_push g [] y = refl
-map_push g (x ∷ xs) y = ap (λ l. g x ∷ l) (map_push g xs y)
 
 -- ---- static fields
 
@@ -70,7 +69,7 @@ module _ (p p' : Program) (sides : Entry → Side) (are : AreSides p p' sides) w
   statics_by class c new there (inr pair) =
       subst (λ o. SameStatics o class (values c) (values new))
       (sym (ap extra_in there ∙ ap (λ b. if b then Some (count_in new.probes) else None) (changed_declares p.names p'.names c new pair (are.added c new pair))))
-      (false, ap (map first_value) pair.statics ∙ map_push first_value c.statics data_static ∙ ap (λ v. map first_value c.statics ++ v ∷ []) data_first)
+      (false, ap (map first_value) pair.statics ∙ map_append first_value c.statics data_static ∙ ap (λ v. map first_value c.statics ++ v ∷ []) data_first)
 
   statics_at : (class : ℕ) (o : Option Linked) → slice_get p.classes class ≡ o
       → SameStatics (extra_in (class_at p' class)) class (slice_index_or (first_statics p) class []) (slice_index_or (first_statics p') class [])
@@ -129,14 +128,6 @@ entry_fits thread b e =
     last_of : (w x y z : Bool) → (w && (x && (y && z))) ≡ true → z ≡ true
     last_of w x y z h = (and_parts y z (and_parts x (y && z) (and_parts w (x && (y && z)) h).1).1).1
 
-then_some : {X Y : Type 0} (f : X → Option Y) (o : Option X) (y : Y) → option_and_then f o ≡ Some y → (x : X) × (o ≡ Some x) × (f x ≡ Some y)
-then_some f None y e = absurd (none-some y e)
-then_some f (Some x) y e = (x, refl, e)
-
-map_some : {X Y : Type 0} (f : X → Y) (o : Option X) (y : Y) → option_map f o ≡ Some y → (x : X) × (o ≡ Some x) × (f x ≡ y)
-map_some f None y e = absurd (none-some y e)
-map_some f (Some x) y e = (x, refl, same_Some (f x) y e)
-
 -- the method of an entry
 pub record IsThere (p : Program) (thread : ThreadLine) (entry : Entry) : Type 0 where
   pub class : Linked
@@ -193,7 +184,7 @@ module _ (names new_names : Names) (thread : ThreadLine) where
   no_entry : (b : Body) → b.name ≡ init_name → is_entry thread b ≡ false
   no_entry b e =
       ap (λ x. is_static b.flags && (bytes_eq b.name thread.method && (not x && are_arguments (method_type_in b.desc).parameters thread.args)))
-      (name_again b.name init_name e)
+      (same_bytes b.name init_name e)
       ∙ both (is_static b.flags) (bytes_eq b.name thread.method)
     where
       both : (x y : Bool) → (x && (y && false)) ≡ false

@@ -1,10 +1,10 @@
 -- Each target of a switch has its branch.
 use Rattle.std.proofs.Common.{◌≡◌, ⊎_elim, ℕ, ◌+◌, Bool, true, false, not, List, [], ◌∷◌, filter, nat_eq, refl, sym, ap, ◌∙◌, subst, cond}
 use Rattle.std.specs.Prelude.{Contains}
-use Rattle.std.proofs.lemmas.Bool.{eqb-true, eq-eqb}
 use Rattle.jc_bytes.specs.PlainLists.{map_from}
 use Rattle.jc_bytes.specs.FirstSeen.{first_seen}
 use Rattle.jc_bytes.proofs.BooleanLaws.{first_in, later_in, which_in, none_in}
+use Rattle.jc_bytes.proofs.FirstSeenLaws.{first_seen_all}
 use Rattle.jc_plan.specs.declared.branch.Branch.{Branch}
 use Rattle.jc_plan.specs.Edges.{arm}
 use Rattle.jc_emit.specs.TwinCode.{to_of}
@@ -22,18 +22,6 @@ others_stay x y (z ∷ xs) c e = by (λ later. others_stay x y xs later e) (nat_
         (λ later. later_in z (filter (λ w. not (nat_eq x w)) xs) y (go later))
         (which_in z xs y c)
 
-seen_there : (xs : List ℕ) (y : ℕ) → Contains xs y → Contains (first_seen xs) y
-seen_there [] y c = absurd (none_in y c)
-seen_there (x ∷ xs) y c = by (seen_there xs y) (nat_eq x y) refl
-  where
-    by : (Contains xs y → Contains (first_seen xs) y) → (b : Bool) → nat_eq x y ≡ b → Contains (x ∷ filter (λ z. not (nat_eq x z)) (first_seen xs)) y
-    by go true q =
-        subst (Contains (x ∷ filter (λ z. not (nat_eq x z)) (first_seen xs))) (eqb-true x y q) (first_in x (filter (λ z. not (nat_eq x z)) (first_seen xs)))
-    by go false q = ⊎_elim
-        (λ same. let no : nat_eq x y ≡ true = ap (nat_eq x) (sym same) ∙ eq-eqb x x refl in cc)
-        (λ later. later_in x (filter (λ z. not (nat_eq x z)) (first_seen xs)) y (others_stay x y (first_seen xs) (go later) q))
-        (which_in x xs y c)
-
 arm_there : (i n : ℕ) (xs : List ℕ) (to : ℕ) → Contains xs to → (x : Branch) × Contains (map_from (arm i) n xs) x × (to_of x ≡ to)
 arm_there i n [] to c = absurd (none_in to c)
 arm_there i n (y ∷ xs) to c = ⊎_elim
@@ -43,4 +31,4 @@ arm_there i n (y ∷ xs) to c = ⊎_elim
 
 pub target_branch : (i : ℕ) (targets : List ℕ) (to : ℕ) → Contains targets to
     → (x : Branch) × Contains (map_from (arm i) 0 (first_seen targets)) x × (to_of x ≡ to)
-target_branch i targets to c = arm_there i 0 (first_seen targets) to (seen_there targets to c)
+target_branch i targets to c = arm_there i 0 (first_seen targets) to (first_seen_all targets to c)

@@ -4,9 +4,10 @@ use Rattle.std.specs.Prelude.{slice_get, bytes_eq}
 use Rattle.std.specs.List.{list_any}
 use Rattle.std.proofs.lemmas.Bool.{and_parts, and_from, false_from_ne_true}
 use Rattle.std.proofs.lemmas.List.{length-map}
-use Rattle.std.proofs.lemmas.Slice.Eq.{bytes_eq-Decides}
 use Rattle.std.proofs.lemmas.Option.{none-some}
 use Rattle.jc_bytes.proofs.BooleanLaws.{stands_in}
+use Rattle.jc_bytes.proofs.TextEqualLaws.{same_bytes, bytes_are}
+use Rattle.jc_bytes.proofs.ListLaws.{map_append}
 use Rattle.jc_methods.specs.VerificationTypes.{Names}
 use Rattle.jc_methods.specs.ProbeMembers.{init_name, init_type, data_name, data_type}
 use Rattle.jc_methods.specs.declared.body.Body.{Body}
@@ -21,14 +22,8 @@ use Rattle.jc_twin_simulation.proofs.PlaceLaws.{place, position_place, place_the
 
 -- ---- names
 
-pub same_name : (a b : List ℕ) → bytes_eq a b ≡ true → a ≡ b
-same_name a b e = (bytes_eq-Decides a b).0 e
-
 pub other_name : (a b : List ℕ) → (a ≡ b → ⊥) → bytes_eq a b ≡ false
-other_name a b h = false_from_ne_true (bytes_eq a b) (λ e. h (same_name a b e))
-
-pub name_again : (a b : List ℕ) → a ≡ b → bytes_eq a b ≡ true
-name_again a b e = (bytes_eq-Decides a b).1 e
+other_name a b h = false_from_ne_true (bytes_eq a b) (λ e. h (bytes_are a b e))
 
 -- a name and a descriptor
 pub record Key : Type 0 where
@@ -67,10 +62,6 @@ module _ (names new_names : Names) where
       let same = are.0.twin.method in
       ap₂ (λ k l. k ∷ l) (ap₂ (λ n d. record { name = n; desc = d }) same.name same.desc) (twin_keys (first + probe_count b) bodies others added are.1)
 
-map_append : {X Y : Type 0} (g : X → Y) (xs : List X) (y : X) → map g (xs ++ y ∷ []) ≡ map g xs ++ g y ∷ []
-map_append g [] y = refl
-map_append g (x ∷ xs) y = ap (λ l. g x ∷ l) (map_append g xs y)
-
 -- what is found among some is found where others stand behind them
 found_before : (test : Key → Bool) (xs ys all : List Key) (k : ℕ) → all ≡ xs ++ ys → place test xs ≡ Some k → place test all ≡ Some k
 found_before test xs ys all k e h = ap (place test) e ∙ place_before test xs ys k h
@@ -104,7 +95,7 @@ module _ (names new_names : Names) (c new : Linked) where
         length (map field_key c.statics),
         static_place new.statics name desc
             ∙ last.0,
-        name_again name data_name (sym (same_name data_name name (and_parts (bytes_eq data_name name) (bytes_eq data_type desc) last.1).0)),
+        same_bytes name data_name (sym (bytes_are data_name name (and_parts (bytes_eq data_name name) (bytes_eq data_type desc) last.1).0)),
       ))
       (found_last (fits_key name desc) (map field_key c.statics) (field_key data_static) (map field_key new.statics)
       (ap (map field_key) pair.statics ∙ map_append field_key c.statics data_static) (sym (static_place c.statics name desc) ∙ h))
@@ -175,7 +166,7 @@ differ_at (x ∷ classes) differ (suc j) (suc k) c d lt e h same = differ_at cla
 pub class_again : (p : Program) → DifferInName p.classes → (k : ℕ) (c : Linked) → slice_get p.classes k ≡ Some c → class_named p c.name ≡ Some k
 class_again p differ k c e =
     position_place (λ (x : Linked). bytes_eq x.name c.name) p.classes
-    ∙ place_is (λ (x : Linked). bytes_eq x.name c.name) p.classes k c e (name_again c.name c.name refl)
+    ∙ place_is (λ (x : Linked). bytes_eq x.name c.name) p.classes k c e (same_bytes c.name c.name refl)
     (λ j d lt h. other_name d.name c.name (λ same. differ_at p.classes differ j k d c lt h e (sym same)))
 
 -- ---- the added members
@@ -211,7 +202,7 @@ init_found names new_names c new pair =
         (other_name b.name init_name (λ same. pair.none_added.bodies b (stands_in c.bodies k b e) (inl same))))
 
     fits : fits_key init_name init_type (body_key pair.added) ≡ true
-    fits = and_from _ _ (name_again pair.added.name init_name pair.added_is.name) (name_again pair.added.desc init_type pair.added_is.desc)
+    fits = and_from _ _ (same_bytes pair.added.name init_name pair.added_is.name) (same_bytes pair.added.desc init_type pair.added_is.desc)
 
 -- ---- which classes declare `$jacocoInit`
 
@@ -238,4 +229,4 @@ unchanged_declares names new_names c new pair =
 pub changed_declares : (names new_names : Names) (c new : Linked) (pair : IsChangedPair names new_names c new)
     → slice_get new.bodies (length c.bodies) ≡ Some pair.added → declares_init new ≡ true
 changed_declares names new_names c new pair e =
-    any_at (λ (b : Body). is_init_name b.name) new.bodies (length c.bodies) pair.added e (name_again pair.added.name init_name pair.added_is.name)
+    any_at (λ (b : Body). is_init_name b.name) new.bodies (length c.bodies) pair.added e (same_bytes pair.added.name init_name pair.added_is.name)

@@ -6,6 +6,8 @@ use Rattle.std.specs.List.{sum_by}
 use Rattle.std.proofs.lemmas.Int.{ints}
 use Rattle.std.proofs.lemmas.Bool.{eq-eqb}
 use Rattle.jc_bytes.specs.Descriptor.{FieldType, Array, Boolean}
+use Rattle.jc_bytes.proofs.TextEqualLaws.{same_bytes}
+use Rattle.jc_bytes.proofs.BooleanLaws.{and_false}
 use Rattle.jc_methods.specs.Opcode as opcode
 use Rattle.jc_methods.specs.DescriptorTypes.{types_from, field_type_in, method_type_in}
 use Rattle.jc_methods.specs.ProbeMembers.{init_name, init_type, data_name, data_type, runtime_class, fetch_name, fetch_type}
@@ -34,8 +36,7 @@ use Rattle.jc_machine_model.specs.Step.{result_of}
 use Rattle.jc_twin_simulation.specs.Sides.{Side, count_in, IsChanged, IsSide, AreSides}
 use Rattle.jc_twin_simulation.specs.Mid.{null_or, InitStep, reads_field, doubles, asks_null, clears, wants_id, wants_text, wants_count, fetches_array, keeps_array, writes_field, gives_back, step_place, step_stack, extra_in, values_of, SameShared}
 use Rattle.jc_twin_simulation.proofs.StaticLaws.{reads_extra, puts_extra}
-use Rattle.jc_twin_simulation.proofs.MemberLaws.{and_false}
-use Rattle.jc_twin_simulation.proofs.ClassLaws.{name_again, class_same, class_again, data_found}
+use Rattle.jc_twin_simulation.proofs.ClassLaws.{class_same, class_again, data_found}
 use Rattle.jc_twin_simulation.proofs.FrameLaws.{location, result_is}
 use Rattle.jc_twin_simulation.proofs.AsideLaws.{pushes_number}
 
@@ -124,7 +125,7 @@ module _ (p p' : Program) (sides : Entry → Side) where
     at q = location (record { class = k; method = length t.class.bodies }) q t.new b
 
     named : (q : ℕ) → in_init (at q) ≡ true
-    named q = name_again b.name init_name i.name
+    named q = same_bytes b.name init_name i.name
 
     -- what the instruction at its place does
     run : (q : ℕ) (insn : Insn) → f'.place ≡ q → slice_get code q ≡ Some insn → result_of p' s' f' ≡ perform (operation_of p' (at q) insn) s' f'
@@ -201,7 +202,7 @@ module _ (p p' : Program) (sides : Entry → Side) where
     init_is_there : (q : ℕ) → init_of (at q) ≡ Some init
     init_is_there q =
         ap (λ x. if x && bytes_eq b.desc init_type then t.new.probes else None) (named q)
-        ∙ ap (λ x. if x then t.new.probes else None) (name_again b.desc init_type i.desc) ∙ c.pair.probes
+        ∙ ap (λ x. if x then t.new.probes else None) (same_bytes b.desc init_type i.desc) ∙ c.pair.probes
 
     pushes_text : (q : ℕ) → perform (operation_of p' (at q) (insns.Constant i.places.name)) s' f' ≡ goes_with s' f' (text k ∷ f'.stack)
     unfolding operation_of perform

@@ -5,6 +5,8 @@ use Rattle.std.specs.Int.Bits.{bit_and}
 use Rattle.std.proofs.lemmas.Option.{same_Some, slice_get_within}
 use Rattle.std.proofs.lemmas.Bool.{and_parts, eqb-true, not-true, cases_lt, lt-ltb, le-ltb, true≢false}
 use Rattle.jc_bytes.specs.Descriptor.{FieldType}
+use Rattle.jc_bytes.proofs.TextEqualLaws.{same_bytes}
+use Rattle.jc_bytes.proofs.BooleanLaws.{and_false}
 use Rattle.jc_methods.specs.Opcode as opcode
 use Rattle.jc_methods.specs.DescriptorTypes.{field_type_in, method_type_in}
 use Rattle.jc_methods.specs.EntryState.{is_static}
@@ -26,17 +28,13 @@ use Rattle.jc_machine_model.specs.Profile.{Location, in_init, may_name_field, fi
 use Rattle.jc_twin_simulation.specs.Sides.{Side, IsSide, AreSides}
 use Rattle.jc_twin_simulation.proofs.OwnLaws.{IsField, Alike, Next}
 use Rattle.jc_twin_simulation.proofs.PlaceLaws.{any_at}
-use Rattle.jc_twin_simulation.proofs.ClassLaws.{name_again, class_same, class_there, static_there, method_there, statics_found, statics_missing, methods_found, methods_missing}
+use Rattle.jc_twin_simulation.proofs.ClassLaws.{class_same, class_there, static_there, method_there, statics_found, statics_missing, methods_found, methods_missing}
 
 -- ---- a thread may enter a method where it may enter its twin
 
 abbrev pub enter_by : (flags : ℕ) → (clinit wide : Bool) → Bool
 enter_by flags clinit wide =
     (is_static flags && (not (not (nat_eq (bit_and flags 0x0100) 0)) && (not clinit && not wide))) && not (not (nat_eq (bit_and flags 0x0020) 0))
-
-pub and_false : (b : Bool) → (b && false) ≡ false
-and_false true = refl
-and_false false = refl
 
 wider : (n k : ℕ) → k ≡ n + 4 → nat_lt 1004 k ≡ nat_lt 1000 n
 wider n k e = ⊎_elim
@@ -181,13 +179,13 @@ module _ (p p' : Program) (sides : Entry → Side) (are : AreSides p p' sides) (
   not_added : (k : ℕ) (c new : Linked) → slice_get p'.classes k ≡ Some new → (pair : IsChangedPair p.names p'.names c new)
       → may_name_method at' k pair.added.name ≡ false
   not_added k c new there pair =
-      ap (λ b. not b || (nat_eq q 0 && nat_eq m.class k)) (name_again pair.added.name init_name pair.added_is.name)
+      ap (λ b. not b || (nat_eq q 0 && nat_eq m.class k)) (same_bytes pair.added.name init_name pair.added_is.name)
       ∙ by (nat_eq m.class k) refl
     where
       declares : declares_init new ≡ true
       declares =
           any_at (λ (b : Body). is_init_name b.name) new.bodies (length c.bodies) pair.added (are.added c new pair)
-          (name_again pair.added.name init_name pair.added_is.name)
+          (same_bytes pair.added.name init_name pair.added_is.name)
 
       in_class : m.class ≡ k → (o : Option ℕ) → t.slot ≡ o → nat_eq q 0 ≡ false
       in_class same None e =

@@ -10,6 +10,7 @@ use Rattle.jc_programs.specs.declared.run_end.Entry.{Entry}
 use Rattle.jc_emit.specs.Items.{Item, init_call, init_store, image, probe_array, probe_id, probe_one, probe_store, hop, extra_of}
 use Rattle.jc_emit.specs.Local.{IsBehind, OkStart}
 use Rattle.jc_emit.specs.Marks.{push, prelude_size}
+use Rattle.jc_emit.proofs.ProbeLaws.{same_number}
 use Rattle.jc_machine_model.specs.Values.{Value, int}
 use Rattle.jc_twin_simulation.specs.Sides.{Side, IsSide}
 use Rattle.jc_twin_simulation.specs.Mid.{pushed_of}
@@ -34,17 +35,14 @@ number_told n = by (nat_le n 5) (nat_le n 127)
     by false true = refl
     by false false = refl
 
-one_number : (n k : ℕ) → push n ≡ push k → n ≡ k
-one_number n k e = let same : pos n ≡ pos k = sym (number_told n) ∙ ap number_of e ∙ number_told k in cc
-
 number_is : (array : Value) (insn : Insn) (n : ℕ) (v : Value) → insn ≡ push n → IsPushedBy array insn v → v ≡ int (pos n)
 number_is array insn n v e h = ⊎_elim
     (λ f.
     let k = subst (λ i. IsPushedBy array i v) (e ∙ f.1) h in
-    k.2 ∙ ap (λ j. int (pos j)) (sym (one_number n k.0 (f.1 ∙ k.1))))
+    k.2 ∙ ap (λ j. int (pos j)) (sym (same_number n k.0 (f.1 ∙ k.1))))
     (λ f.
     let k = subst (λ i. IsPushedBy array i v) (e ∙ f.1) h in
-    k.2 ∙ ap (λ j. int (pos j)) (sym (one_number n k.0 (f.1 ∙ k.1))))
+    k.2 ∙ ap (λ j. int (pos j)) (sym (same_number n k.0 (f.1 ∙ k.1))))
     (number_form n)
 
 module _ (p p' : Program) (sides : Entry → Side) (m : Entry) (side : IsSide p p' m (sides m)) (a : Value) where

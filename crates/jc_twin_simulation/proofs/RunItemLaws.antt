@@ -1,8 +1,7 @@
 -- The items of a twin: those of the prelude and of each probe stand one behind the other.
-use Rattle.std.proofs.Common.{◌≡◌, ℕ, zero, suc, ◌+◌, Bool, true, false, List, [], ◌∷◌, ◌++◌, map, length, Option, Some, None, refl, sym, ap, ap₂, ◌∙◌, subst, arith}
-use Rattle.std.specs.Prelude.{All, slice_get}
+use Rattle.std.proofs.Common.{◌≡◌, ℕ, zero, suc, ◌+◌, Bool, true, false, List, [], ◌∷◌, ◌++◌, map, length, Option, Some, None, refl, sym, ap, ap₂, ◌∙◌, subst}
+use Rattle.std.specs.Prelude.{slice_get}
 use Rattle.std.proofs.lemmas.Bool.{true≢false}
-use Rattle.std.proofs.lemmas.List.{length-map}
 use Rattle.std.proofs.lemmas.Option.{none-some, same_Some}
 use Rattle.jc_bytes.specs.PlainLists.{pieces}
 use Rattle.jc_methods.specs.VerificationTypes.{Names}
@@ -15,13 +14,12 @@ use Rattle.jc_methods.specs.declared.insn.Flow.{Flow}
 use Rattle.jc_methods.specs.declared.insn.Flow.TheVariants as flows
 use Rattle.jc_methods.specs.declared.kind.State.{State}
 use Rattle.jc_methods.specs.declared.body.Body.{Body}
-use Rattle.jc_methods.specs.declared.body.Handler.{Handler}
 use Rattle.jc_plan.specs.declared.branch.Branch.{Branch}
 use Rattle.jc_plan.specs.Plan.{lead_probe}
 use Rattle.jc_plan.specs.Probed.{probe_of}
-use Rattle.jc_emit.specs.Items.{Item, init_call, init_store, image, probe_array, probe_id, probe_one, probe_store, hop, own_of, insn_of, lead_part, early_part, hop_part, arm_parts, test_part, segment, tests_part, image_part, twin_items, lead_of, land_of, image_of}
+use Rattle.jc_emit.specs.Items.{Item, init_call, init_store, image, probe_array, probe_id, probe_one, probe_store, hop, own_of, lead_part, early_part, hop_part, arm_parts, test_part, segment, tests_part, image_part, twin_items, lead_of, land_of, image_of}
 use Rattle.jc_emit.specs.Local.{OkRow}
-use Rattle.jc_emit.specs.Seen.{IsSeen, IsInsnOf, AreInsnsOf, OkRows}
+use Rattle.jc_emit.specs.Seen.{IsSeen, OkRows}
 use Rattle.jc_emit.specs.Sizes.{insn_at, early_probe, late_probe, arms_at, is_wide}
 use Rattle.jc_emit.specs.Twin.{Twin}
 use Rattle.jc_emit.specs.TwinCode.{to_of, arm_place}
@@ -29,7 +27,7 @@ use Rattle.jc_emit.specs.TwinTables.{moved_row}
 use Rattle.jc_emit.proofs.KnownLaws.{code_known, marks_known, leads_known, lands_known}
 use Rattle.jc_emit.proofs.LocalLaws.{twin_ok}
 use Rattle.jc_emit.proofs.RowLaws.{row_ok}
-use Rattle.jc_emit.proofs.ToldLaws.{mapped}
+use Rattle.jc_emit.proofs.SeenLaws.{rows_kept, insns_of}
 use Rattle.jc_twin_simulation.specs.ProbeRuns.{MayFollow, IsFirst, RunsOn, AreRuns}
 
 -- ---- lists
@@ -171,28 +169,6 @@ in_front (y ∷ items) h zero x e n = absurd (n (subst IsFirst (same_Some y x e)
 in_front (y ∷ items) h (suc q) x e n = front_by y items h.1 q x e
 
 -- ---- a twin seen by these items
-
-insn_is : (call v : ℕ) (x : Item) → IsInsnOf call v x (insn_of call v x)
-insn_is call v init_call = refl
-insn_is call v init_store = refl
-insn_is call v (image insn at early) = refl
-insn_is call v (probe_array id at late) = refl
-insn_is call v (probe_id id at late) = refl
-insn_is call v (probe_one id at late) = refl
-insn_is call v (probe_store id at late) = refl
-insn_is call v (hop to at due) = refl
-
-pub insns_of : (call v : ℕ) (items : List Item) (code : List Insn) → code ≡ map (insn_of call v) items → AreInsnsOf call v items code
-insns_of call v items code is = record {
-  count = ap length is ∙ length-map items (insn_of call v);
-  each = λ q x h. (insn_of call v x, ap (λ l. slice_get l q) is ∙ mapped (insn_of call v) items q x h, insn_is call v x);
-}
-
-pub rows_kept : (Kept : Handler → Handler → Type 0) (Is : Handler → Type 0) (new : Handler → Handler) → ((h : Handler) → Is h → Kept h (new h))
-    → (hs : List Handler) → All Is hs → OkRows Kept hs (map new hs)
-rows_kept Kept Is new kept [] all = tt
-rows_kept Kept Is new kept (h ∷ hs) all =
-    (kept h (all 0 h (omega arith)), rows_kept Kept Is new kept hs (λ k d lt. all (suc k) d (omega arith)))
 
 -- the items are told by the body, so that more is known of them
 abbrev pub seen_items : (names new_names : Names) (states : List State) (first : ℕ) (b b' : Body) → IsWellMadeOfAnySize b

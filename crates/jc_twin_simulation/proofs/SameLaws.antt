@@ -3,6 +3,7 @@ use Rattle.std.proofs.Common.{◌≡◌, inl, inr, ℕ, zero, suc, ◌≤◌, tr
 use Rattle.std.specs.Prelude.{slice_get}
 use Rattle.std.proofs.lemmas.Bool.{true≢false}
 use Rattle.std.proofs.lemmas.Option.{none-some, slice_get_past}
+use Rattle.jc_bytes.proofs.TextEqualLaws.{same_bytes}
 use Rattle.jc_methods.specs.ProbeMembers.{data_name}
 use Rattle.jc_programs.specs.declared.program.Program.{Program}
 use Rattle.jc_programs.specs.declared.program.Linked.{Linked}
@@ -11,6 +12,7 @@ use Rattle.jc_programs.specs.Members.{class_at}
 use Rattle.jc_emit.specs.Items.{Item, init_call, init_store, image, probe_array, probe_id, probe_one, probe_store, hop, at_of, extra_of}
 use Rattle.jc_emit.specs.Marks.{Marks}
 use Rattle.jc_emit.specs.TwinProgram.{IsPair, IsChangedPair, data_static}
+use Rattle.jc_emit.proofs.ToldLaws.{mapped}
 use Rattle.jc_machine_model.specs.Values.{Value, probes}
 use Rattle.jc_machine_model.specs.World.{Frame, Thread, running, returned, threw, stuck, Shared, World}
 use Rattle.jc_machine_model.specs.Methods.{declares_init}
@@ -19,10 +21,9 @@ use Rattle.jc_twin_simulation.specs.Same as spec
 use Rattle.jc_twin_simulation.specs.Sides.{Side, count_in, array_of, IsSide, AreSides, AreMarksOf}
 use Rattle.jc_twin_simulation.specs.Mid.{pushed_of, null_or, SameLocals, OneMethod, SameFrame, SameWait, SameWaits, extra_in, SameStatics, values_of, SameShared, SameThread, SameThreads, Mid}
 use Rattle.jc_twin_simulation.proofs.LocalLaws.{gets_local}
-use Rattle.jc_twin_simulation.proofs.ClassLaws.{name_again, unchanged_declares}
+use Rattle.jc_twin_simulation.proofs.ClassLaws.{unchanged_declares}
 use Rattle.jc_twin_simulation.proofs.OwnTurnLaws.{new_no_init}
 use Rattle.jc_twin_simulation.proofs.TurnLaws.{inside_named}
-use Rattle.jc_twin_simulation.proofs.WorldLaws.{told_at}
 
 -- what is pushed is what the marks say
 pub pushed_off : (a : Value) (x : Item) (st : List Value) → drop (extra_of x) (pushed_of a x ++ st) ≡ st
@@ -85,10 +86,10 @@ module _ (p p' : Program) (sides : Entry → Side) where
         let m = told f.method o.side in
         record {
           method = o.method;
-          place = ap (λ l. slice_get l f'.place) m.at ∙ told_at at_of t.items f'.place x here ∙ ap Some at;
+          place = ap (λ l. slice_get l f'.place) m.at ∙ mapped at_of t.items f'.place x here ∙ ap Some at;
           slots = λ k. ap (λ s. slice_get f'.locals (twin_slot s k)) (slot_is f.method o.side) ∙ gets_local a t.slot f.locals f'.locals x ls k;
           extra = extra_of x;
-          extra_is = ap (λ l. slice_get l f'.place) m.extra ∙ told_at extra_of t.items f'.place x here;
+          extra_is = ap (λ l. slice_get l f'.place) m.extra ∙ mapped extra_of t.items f'.place x here;
           stack = sym (ap (drop (extra_of x)) st ∙ pushed_off a x f.stack);
         }
 
@@ -121,7 +122,7 @@ module _ (p p' : Program) (sides : Entry → Side) where
       thread_same (returned v) (returned v') h = h
       thread_same (threw c) (threw c') h = h
       thread_same (stuck m q) (stuck m' q') h =
-          (h.same, ap (λ l. slice_get l q') (told m h.side).at ∙ told_at at_of (sides m).items q' h.item h.here ∙ ap Some h.at)
+          (h.same, ap (λ l. slice_get l q') (told m h.side).at ∙ mapped at_of (sides m).items q' h.item h.here ∙ ap Some h.at)
       thread_same (running f fs) (returned v) h = absurd h
       thread_same (running f fs) (threw c) h = absurd h
       thread_same (running f fs) (stuck m q) h = absurd h
@@ -149,7 +150,7 @@ module _ (p p' : Program) (sides : Entry → Side) where
     is_added class c new there pair =
         ap (is_data_in (length c.statics)) there ∙ ap (λ l. is_named_data (slice_get l (length c.statics))) pair.statics
         ∙ ap is_named_data (last_is c.statics data_static)
-        ∙ name_again data_name data_name refl
+        ∙ same_bytes data_name data_name refl
 
     module _ (s s' : Shared) (ss : SameShared p p' sides s s') where
       -- the values of a class, by how it is changed

@@ -3,6 +3,7 @@ use Rattle.std.proofs.Common.{◌≡◌, ℕ, zero, suc, ◌+◌, ◌<◌, ◌�
 use Rattle.std.specs.Prelude.{slice_get, slice_set, slice_index_or}
 use Rattle.std.proofs.lemmas.Bool.{cases_lt, lt-ltb, le-ltb, cond-true, cond-false, eqb-true, eqb-false}
 use Rattle.std.proofs.Math.ListN.{length-set}
+use Rattle.jc_kinds_after.proofs.ShiftLaws.{up-below, up-above}
 use Rattle.jc_machine_model.specs.Values.{Value, is_pair}
 use Rattle.jc_machine_model.specs.Locals.{is_pair_there, clear_before, clear_behind, put_local}
 use Rattle.jc_twin_simulation.specs.Same.{twin_slot}
@@ -24,16 +25,6 @@ abbrev up : ℕ → ℕ → ℕ
 up zero j = suc j
 up (suc v) zero = zero
 up (suc v) (suc j) = suc (up v j)
-
-up-below : (v j : ℕ) → j < v → up v j ≡ j
-up-below zero j lt = absurd (omega arith)
-up-below (suc v) zero lt = refl
-up-below (suc v) (suc j) lt = ap suc (up-below v j (omega arith))
-
-up-above : (v j : ℕ) → v ≤ j → up v j ≡ j + 1
-up-above zero j le = omega arith
-up-above (suc v) zero le = absurd (omega arith)
-up-above (suc v) (suc j) le = let e = up-above v j (omega arith) in omega arith
 
 shifted-up : (v j : ℕ) → shifted v j ≡ up v j
 shifted-up v j = ⊎_elim

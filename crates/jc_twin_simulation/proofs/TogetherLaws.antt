@@ -19,6 +19,7 @@ use Rattle.jc_emit.specs.Items.{Item, init_call, init_store, image, probe_array,
 use Rattle.jc_emit.specs.Local.{IsBehind}
 use Rattle.jc_emit.specs.Marks.{Marks, push, prelude_size}
 use Rattle.jc_emit.specs.TwinProgram.{IsPair, data_static}
+use Rattle.jc_emit.proofs.ToldLaws.{mapped}
 use Rattle.jc_machine_model.specs.Values.{Value, int, probes}
 use Rattle.jc_machine_model.specs.World.{Frame, Thread, running, returned, threw, stuck, Shared, World}
 use Rattle.jc_machine_model.specs.Locals.{is_pair_there}
@@ -35,7 +36,6 @@ use Rattle.jc_twin_simulation.proofs.RunItemLaws.{in_front}
 use Rattle.jc_twin_simulation.proofs.SameLaws.{slot_is, no_class, last_is, together_same}
 use Rattle.jc_twin_simulation.proofs.SlotLaws.{get_own}
 use Rattle.jc_twin_simulation.proofs.TurnLaws.{inside_named}
-use Rattle.jc_twin_simulation.proofs.WorldLaws.{told_at}
 
 -- ---- numbers that are pushed
 
@@ -164,7 +164,7 @@ module _ (p p' : Program) (sides : Entry → Side) (marks : Entry → Marks) (ar
             let body2 : t.twin ≡ b = same_Some t.twin b (sym (body_is p' f.method t.new t.twin o.side.new_is o.side.twin_is) ∙ ap (body_of p') (sym m) ∙ body) in
             let more : extra_of x ≡ extra =
             same_Some (extra_of x) extra
-            (sym (ap (λ l. slice_get l f'.place) (told f.method o.side).extra ∙ told_at extra_of t.items f'.place x here)
+            (sym (ap (λ l. slice_get l f'.place) (told f.method o.side).extra ∙ mapped extra_of t.items f'.place x here)
             ∙ ap (λ e. slice_get (marks e).extra f'.place) (sym m) ∙ k) in
             subst (λ y. ArePushed y b.code f'.place extra f'.stack) (sym array)
             (subst (λ (z : Body). ArePushed a z.code f'.place extra f'.stack) body2

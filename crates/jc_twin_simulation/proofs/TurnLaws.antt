@@ -19,6 +19,7 @@ use Rattle.jc_emit.specs.Local.{Ok, due_of, early_of}
 use Rattle.jc_emit.specs.Seen.{IsPlain}
 use Rattle.jc_plan.specs.Probed.{probe_count}
 use Rattle.std.specs.List.{sum_by}
+use Rattle.jc_bytes.proofs.TextEqualLaws.{same_bytes}
 use Rattle.jc_emit.specs.Ranks.{after_place, early_size, rank}
 use Rattle.jc_machine_model.specs.Values.{probes}
 use Rattle.jc_machine_model.specs.World.{Frame, Thread, running, Shared}
@@ -34,7 +35,7 @@ use Rattle.jc_twin_simulation.specs.Probes.{hit_of, item_hit, Passes, nothing, a
 use Rattle.jc_twin_simulation.specs.Mid.{pushed_of, SameLocals, SameFrame, SameWaits, InitStep, reads_field, doubles, asks_null, clears, wants_id, wants_text, wants_count, fetches_array, keeps_array, writes_field, gives_back, step_place, step_stack, init_method, Inside, SameShared, SameThread}
 use Rattle.jc_twin_simulation.proofs.LocalLaws.{stays_unready}
 use Rattle.jc_twin_simulation.proofs.MemberLaws.{enter_by}
-use Rattle.jc_twin_simulation.proofs.ClassLaws.{name_again, class_same, class_again, init_found}
+use Rattle.jc_twin_simulation.proofs.ClassLaws.{class_same, class_again, init_found}
 use Rattle.jc_twin_simulation.proofs.OwnLaws.{AtImage}
 use Rattle.jc_twin_simulation.proofs.FrameLaws.{location, result_is, init_is, twin_insn, own_result}
 use Rattle.jc_twin_simulation.proofs.ThrowLaws.{SameAfter}
@@ -260,7 +261,7 @@ module _ (p p' : Program) (sides : Entry → Side) where
           ∙ ap (λ x. perform x s' f') operation
 
       pub init_named : is_init_method p' e ≡ true
-      init_named = init_is p' e t.new b h.one.side.new_is c.added_at ∙ name_again b.name init_name c.pair.added_is.name
+      init_named = init_is p' e t.new b h.one.side.new_is c.added_at ∙ same_bytes b.name init_name c.pair.added_is.name
 
     -- a frame at the prelude's call
     calls_turned : (f f' : Frame) (fs fs' : List Frame) (h : SameFrame p p' sides f f') → SameWaits p p' sides fs fs' → h.item ≡ init_call

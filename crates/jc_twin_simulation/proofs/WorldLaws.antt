@@ -1,11 +1,12 @@
 -- One turn of the world of the twin, beside that of the original.
-use Rattle.std.proofs.Common.{◌≡◌, inl, inr, ℕ, zero, suc, Bool, true, false, not, ◌&&◌, List, [], ◌∷◌, map, Option, Some, None, option_map, refl, sym, ap, ◌∙◌, subst}
+use Rattle.std.proofs.Common.{◌≡◌, inl, inr, ℕ, zero, suc, Bool, true, false, not, ◌&&◌, List, [], ◌∷◌, map, Option, Some, None, refl, sym, ap, ◌∙◌, subst}
 use Rattle.std.specs.Prelude.{⊤, slice_get, slice_set, slice_index_or}
-use Rattle.std.proofs.lemmas.Option.{get_or_from_slice_get, slice_get-map}
+use Rattle.std.proofs.lemmas.Option.{get_or_from_slice_get}
 use Rattle.jc_programs.specs.declared.program.Program.{Program}
 use Rattle.jc_programs.specs.declared.run_end.Entry.{Entry}
 use Rattle.jc_emit.specs.Items.{Item, image, own_of}
 use Rattle.jc_emit.specs.Marks.{Marks}
+use Rattle.jc_emit.proofs.ToldLaws.{mapped}
 use Rattle.jc_machine_model.specs.World.{Frame, Thread, running, returned, threw, stuck, Shared, World}
 use Rattle.jc_machine_model.specs.Step.{turn_of, with_after, step_of, step}
 use Rattle.jc_twin_simulation.specs.Kept.{is_running, is_own, keeps, keeps_at, is_kept, step_if}
@@ -15,16 +16,12 @@ use Rattle.jc_twin_simulation.proofs.ThrowLaws.{SameAfter}
 use Rattle.jc_twin_simulation.proofs.OwnTurnLaws.{new_no_init}
 use Rattle.jc_twin_simulation.proofs.TurnLaws.{AsideTurned, aside_turned, inside_turned, inside_named, own_turned}
 
--- an item is told by a list of what is said of each
-pub told_at : {X : Type 0} (g : Item → X) (items : List Item) (q : ℕ) (x : Item) → slice_get items q ≡ Some x → slice_get (map g items) q ≡ Some (g x)
-told_at g items q x h = slice_get-map g items q ∙ ap (option_map g) h
-
 module _ (p p' : Program) (sides : Entry → Side) (marks : Entry → Marks) (are : AreSides p p' sides) (told : AreMarksOf p p' marks sides) where
   own_is : (f f' : Frame) (h : SameFrame p p' sides f f') → is_own p' marks f'.method f'.place ≡ own_of h.item
   own_is f f' h =
       ap (λ m. is_own p' marks m f'.place) h.one.method
       ∙ ap (λ l. slice_index_or l f'.place false) (told f.method h.one.side).own
-      ∙ get_or_from_slice_get (map own_of (sides f.method).items) f'.place (own_of h.item) false (told_at own_of (sides f.method).items f'.place h.item h.here)
+      ∙ get_or_from_slice_get (map own_of (sides f.method).items) f'.place (own_of h.item) false (mapped own_of (sides f.method).items f'.place h.item h.here)
 
   pub keeps_top : (f f' : Frame) (fs' : List Frame) (h : SameFrame p p' sides f f') → keeps p' marks (running f' fs') ≡ own_of h.item
   keeps_top f f' fs' h = ap (λ b. not b && is_own p' marks f'.method f'.place) (new_no_init p p' sides f f' h.one) ∙ own_is f f' h

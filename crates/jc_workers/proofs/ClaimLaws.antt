@@ -39,7 +39,7 @@ times_le : (x : ℕ) (l : List ℕ) → times x l ≤ length l
 times_le x [] = omega arith
 times_le x (y ∷ ys) = let e = times_le x ys in grind (arith, nat_tests)
 
-contains_times : (l : List ℕ) (y : ℕ) → Contains l y → 0 < times y l
+pub contains_times : (l : List ℕ) (y : ℕ) → Contains l y → 0 < times y l
 contains_times [] y h = absurd (omega (arith, h.1))
 contains_times (x ∷ xs) y (zero, lt, e) = let is : x ≡ y = e in grind (arith, nat_tests)
 contains_times (x ∷ xs) y (suc k, lt, e) = let t = contains_times xs y (k, omega (arith, lt), e) in omega (arith, t)
@@ -47,7 +47,7 @@ contains_times (x ∷ xs) y (suc k, lt, e) = let t = contains_times xs y (k, ome
 once_more : (x n : ℕ) → once_below x (n + 1) ≡ once_below x n + times x (n ∷ [])
 once_more x n = grind (arith, nat_tests)
 
-below_once : (x n : ℕ) → 0 < once_below x n → x < n
+pub below_once : (x n : ℕ) → 0 < once_below x n → x < n
 below_once x n h = grind (arith, nat_tests)
 
 module _ {S : Type 0} where

@@ -5,11 +5,7 @@ use Rattle.std.proofs.lemmas.List.Elements.{Contains-append_left, Contains-appen
 use Rattle.std.specs.Prelude.{Contains}
 use native.Mathlib.Decide.{ℕ_discrete}
 use Rattle.jc_workers.specs.Claims.{times, once_below, AreThoseBelow}
-
-contains_times : (l : List ℕ) (y : ℕ) → Contains l y → 0 < times y l
-contains_times [] y h = absurd (omega (arith, h.1))
-contains_times (x ∷ xs) y (zero, lt, e) = let is : x ≡ y = e in grind (arith, nat_tests)
-contains_times (x ∷ xs) y (suc k, lt, e) = let t = contains_times xs y (k, omega (arith, lt), e) in omega (arith, t)
+use Rattle.jc_workers.proofs.ClaimLaws.{contains_times, below_once}
 
 contained : (l : List ℕ) (y : ℕ) → 0 < times y l → Contains l y
 contained [] y h = absurd (omega (arith, h))
@@ -17,9 +13,6 @@ contained (x ∷ xs) y h = elim (ℕ_discrete x y) as (λ _. Contains (x ∷ xs)
   | yes e ↦ (0, omega arith, e)
   | no ne ↦ let t = contained xs y (grind (arith, nat_tests)) in (suc t.0, omega (arith, t.1), t.2)
 ]
-
-below_once : (x n : ℕ) → 0 < once_below x n → x < n
-below_once x n h = grind (arith, nat_tests)
 
 once_is : (x n : ℕ) → x < n → once_below x n ≡ 1
 once_is x n lt = grind (arith, nat_tests)

@@ -12,6 +12,21 @@ use Rattle.examples_machine.proofs.insns.worked_calls.Goals as goal
 
 pub returns : goal.returns
 unfolding types_from rest_from entry_of constant moves_of int_bits int_pair compared long_pair long_shift int_single long_single single pair effect operation_of test_of perform step begin digits
-returns c = record { call = refl; other_arguments = refl; wide = refl; wide_with_probes = refl; wider_with_probes = refl; synchronized = refl;
-    instance = refl; starting = refl; missing = refl; returns_boolean = refl; returns_byte = refl; returns_int = refl; returns_long = refl;
-    returns_null = refl; returns_nothing = refl; returns_float = refl }
+returns c = record {
+  call = refl;
+  other_arguments = refl;
+  wide = refl;
+  wide_with_probes = refl;
+  wider_with_probes = refl;
+  synchronized = refl;
+  instance = refl;
+  starting = refl;
+  missing = refl;
+  returns_boolean = refl;
+  returns_byte = refl;
+  returns_int = refl;
+  returns_long = refl;
+  returns_null = refl;
+  returns_nothing = refl;
+  returns_float = refl;
+}

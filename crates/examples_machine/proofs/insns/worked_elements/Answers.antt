@@ -12,6 +12,27 @@ use Rattle.examples_machine.proofs.insns.worked_elements.Goals as goal
 
 pub returns : goal.returns
 unfolding types_from rest_from entry_of constant moves_of int_bits int_pair compared long_pair long_shift int_single long_single single pair effect operation_of test_of perform step begin digits
-returns c = record { read = refl; read_long = refl; read_byte = refl; read_boolean = refl; read_short = refl; read_null = refl; read_other = refl;
-    read_throwable = refl; read_probes = refl; read_past = refl; read_before = refl; write_past = refl; write_null = refl; write_boolean = refl;
-    write_char = refl; make = refl; make_floats = refl; make_negative = refl; make_too_long = refl; length = refl; length_null = refl; length_probes = refl }
+returns c = record {
+  read = refl;
+  read_long = refl;
+  read_byte = refl;
+  read_boolean = refl;
+  read_short = refl;
+  read_null = refl;
+  read_other = refl;
+  read_throwable = refl;
+  read_probes = refl;
+  read_past = refl;
+  read_before = refl;
+  write_past = refl;
+  write_null = refl;
+  write_boolean = refl;
+  write_char = refl;
+  make = refl;
+  make_floats = refl;
+  make_negative = refl;
+  make_too_long = refl;
+  length = refl;
+  length_null = refl;
+  length_probes = refl;
+}

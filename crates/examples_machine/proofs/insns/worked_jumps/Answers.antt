@@ -12,6 +12,26 @@ use Rattle.examples_machine.proofs.insns.worked_jumps.Goals as goal
 
 pub returns : goal.returns
 unfolding types_from rest_from entry_of constant moves_of int_bits int_pair compared long_pair long_shift int_single long_single single pair effect operation_of test_of perform step begin digits
-returns c = record { if_zero = refl; if_not_zero = refl; if_negative = refl; if_not_negative = refl; if_positive = refl; if_not_positive = refl;
-    if_less = refl; if_at_least = refl; if_greater = refl; if_at_most = refl; if_same = refl; if_other = refl; if_null = refl; if_not_null = refl;
-    no_int = refl; always = refl; arm = refl; below = refl; above = refl; key = refl; no_key = refl }
+returns c = record {
+  if_zero = refl;
+  if_not_zero = refl;
+  if_negative = refl;
+  if_not_negative = refl;
+  if_positive = refl;
+  if_not_positive = refl;
+  if_less = refl;
+  if_at_least = refl;
+  if_greater = refl;
+  if_at_most = refl;
+  if_same = refl;
+  if_other = refl;
+  if_null = refl;
+  if_not_null = refl;
+  no_int = refl;
+  always = refl;
+  arm = refl;
+  below = refl;
+  above = refl;
+  key = refl;
+  no_key = refl;
+}

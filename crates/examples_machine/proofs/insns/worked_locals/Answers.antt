@@ -12,5 +12,16 @@ use Rattle.examples_machine.proofs.insns.worked_locals.Goals as goal
 
 pub returns : goal.returns
 unfolding types_from rest_from entry_of constant moves_of int_bits int_pair compared long_pair long_shift int_single long_single single pair effect operation_of test_of perform step begin digits
-returns c = record { load = refl; load_other = refl; load_none = refl; load_float = refl; load_object = refl; store_long = refl; store_into_half =
-    refl; store_onto = refl; store_other = refl; count = refl }
+returns c = record {
+  load = refl;
+  load_other = refl;
+  load_none = refl;
+  load_float = refl;
+  load_object = refl;
+  store_long = refl;
+  store_into_half =
+      refl;
+  store_onto = refl;
+  store_other = refl;
+  count = refl;
+}

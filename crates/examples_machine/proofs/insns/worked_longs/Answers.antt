@@ -12,5 +12,20 @@ use Rattle.examples_machine.proofs.insns.worked_longs.Goals as goal
 
 pub returns : goal.returns
 unfolding types_from rest_from entry_of constant moves_of int_bits int_pair compared long_pair long_shift int_single long_single single pair effect operation_of test_of perform step begin digits
-returns c = record { adds = refl; divides_least = refl; by_zero = refl; shifts = refl; shifts_unsigned = refl; less = refl; equal = refl; greater =
-    refl; narrows = refl; negates = refl; ands = refl; one = refl; loads = refl; mixed = refl }
+returns c = record {
+  adds = refl;
+  divides_least = refl;
+  by_zero = refl;
+  shifts = refl;
+  shifts_unsigned = refl;
+  less = refl;
+  equal = refl;
+  greater =
+      refl;
+  narrows = refl;
+  negates = refl;
+  ands = refl;
+  one = refl;
+  loads = refl;
+  mixed = refl;
+}

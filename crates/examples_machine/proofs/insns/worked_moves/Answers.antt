@@ -12,6 +12,23 @@ use Rattle.examples_machine.proofs.insns.worked_moves.Goals as goal
 
 pub returns : goal.returns
 unfolding types_from rest_from entry_of constant moves_of int_bits int_pair compared long_pair long_shift int_single long_single single pair effect operation_of test_of perform step begin digits
-returns c = record { pop = refl; pop_pair = refl; pop2 = refl; pop2_pair = refl; dup = refl; dup_x1 = refl; dup_x2 = refl; dup_x2_pair = refl;
-    dup2 = refl; dup2_pair = refl; dup2_x1 = refl; dup2_x1_pair = refl; dup2_x2 = refl; dup2_x2_pair_over = refl; dup2_x2_pair_under = refl;
-    dup2_x2_pairs = refl; swap = refl; missing = refl }
+returns c = record {
+  pop = refl;
+  pop_pair = refl;
+  pop2 = refl;
+  pop2_pair = refl;
+  dup = refl;
+  dup_x1 = refl;
+  dup_x2 = refl;
+  dup_x2_pair = refl;
+  dup2 = refl;
+  dup2_pair = refl;
+  dup2_x1 = refl;
+  dup2_x1_pair = refl;
+  dup2_x2 = refl;
+  dup2_x2_pair_over = refl;
+  dup2_x2_pair_under = refl;
+  dup2_x2_pairs = refl;
+  swap = refl;
+  missing = refl;
+}

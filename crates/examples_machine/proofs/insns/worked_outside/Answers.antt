@@ -12,5 +12,16 @@ use Rattle.examples_machine.proofs.insns.worked_outside.Goals as goal
 
 pub returns : goal.returns
 unfolding types_from rest_from entry_of constant moves_of int_bits int_pair compared long_pair long_shift int_single long_single single pair effect operation_of test_of perform step begin digits
-returns c = record { float = refl; add_floats = refl; to_float = refl; element = refl; put_element = refl; monitor = refl; dynamic = refl;
-    interface = refl; multi = refl; float_constant = refl; compare_floats = refl }
+returns c = record {
+  float = refl;
+  add_floats = refl;
+  to_float = refl;
+  element = refl;
+  put_element = refl;
+  monitor = refl;
+  dynamic = refl;
+  interface = refl;
+  multi = refl;
+  float_constant = refl;
+  compare_floats = refl;
+}

@@ -12,6 +12,22 @@ use Rattle.examples_machine.proofs.insns.worked_probes.Goals as goal
 
 pub returns : goal.returns
 unfolding types_from rest_from entry_of constant moves_of int_bits int_pair compared long_pair long_shift int_single long_single single pair effect operation_of test_of perform step begin digits
-returns c = record { hit = refl; odd = refl; even = refl; past = refl; even_past = refl; ints = refl; text = refl; text_elsewhere = refl;
-    asks = refl; other_id = refl; other_count = refl; asks_elsewhere = refl; other_call = refl; prints = refl; init_elsewhere = refl;
-    data_elsewhere = refl; own_data = refl }
+returns c = record {
+  hit = refl;
+  odd = refl;
+  even = refl;
+  past = refl;
+  even_past = refl;
+  ints = refl;
+  text = refl;
+  text_elsewhere = refl;
+  asks = refl;
+  other_id = refl;
+  other_count = refl;
+  asks_elsewhere = refl;
+  other_call = refl;
+  prints = refl;
+  init_elsewhere = refl;
+  data_elsewhere = refl;
+  own_data = refl;
+}

@@ -12,5 +12,19 @@ use Rattle.examples_machine.proofs.insns.worked_static_fields.Goals as goal
 
 pub returns : goal.returns
 unfolding types_from rest_from entry_of constant moves_of int_bits int_pair compared long_pair long_shift int_single long_single single pair effect operation_of test_of perform step begin digits
-returns c = record { get = refl; get_float = refl; other_type = refl; other_class = refl; out = refl; put_out = refl; put_boolean = refl; put_byte =
-    refl; put_char = refl; put_short = refl; put_object = refl; put_other = refl; get_field = refl }
+returns c = record {
+  get = refl;
+  get_float = refl;
+  other_type = refl;
+  other_class = refl;
+  out = refl;
+  put_out = refl;
+  put_boolean = refl;
+  put_byte =
+      refl;
+  put_char = refl;
+  put_short = refl;
+  put_object = refl;
+  put_other = refl;
+  get_field = refl;
+}

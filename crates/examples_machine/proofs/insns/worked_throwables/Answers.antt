@@ -12,5 +12,16 @@ use Rattle.examples_machine.proofs.insns.worked_throwables.Goals as goal
 
 pub returns : goal.returns
 unfolding types_from rest_from entry_of constant moves_of int_bits int_pair compared long_pair long_shift int_single long_single single pair effect operation_of test_of perform step begin digits
-returns c = record { make = refl; make_abstract = refl; make_other = refl; cast = refl; build = refl; build_other = refl; build_with = refl;
-    throw = refl; thworked_null = refl; thworked_array = refl; thworked_error = refl }
+returns c = record {
+  make = refl;
+  make_abstract = refl;
+  make_other = refl;
+  cast = refl;
+  build = refl;
+  build_other = refl;
+  build_with = refl;
+  throw = refl;
+  thworked_null = refl;
+  thworked_array = refl;
+  thworked_error = refl;
+}

@@ -7,11 +7,11 @@ pub merging-preserved : goal.merging-preserved
 merging-preserved c = elim c.if-not-has_id.branch [
   | then-not-has_id+in_ok-merged+in_ok-push w ↦
       rw w.out-is (made_new c.args.records.now c.merging.out.items w.push.new.self.items c.merging.i c.index-records-i.result w.in_ok-merged.field-0
-          c.merging.invariant (omega (arith, c.merging-test.true)) (sym c.index-records-i.is) (sym c.has_id.ensures ∙ w.if-not-has_id.true)
-          w.in_ok-merged.ensures w.in_ok-push.ensures.items)
+      c.merging.invariant (omega (arith, c.merging-test.true)) (sym c.index-records-i.is) (sym c.has_id.ensures ∙ w.if-not-has_id.true)
+      w.in_ok-merged.ensures w.in_ok-push.ensures.items)
   | else-not-has_id w ↦
       rw w.out-is (made_known c.args.records.now c.merging.out.items c.merging.i c.index-records-i.result c.merging.invariant
-          (omega (arith, c.merging-test.true)) (sym c.index-records-i.is) (sym c.has_id.ensures ∙ w.if-not-has_id.false))
+      (omega (arith, c.merging-test.true)) (sym c.index-records-i.is) (sym c.has_id.ensures ∙ w.if-not-has_id.false))
 ]
 
 pub returns : goal.returns

@@ -15,5 +15,5 @@ load-requires g c =
           c.args.seat.now.id me c.args.word (λ n. n) (Peeks x.0 x.1 me))
           (λ i. (c.requires.probe.0 i, c.requires.probe.1 i))
           (peek_keeps c.args.words.now.key.items c.args.words.now.table_id.slots c.args.seat.now.id me c.args.class c.args.id c.args.word
-              c.requires.part (c.requires.range, omega (arith, c.ranges.class)) c.requires.word.0),
+          c.requires.part (c.requires.range, omega (arith, c.ranges.class)) c.requires.word.0),
     )

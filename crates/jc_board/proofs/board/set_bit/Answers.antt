@@ -18,5 +18,5 @@ fetch_or-requires g c =
           c.args.seat.now.id me c.args.word (λ n. bit_or n mask) (λ n after. after ≡ (with_hit me.0 x.0 x.1, me.1)))
           (λ i. (c.requires.probe.0 i, c.requires.probe.1 i))
           (hit_keeps c.args.words.now.key.items c.args.words.now.table_id.slots c.args.seat.now.id me c.args.class c.args.id c.args.word mask
-              c.requires.part (c.requires.range, omega (arith, c.ranges.class)) c.requires.word.0 (mask_is (c.args.id % 64) (omega arith))),
+          c.requires.part (c.requires.range, omega (arith, c.ranges.class)) c.requires.word.0 (mask_is (c.args.id % 64) (omega arith))),
     )

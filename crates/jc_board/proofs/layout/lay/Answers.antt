@@ -16,8 +16,16 @@ laying-preserved c =
     let counts = c.args.counts.now in (
       search rules,
       λ k h. let old = i.1 k in grind (arith, common_steps),
-      omega (arith, added.len, more, i.2, c.div_ceil.ensures, c.len-in-laying.ensures, div-add-mod' (get_or counts c.laying.count-index 0) 64,
-          div-add-mod' (get_or counts c.laying.count-index 0 + 63) 64),
+      omega (
+        arith,
+        added.len,
+        more,
+        i.2,
+        c.div_ceil.ensures,
+        c.len-in-laying.ensures,
+        div-add-mod' (get_or counts c.laying.count-index 0) 64,
+        div-add-mod' (get_or counts c.laying.count-index 0 + 63) 64,
+      ),
       λ k. let old = i.3 k in let kept = added.by_index.0 k 0 in let zero = added.by_index.1 k 0 refl in let len = added.len in grind (arith, common_steps),
     )
 

@@ -7,4 +7,4 @@ pub returns-in_err-decoded-in-Some-clause-refused : goal.returns-in_err-decoded-
 returns-in_err-decoded-in-Some-clause-refused c = λ major owner.
     let p = err_from_is_err_and c.from_residual-in_err-decoded-in-Some.result c.from_residual-in_err-decoded-in-Some.ensures.1 in
     rw (p.1, p.2) (stopped_refusal major c.args.pool.now owner c.args.method.now c.args.number c.in-Some.items c.deref.result.now (search rules)
-        (search rules) c.in_err-decoded-in-Some.field-0.0 c.in_err-decoded-in-Some.ensures.refused)
+    (search rules) c.in_err-decoded-in-Some.field-0.0 c.in_err-decoded-in-Some.ensures.refused)

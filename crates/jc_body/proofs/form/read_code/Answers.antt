@@ -10,7 +10,7 @@ pub returns-in-Err-Said : goal.returns-in-Err-Said
 returns-in-Err-Said c items is =
     let refused = rw c.in-Err-Said.field-0-is at c.in-Err-Said.ensures.gives in
     read_refused (code_form c.args.pool.now) (code_at c.args.pool.now) (code_agrees c.args.pool.now) c.args.bytes.now c.new-reader.result
-        c.code_items.new.reader c.in-Err-Said.field-0-0 c.new-reader.ensures refused items is.text
+    c.code_items.new.reader c.in-Err-Said.field-0-0 c.new-reader.ensures refused items is.text
 
 pub returns-after-whole : goal.returns-after-whole
 returns-after-whole c =

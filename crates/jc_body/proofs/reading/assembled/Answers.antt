@@ -8,7 +8,7 @@ use Rattle.jc_body.proofs.reading.assembled.Goals as goal
 pub overflow_cast-result : goal.overflow_cast-result
 overflow_cast-result c =
     let few = arguments_fit c.args.class.now.pool c.args.method.now c.args.coded c.text_at-desc.result.now c.slots_of_arguments.result
-            c.text_at-desc.ensures.text c.slots_of_arguments.ensures.slots c.requires.arguments in
+    c.text_at-desc.ensures.text c.slots_of_arguments.ensures.slots c.requires.arguments in
     let small : c.args.coded.items.max_locals < 65536 = search rules in
     omega (arith, few, small)
 

@@ -46,4 +46,4 @@ with_tables-requires-clause-few c = insns_short c.args.class.now.pool c.args.met
 pub returns-in-Some-clause-refused : goal.returns-in-Some-clause-refused
 returns-in-Some-clause-refused c = λ owner owner_is.
     front_refusal c.args.class.now.major c.args.class.now.pool owner c.args.method.now c.args.number c.args.coded c.requires.coded c.bad_code.result
-        c.first_fault.result c.in-Some.place (search rules) c.bad_code.ensures c.first_fault.ensures
+    c.first_fault.result c.in-Some.place (search rules) c.bad_code.ensures c.first_fault.ensures

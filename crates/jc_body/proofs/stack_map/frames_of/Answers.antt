@@ -22,8 +22,8 @@ returns-in-empty-2-clause-frames c =
 pub frames_of_table-requires-clause-short : goal.frames_of_table-requires-clause-short
 frames_of_table-requires-clause-short c =
     each_body IsBounded c.args.pool.now (codes "StackMapTable") c.args.coded.now.items.attributes c.requires.sizes c.as_slice.result.now
-        (ap texts c.as_slice.ensures.value ∙ (c.in_ok-tables.ensures ∙ ap (bodies_of c.args.pool.now (codes "StackMapTable")) c.deref.ensures)) 0
-        (record { ref_ptr = (0, 0); now = [] }) (search rules)
+    (ap texts c.as_slice.ensures.value ∙ (c.in_ok-tables.ensures ∙ ap (bodies_of c.args.pool.now (codes "StackMapTable")) c.deref.ensures)) 0
+    (record { ref_ptr = (0, 0); now = [] }) (search rules)
 
 pub returns-clause-refused : goal.returns-clause-refused
 returns-clause-refused c =

@@ -8,7 +8,7 @@ joining-preserved g c =
     let text = rw c.in-Some.is at c.in_ok-table.ensures in
     let items = c.in_ok-extend_from_slice-in-Some.ensures.items ∙ ap (λ (l : List g.row.I-Item.Denot). c.joining.joined.items ++ l) c.deref.ensures in
     table_joined (counted g.I.Item.TableItem.form) c.args.bodies.now c.joining.joined.items c.in-Some.table c.extend_from_slice.new.self.items
-        c.joining.body-index _ c.joining-test.true text items c.joining.invariant
+    c.joining.body-index _ c.joining-test.true text items c.joining.invariant
 
 pub returns-in-None : goal.returns-in-None
 returns-in-None g c =

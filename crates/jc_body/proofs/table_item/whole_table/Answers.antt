@@ -19,9 +19,9 @@ returns-after-whole g c =
     let read = g.I.ItemReader.read_at c.args.items.now in
     let agree = agrees_counted form read c.requires.agrees in
     let whole = read_whole (counted form) (counted_at read) agree c.args.bytes.now c.new-reader.result c.counted.new.reader c.in-Ok.items
-            c.new-reader.ensures c.in-Ok.ensures.end c.in-Ok.ensures.gives in
+    c.new-reader.ensures c.in-Ok.ensures.end c.in-Ok.ensures.gives in
     let part = read_part (counted form) (counted_at read) agree c.args.bytes.now c.new-reader.result c.counted.new.reader c.in-Ok.items
-            c.new-reader.ensures c.in-Ok.ensures.end c.in-Ok.ensures.gives in
+    c.new-reader.ensures c.in-Ok.ensures.end c.in-Ok.ensures.gives in
     elim c.if-whole.branch [
       | then-whole w ↦ rw w.result-is (whole (sym c.place.ensures ∙ w.if-whole.true))
       | else-whole w ↦ rw w.result-is (part (λ same. w.if-whole.false (c.place.ensures ∙ same)))

@@ -9,5 +9,5 @@ pub returns : goal.returns
 returns c =
     on_ok_weaker c.put_listed_attributes.result
     (λ listed. counted_put (attribute Anything) (length c.args.attributes.now) c.args.attributes.now c.args.into.now.items c.put_u16.new.into.items
-        c.put_listed_attributes.new.into.items refl c.in_ok-put_u16.ensures.ok listed)
+    c.put_listed_attributes.new.into.items refl c.in_ok-put_u16.ensures.ok listed)
     c.put_listed_attributes.ensures

@@ -40,7 +40,7 @@ returns-clause-text c =
     let methods = subst (λ (l : List Member). Appended (counted (member Anything Anything)) l s9 s10) c.deref-3.ensures c.in_ok-put_members-2.ensures in
     on_ok_weaker c.put_attributes.result
     (λ attributes. class_put c.args.class.now c.requires c.args.into.now.items c.put_u32.new.into.items c.put_u16.new.into.items
-        c.put_u16-2.new.into.items c.write.new.into.items c.put_u16-3.new.into.items c.put_u16-4.new.into.items s7 s8 s9 s10 new
+    c.put_u16-2.new.into.items c.write.new.into.items c.put_u16-3.new.into.items c.put_u16-4.new.into.items s7 s8 s9 s10 new
     c.in_ok-put_u32.ensures.ok c.in_ok-put_u16.ensures.ok c.in_ok-put_u16-2.ensures.ok pool c.in_ok-put_u16-3.ensures.ok c.in_ok-put_u16-4.ensures.ok c.in_ok-put_u16-5.ensures.ok
     interfaces fields methods (subst (λ (l : List Attribute). Appended (counted (attribute Anything)) l s10 new) c.deref-4.ensures attributes))
     c.put_attributes.ensures

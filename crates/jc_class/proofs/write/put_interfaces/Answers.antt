@@ -9,5 +9,5 @@ pub returns : goal.returns
 returns c =
     on_ok_weaker c.put_listed_interfaces.result
     (λ listed. counted_put (number_where Anything) (length c.args.interfaces.now) c.args.interfaces.now c.args.into.now.items
-        c.put_u16.new.into.items c.put_listed_interfaces.new.into.items refl c.in_ok-put_u16.ensures.ok listed)
+    c.put_u16.new.into.items c.put_listed_interfaces.new.into.items refl c.in_ok-put_u16.ensures.ok listed)
     c.put_listed_interfaces.ensures

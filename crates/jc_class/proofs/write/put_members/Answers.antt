@@ -9,5 +9,5 @@ pub returns : goal.returns
 returns c =
     on_ok_weaker c.put_listed_members.result
     (λ listed. counted_put (member Anything Anything) (length c.args.members.now) c.args.members.now c.args.into.now.items c.put_u16.new.into.items
-        c.put_listed_members.new.into.items refl c.in_ok-put_u16.ensures.ok listed)
+    c.put_listed_members.new.into.items refl c.in_ok-put_u16.ensures.ok listed)
     c.put_listed_members.ensures

@@ -16,9 +16,9 @@ pub returns-clause-does : goal.returns-clause-does
 returns-clause-does g c out err outs errs =
     let F = g.F.Files in
     subst (λ (paths : List (List ℕ)). Does F.landed (reading_all paths) (λ texts. texts.items) stop_seen
-        (outside (F.contents c.args.files.now) out err) (outside (F.contents c.read_all.new.files) out err)
+    (outside (F.contents c.args.files.now) out err) (outside (F.contents c.read_all.new.files) out err)
     (counts (F.read_faults c.args.files.now) (F.write_faults c.args.files.now) outs errs)
-        (counts (F.read_faults c.read_all.new.files) (F.write_faults c.read_all.new.files) outs errs) c.read_all.result)
+    (counts (F.read_faults c.read_all.new.files) (F.write_faults c.read_all.new.files) outs errs) c.read_all.result)
     (ap texts_of c.deref.ensures.value ∙ c.in_ok-named.ensures) (c.read_all.ensures.does out err outs errs)
 
 pub returns-clause-each : goal.returns-clause-each

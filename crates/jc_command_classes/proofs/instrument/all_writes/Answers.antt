@@ -19,17 +19,17 @@ instrumenting-preserved g c =
     let n = length c.instrumenting.yielded in
     let item : ℕ × (Decided × List ℕ) = (c.in-Some.index, (c.in-Some.decided, c.in-Some.bytes)) in
     let pairs = YieldsList-from_zip (YieldsList-at c.zip.ensures.first (YieldsList-from_vec all c.into_iter.ensures.rest (search rules)))
-            (YieldsList-from_vec texts c.zip.ensures.second.0 (search rules)) in
+    (YieldsList-from_vec texts c.zip.ensures.second.0 (search rules)) in
     let turn = YieldsList-turn
-            (YieldsList-at c.into_iter-index-iterator.ensures.into_iter_gives
-              (YieldsList-from_enumerate (YieldsList-at c.enumerate-index-items.ensures.source pairs) c.enumerate-index-items.ensures.count))
+    (YieldsList-at c.into_iter-index-iterator.ensures.into_iter_gives
+    (YieldsList-from_enumerate (YieldsList-at c.enumerate-index-items.ensures.source pairs) c.enumerate-index-items.ensures.count))
     c.instrumenting.yielded c.instrumenting.index-iterator c.instrumenting.yielded_by c.next.result c.next.new.self item c.in-Some.is c.next.ensures.steps in
     rw (length_push c.instrumenting.yielded item)
     (decided_written c.args.targets.now c.args.paths.now texts all n c.in-Some.index c.in-Some.decided c.in-Some.bytes
     c.index-targets-index.result c.index-paths-index.result c.as_str.result.now c.as_str-in-instrumenting.result.now
     c.instrumenting.writes.items c.put_file.new.writes.items
-        (subst (λ (ts : List (List ℕ)). AllZip (λ t d. IsDecision t (decision_seen d)) ts all) c.deref.ensures.value c.in_ok-all.ensures)
-        c.requires.targets c.requires.each
+    (subst (λ (ts : List (List ℕ)). AllZip (λ t d. IsDecision t (decision_seen d)) ts all) c.deref.ensures.value c.in_ok-all.ensures)
+    c.requires.targets c.requires.each
     (at_place (zip all texts) n c.in-Some.index (c.in-Some.decided, c.in-Some.bytes) turn.0 turn.1) c.index-targets-index.is c.index-paths-index.is
     c.as_str.ensures.value c.as_str-in-instrumenting.ensures.value c.instrumenting.invariant c.in_ok-put_file.ensures)
 
@@ -39,10 +39,10 @@ returns g c =
     let texts = c.args.texts.items in
     let n = length c.instrumenting.yielded in
     let pairs = YieldsList-from_zip (YieldsList-at c.zip.ensures.first (YieldsList-from_vec all c.into_iter.ensures.rest (search rules)))
-            (YieldsList-from_vec texts c.zip.ensures.second.0 (search rules)) in
+    (YieldsList-from_vec texts c.zip.ensures.second.0 (search rules)) in
     let end = YieldsList-end
-            (YieldsList-at c.into_iter-index-iterator.ensures.into_iter_gives
-              (YieldsList-from_enumerate (YieldsList-at c.enumerate-index-items.ensures.source pairs) c.enumerate-index-items.ensures.count))
+    (YieldsList-at c.into_iter-index-iterator.ensures.into_iter_gives
+    (YieldsList-from_enumerate (YieldsList-at c.enumerate-index-items.ensures.source pairs) c.enumerate-index-items.ensures.count))
     c.instrumenting.yielded c.instrumenting.index-iterator c.instrumenting.yielded_by c.next.result c.next.new.self c.in-None.is c.next.ensures.steps in
     let each = subst (λ (ts : List (List ℕ)). AllZip (λ t d. IsDecision t (decision_seen d)) ts all) c.deref.ensures.value c.in_ok-all.ensures in
     let long = AllZip-long _ texts all each in

@@ -16,5 +16,5 @@ pub returns : goal.returns
 returns g c = report_writes c.args.out c.args.name.now (data_records c.args.exec_data) (data_path c.args.exec_data) (words_of c.args.paths.now) c.args.texts.items c.in_ok-looked.looked
     c.in_ok-bytes.bytes c.in_ok-with_file.field-0
     (subst (λ (ps : List Word). LooksAtAll (data_records c.args.exec_data) ps c.args.texts.items c.in_ok-looked.looked)
-        (ap texts_of c.deref.ensures.value ∙ c.in_ok-names.ensures) c.in_ok-looked.ensures.all)
+    (ap texts_of c.deref.ensures.value ∙ c.in_ok-names.ensures) c.in_ok-looked.ensures.all)
     (c.in_ok-bytes.ensures ∙ ap (report_text c.args.name.now) c.deref-2.ensures.value) c.in_ok-with_file.ensures

@@ -3,7 +3,8 @@ use Rattle.std.proofs.lemmas.Iterator.Adapters.{YieldsList-from_vec}
 use Rattle.std.proofs.lemmas.Iterator.Consumers.{YieldsList-from_enumerate, YieldsList-turn, YieldsList-end}
 use Rattle.std.proofs.lemmas.List.{length_push}
 use Rattle.std.proofs.lemmas.List.FromFn.{length-enumerate_from}
-use Rattle.jc_command_cover.proofs.AcceptedItemLaws.{heads, KeptFirst, keeping_start, item_kept, item_dropped, all_kept, others_dropped}
+use Rattle.jc_bytes.proofs.DecidingLaws.{head_is}
+use Rattle.jc_command_cover.proofs.AcceptedItemLaws.{KeptFirst, keeping_start, item_kept, item_dropped, all_kept, others_dropped}
 use Rattle.jc_command_classes.proofs.EachLaws.{at_place}
 use Rattle.jc_command_cover.proofs.accepted_items.accepted_of.Goals.{in-None, in-Some+in_default}
 use Rattle.jc_command_cover.proofs.accepted_items.accepted_of.Goals as goal
@@ -36,7 +37,7 @@ keeping-preserved g c = λ shown of_file looked beside places_are.
     let first = c.in-Some-split_first in
     rw (length_push c.keeping.yielded item)
     (item_dropped shown of_file looked items beside n c.keeping.left.now c.keeping.kept.items (c.keeping.invariant shown of_file looked beside places_are) c.in-Some.item
-    place.within place.at (λ others is. c.if-place-index.false (heads first.place.now n first.others.now others (sym first.ensures.cases.0 ∙ is) ∙ sym place.index_is)))
+    place.within place.at (λ others is. c.if-place-index.false (head_is first.place.now n first.others.now others (sym first.ensures.cases.0 ∙ is) ∙ sym place.index_is)))
 
 pub returns : goal.returns
 returns g c = λ shown of_file looked beside places_are.

@@ -27,7 +27,7 @@ returns-in-Accepted g c =
     (two_written F.landed _ _ stop_seen _ _ _ _ _ _ _ _ (ap (to_file c.args.target.now) c.deref.ensures) (ap to_out line_is) c.put_out.result
     (c.in_ok-write_file-in-Accepted.ensures.does (O.told c.args.out.now) (E.told c.args.err.now) (O.faults c.args.out.now) (E.faults c.args.err.now))
     (c.put_out.ensures.does F.landed (F.contents c.write_file.new.files) (E.told c.args.err.now) (F.read_faults c.write_file.new.files)
-        (F.write_faults c.write_file.new.files) (E.faults c.args.err.now)))
+    (F.write_faults c.write_file.new.files) (E.faults c.args.err.now)))
 
 pub returns-in_err-write_file-in-Refused : goal.returns-in_err-write_file-in-Refused
 returns-in_err-write_file-in-Refused g c =

@@ -23,7 +23,7 @@ returns-in-Err c =
     let paths = c.args.paths.now in
     let input = input_at paths c.args.texts.now c.informing.index nothing c.index-texts-index.result c.requires.each c.informing-test.true c.index-texts-index.is in
     rw c.exec_stop.ensures (info_stops paths c.args.texts.now c.informing.index c.index-texts-index.result c.informing.writes.items c.in-Err.fail
-        (get_or paths c.informing.index nothing) input c.informing.invariant
+    (get_or paths c.informing.index nothing) input c.informing.invariant
     (subst (λ (t : List ℕ). Refuses c.in-Err.fail no_data t) c.deref.ensures c.in-Err.ensures.refused))
 
 pub returns : goal.returns

@@ -17,4 +17,4 @@ pub returns : goal.returns
 returns c =
     let union = subst (λ (ts : List (List ℕ)). IsUnionOf ts c.in_ok-store.store) c.deref.ensures.value c.in_ok-store.ensures.union in
     merge_writes c.args.destfile (texts_of c.args.inputs.now) c.args.texts.items c.in_ok-store.store c.in_ok-bytes.bytes c.one_write.result union
-        c.in_ok-bytes.ensures.text c.one_write.ensures.ok c.one_write.ensures.err
+    c.in_ok-bytes.ensures.text c.one_write.ensures.ok c.one_write.ensures.err

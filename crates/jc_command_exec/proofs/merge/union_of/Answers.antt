@@ -15,5 +15,5 @@ pub returns-in-Err-clause-refused : goal.returns-in-Err-clause-refused
 returns-in-Err-clause-refused c = λ out.
     let input = input_at c.args.inputs.now c.args.texts.now c.merging.index nothing c.index-texts-index.result c.requires.each c.merging-test.true c.index-texts-index.is in
     rw c.exec_stop.ensures (merge_stops c.args.inputs.now c.args.texts.now c.merging.index c.index-texts-index.result c.merging.store c.in-Err.fail
-        (get_or c.args.inputs.now c.merging.index nothing) input c.merging.invariant
+    (get_or c.args.inputs.now c.merging.index nothing) input c.merging.invariant
     (subst (λ (t : List ℕ). Refuses c.in-Err.fail c.merging.store t) c.deref.ensures c.in-Err.ensures.refused) out)

@@ -32,7 +32,7 @@ storing-preserved c =
       | in-Some+in_ok-put_record-in-Some w ↦
           let init = w.in-Some.init in
           let fresh : IsNew init.id c.storing.store.classes = subst (λ (l : List ClassHits). IsNew init.id l) (sym c.storing.invariant.classes)
-                  (is_new hits cs i class within is c.requires.fits.ids init w.in-Some.is) in
+          (is_new hits cs i class within is c.requires.fits.ids init w.in-Some.is) in
           let adds = w.in_ok-put_record-in-Some.ensures c.storing.invariant.one fresh in
           rw w.store-is (record {
             sessions = adds.sessions ∙ c.storing.invariant.sessions;

@@ -28,7 +28,7 @@ returns-in_err-counters g c =
     let p = err_from_is_err_and c.from_residual-in_err-counters.result c.from_residual-in_err-counters.ensures.1 in
     rw (p.1, p.2) (counting_ends n c.args.probes (frameless program) have (stop_seen c.in_err-counters.field-0.0)
     (counted_so program c.in_ok-plan.plan n c.args.bytes.now c.in_ok-ran.ran.store (Err c.in_err-counters.field-0.0) c.in_ok-plan.ensures
-        c.requires.bytes c.in_ok-ran.ensures.store c.in_err-counters.ensures))
+    c.requires.bytes c.in_ok-ran.ensures.store c.in_err-counters.ensures))
 
 pub returns : goal.returns
 returns g c =

@@ -10,7 +10,7 @@ pub parts-preserved : goal.parts-preserved
 parts-preserved c =
     let found = position_from_yields_List (λ (b : ℕ). nat_eq b 47) _ _ _ c.position.ensures.ran (YieldsList-from_slice c.parts.rest.now c.iter.ensures.rest) (λ x b q k. search (rules, tests)) in
     parts_on _ c.parts.rest.now (take c.in-Some.end c.parts.rest.now)
-        (take (length c.parts.rest.now - (c.in-Some.end + 1)) (drop (c.in-Some.end + 1) c.parts.rest.now)) c.in-Some.end c.parts.invariant (sym c.in-Some.is ∙ found) refl
+    (take (length c.parts.rest.now - (c.in-Some.end + 1)) (drop (c.in-Some.end + 1) c.parts.rest.now)) c.in-Some.end c.parts.invariant (sym c.in-Some.is ∙ found) refl
     (take_all (length c.parts.rest.now - (c.in-Some.end + 1)) (drop (c.in-Some.end + 1) c.parts.rest.now) (grind (arith, common_steps))) (sym c.is_component.ensures ∙ c.if-not-is_component.false)
 
 pub returns-then-not-is_component : goal.returns-then-not-is_component

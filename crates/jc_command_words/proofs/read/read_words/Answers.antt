@@ -55,7 +55,7 @@ returns-in-Some-3-clause-read c =
     (ap named (sym c.as_str.ensures.value) ∙ sym c.name_of.ensures ∙ c.in-Some-name_of.is)
     (scan_view c.in-Some-2.cut) (sym c.in_ok-cut.ensures ∙ ap (option_map scan_view) c.in-Some-2.is)
     (given_seen c.in_ok-given-2.given) c.in_ok-given-2.ensures (command_seen c.in-Some-3.command) (sym c.is_sample.ensures ∙ c.if-is_sample.false)
-        (sym c.in_ok-is_stated.ensures ∙ c.if-not-branch.false)
+    (sym c.in_ok-is_stated.ensures ∙ c.if-not-branch.false)
     (sym c.in_ok-command.ensures ∙ ap (option_map command_seen) c.in-Some-3.is)
 
 pub returns-in-Some-3-clause-few : goal.returns-in-Some-3-clause-few
@@ -65,7 +65,7 @@ returns-in-Some-3-clause-few c =
     (ap named (sym c.as_str.ensures.value) ∙ sym c.name_of.ensures ∙ c.in-Some-name_of.is)
     (scan_view c.in-Some-2.cut) (sym c.in_ok-cut.ensures ∙ ap (option_map scan_view) c.in-Some-2.is)
     (given_seen c.in_ok-given-2.given) c.in_ok-given-2.ensures (command_seen c.in-Some-3.command) (sym c.is_sample.ensures ∙ c.if-is_sample.false)
-        (sym c.in_ok-is_stated.ensures ∙ c.if-not-branch.false)
+    (sym c.in_ok-is_stated.ensures ∙ c.if-not-branch.false)
     (sym c.in_ok-command.ensures ∙ ap (option_map command_seen) c.in-Some-3.is) in
     let few = few_files (words_of c.args.words.now) (command_seen c.in-Some-3.command) means in
     let short : length c.args.words.now < 4294967296 = omega (arith, c.if-words.false) in

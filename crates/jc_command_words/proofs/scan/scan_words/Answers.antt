@@ -15,7 +15,7 @@ returns-in-Dashes c =
     let h = c.loop-i.invariant ∙ ap (λ d. prepend (map used_view c.loop-i.uses.items) (scan (option_map (λ s. s.now) c.loop-i.pending) d)) at in
     ap {B = Option Scan} (λ fs. Some (record { uses = map used_view c.loop-i.uses.items; dash = true; files = map string_bytes fs })) (slice_range-drop words (c.loop-i.i + 1))
     ∙ step_dashes (map string_bytes words) (map string_bytes (drop (c.loop-i.i + 1) words)) (map used_view c.loop-i.uses.items) c.loop-i.pending
-        c.as_str-word.result.now h c.in_default.is c.in-Dashes.ensures
+    c.as_str-word.result.now h c.in_default.is c.in-Dashes.ensures
 
 pub returns-in-Other : goal.returns-in-Other
 returns-in-Other c =
@@ -25,7 +25,7 @@ returns-in-Other c =
     ap {B = Option Scan} (λ fs. Some (record { uses = map used_view c.loop-i.uses.items; dash = false; files = map string_bytes fs })) (slice_range-drop words c.loop-i.i)
     ∙ ap {B = Option Scan} (λ fs. Some (record { uses = map used_view c.loop-i.uses.items; dash = false; files = fs })) at
     ∙ step_other (map string_bytes words) (map string_bytes (drop (c.loop-i.i + 1) words)) (map used_view c.loop-i.uses.items) c.loop-i.pending
-        c.as_str-word.result.now h c.in_default.is c.in-Other.ensures
+    c.as_str-word.result.now h c.in_default.is c.in-Other.ensures
 
 pub loop-i-preserved : goal.loop-i-preserved
 loop-i-preserved c =
@@ -52,13 +52,13 @@ pub returns-in-Some-pending : goal.returns-in-Some-pending
 returns-in-Some-pending c =
     let words = c.args.words.now in
     let h = c.loop-i.invariant ∙ ap (λ d. prepend (map used_view c.loop-i.uses.items) (scan (option_map (λ s. s.now) c.loop-i.pending) d))
-            (no_words_from string_bytes words c.loop-i.i c.loop-i-test.false) in
+    (no_words_from string_bytes words c.loop-i.i c.loop-i-test.false) in
     end_pending (map string_bytes words) (map used_view c.loop-i.uses.items) c.loop-i.pending c.in-Some-pending.field-0 h c.in-Some-pending.is
 
 pub returns : goal.returns
 returns c =
     let words = c.args.words.now in
     let h = c.loop-i.invariant ∙ ap (λ d. prepend (map used_view c.loop-i.uses.items) (scan (option_map (λ s. s.now) c.loop-i.pending) d))
-            (no_words_from string_bytes words c.loop-i.i c.loop-i-test.false) in
+    (no_words_from string_bytes words c.loop-i.i c.loop-i-test.false) in
     ap {B = Option Scan} (λ fs. Some (record { uses = map used_view c.loop-i.uses.items; dash = false; files = map string_bytes fs })) (slice_range-drop words (length words) ∙ drop-length words)
     ∙ end_none (map string_bytes words) (map used_view c.loop-i.uses.items) c.loop-i.pending h c.in-None.is

@@ -12,7 +12,7 @@ returns-in-Ok-clause-does g c out err outs errs =
     let gives = subst (λ (l : List ℕ). ReadGives k path l c.from_vec.result (Ok tt)) c.new-bytes.ensures.items
     (subst (λ (l : List ℕ). ReadGives k path c.new-bytes.result.items l (Ok tt)) (sym c.from_vec.ensures) c.in-Ok.ensures.gives) in
     read_file F.landed k (F.contents c.read.new.self) out err (F.read_faults c.args.files.now) (F.read_faults c.read.new.self)
-        (F.write_faults c.args.files.now) (F.write_faults c.read.new.self) outs errs
+    (F.write_faults c.args.files.now) (F.write_faults c.read.new.self) outs errs
     path c.from_vec.result gives c.in-Ok.ensures.cause (subst AreBytes (c.as_slice.ensures.value ∙ sym c.from_vec.ensures) c.are_bytes.ensures) c.in-Ok.ensures.contents c.in-Ok.ensures.write_faults
 
 pub returns-clause-does : goal.returns-clause-does

@@ -29,7 +29,7 @@ count_method-requires-clause-small c =
     let is = c.body-item.is ∙ ap (λ (l : List Body). get_or l n b) c.deref-body-items.ensures in
     let iv : insns ≡ get_or coverage.edges n insns =
     subst (λ (x : List (List Bool)). x ≡ get_or coverage.edges n x) (sym c.deref-in-counting.ensures)
-        (c.index-deref-number.is ∙ ap (λ (l : List (List (List Bool))). get_or l n c.index-deref-number.result) c.deref.ensures) in
+    (c.index-deref-number.is ∙ ap (λ (l : List (List (List Bool))). get_or l n c.index-deref-number.result) c.deref.ensures) in
     small_now class.bodies coverage.edges n b insns lt lv is iv c.counting.sums c.counting.lines.all.items c.counting.lines.covered.items
     (all_small class coverage c.requires.analysed c.requires.shape) c.counting.invariant
 
@@ -56,7 +56,7 @@ counting-preserved c =
     let is = c.body-item.is ∙ ap (λ (l : List Body). get_or l n b) c.deref-body-items.ensures in
     let iv : insns ≡ get_or coverage.edges n insns =
     subst (λ (x : List (List Bool)). x ≡ get_or coverage.edges n x) (sym c.deref-in-counting.ensures)
-        (c.index-deref-number.is ∙ ap (λ (l : List (List (List Bool))). get_or l n c.index-deref-number.result) c.deref.ensures) in
+    (c.index-deref-number.is ∙ ap (λ (l : List (List (List Bool))). get_or l n c.index-deref-number.result) c.deref.ensures) in
     one_more class.bodies coverage.edges n b insns lt lv is iv c.counting.sums c.count_method.new.sums c.counting.lines.all.items c.count_method.new.lines.all.items
     c.counting.lines.covered.items c.count_method.new.lines.covered.items c.in_ok-count_method.ensures.sums c.in_ok-count_method.ensures.all c.in_ok-count_method.ensures.covered c.counting.invariant
 
@@ -69,7 +69,7 @@ line_count-requires-clause-within c =
     let covered = c.counting.lines.covered.items in
     lines_within class coverage c.requires.analysed c.requires.shape all covered
     (all_lined class.bodies coverage.edges c.counting.number c.counting.sums all covered le c.counting.invariant)
-        (all_told class.bodies coverage.edges c.counting.number c.counting.sums all covered le c.counting.invariant)
+    (all_told class.bodies coverage.edges c.counting.number c.counting.sums all covered le c.counting.invariant)
 
 pub line_count-requires-clause-few : goal.line_count-requires-clause-few
 line_count-requires-clause-few c =

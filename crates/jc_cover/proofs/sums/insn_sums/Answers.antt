@@ -18,7 +18,12 @@ paths-requires-clause-few c = omega (arith, some_branches c.args.values.now c.br
 pub returns : goal.returns
 returns c =
     ap (λ (z : Count). let s : Sums =
-                               record { instruction = c.one_item-instruction.result; branch = c.branch_count-branches.result; complexity =
-                                 c.paths.result; method = z } in s) c.no_items-none.ensures
+    record {
+      instruction = c.one_item-instruction.result;
+      branch = c.branch_count-branches.result;
+      complexity =
+          c.paths.result;
+      method = z;
+    } in s) c.no_items-none.ensures
     ∙ branching_insn c.args.values.now c.branch_count-branches.result c.one_item-instruction.result c.paths.result c.branch_count-branches.ensures
-        c.one_item-instruction.ensures c.paths.ensures c.if-values-lt2.false
+    c.one_item-instruction.ensures c.paths.ensures c.if-values-lt2.false

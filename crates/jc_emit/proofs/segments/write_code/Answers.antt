@@ -22,8 +22,13 @@ writing-preserved c =
     let items = c.writing.table.items in
     let len = c.writing.table.len in
     let le : len ≤ length (table ++ drop (length table) items) =
-            omega (arith, length-append table (drop (length table) items), c.in_ok-put_segment.ensures.table, ap length c.deref_mut.ensures.value,
-              c.writing.table.ok.0) in
+    omega (
+      arith,
+      length-append table (drop (length table) items),
+      c.in_ok-put_segment.ensures.table,
+      ap length c.deref_mut.ensures.value,
+      c.writing.table.ok.0,
+    ) in
     record {
       table = length-take-le len (table ++ drop (length table) items) le ∙ omega (arith, c.writing.table.ok.0, c.writing.invariant.table);
       shows = λ first is.

@@ -17,7 +17,7 @@ returns-in-Some-clause-merges c =
 pub returns-in-Some-clause-refused : goal.returns-in-Some-clause-refused
 returns-in-Some-clause-refused c =
     gathered_err c.merge_into.result c.args.known.now.entries c.args.fresh.now.entries c.in-Some.there.now c.merge_into.new.there c.args.hits
-        c.requires.known c.requires.fresh (sym c.in-Some.ensures.value) c.merge_into.ensures
+    c.requires.known c.requires.fresh (sym c.in-Some.ensures.value) c.merge_into.ensures
 
 pub merged-requires-clause-there : goal.merged-requires-clause-there
 merged-requires-clause-there c = (found c.args.hits.id c.args.known.now.entries c.in-Some-get.there.now c.requires.known (sym c.in-Some-get.ensures.value)).small
@@ -39,7 +39,7 @@ returns-clause-merges c = elim c.match-get.branch [
       (w.in_ok-keep-in-None.ensures ∙ (λ i. insert_entry nat_eq (c.get_mut.follows.holds-at-none i).entries c.args.hits.id c.args.hits)))
   | in-Some-get+in_ok-merged-in-Some-get+in_ok-keep-in-Some-get w ↦
       rw w.fresh-is (merges_known c.args.known.now.entries c.args.fresh.now.entries c.args.hits c.requires.known c.requires.fresh c.requires.hits
-          c.requires.text w.in-Some-get.there.now w.in_ok-merged-in-Some-get.field-0 w.keep-in-Some-get.new.fresh.entries
+      c.requires.text w.in-Some-get.there.now w.in_ok-merged-in-Some-get.field-0 w.keep-in-Some-get.new.fresh.entries
       (sym c.in_default.ensures.value) (sym w.in-Some-get.ensures.value) w.in_ok-merged-in-Some-get.ensures
       (w.in_ok-keep-in-Some-get.ensures ∙ (λ i. insert_entry nat_eq (c.get_mut.follows.holds-at-none i).entries w.in_ok-merged-in-Some-get.field-0.id w.in_ok-merged-in-Some-get.field-0)))
 ]

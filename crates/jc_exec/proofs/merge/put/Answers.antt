@@ -11,7 +11,7 @@ pub returns-in-Some-clause-puts : goal.returns-in-Some-clause-puts
 returns-in-Some-clause-puts c =
     let written = c.get_mut.follows.holds c.merge_into.new.there in
     puts_known c.merge_into.result c.args.records.now.entries (c.get_mut.follows.lender c.merge_into.new.there).entries c.in-Some.there.now
-        c.merge_into.new.there c.args.hits.now c.requires.keyed (sym c.in-Some.ensures.value) c.merge_into.ensures written.0
+    c.merge_into.new.there c.args.hits.now c.requires.keyed (sym c.in-Some.ensures.value) c.merge_into.ensures written.0
 
 pub returns-in-Some-clause-refused : goal.returns-in-Some-clause-refused
 returns-in-Some-clause-refused c = known_refused c.merge_into.result c.args.records.now.entries c.in-Some.there.now c.merge_into.new.there
@@ -21,7 +21,7 @@ pub returns-in-Some-clause-unchanged : goal.returns-in-Some-clause-unchanged
 returns-in-Some-clause-unchanged c =
     let written = c.get_mut.follows.holds c.merge_into.new.there in
     known_unchanged c.merge_into.result c.args.records.now.entries (c.get_mut.follows.lender c.merge_into.new.there).entries c.in-Some.there.now
-        c.merge_into.new.there c.args.hits.now (sym c.in-Some.ensures.value) c.merge_into.ensures written.0
+    c.merge_into.new.there c.args.hits.now (sym c.in-Some.ensures.value) c.merge_into.ensures written.0
 
 pub returns-clause-puts : goal.returns-clause-puts
 returns-clause-puts c =

@@ -1,10 +1,11 @@
 use Rattle.std.proofs.Common.{◌+◌, length, map, drop, sym, subst}
 use Rattle.std.proofs.lemmas.List.Elements.{All-from_recursion}
 use Rattle.std.proofs.lemmas.Result.{err_from_is_err_and}
+use Rattle.jc_pool.proofs.AddingLaws.{extends_more}
 use Rattle.jc_methods.specs.declared.body.FrameAt.{FrameAt}
 use Rattle.jc_methods.specs.VerificationTypes.{type_state_at, IsNumberedState}
 use Rattle.jc_frames.specs.FullTable.{named_by, named_by_all}
-use Rattle.jc_frames.proofs.TakenLaws.{all_taken, extends_both, extends_itself, frames_done, frames_split, none_taken, refuses_here, takes_more, taking_begun}
+use Rattle.jc_frames.proofs.TakenLaws.{all_taken, extends_itself, frames_done, frames_split, none_taken, refuses_here, takes_more, taking_begun}
 use Rattle.jc_frames.proofs.full_classes.take_classes.Goals as goal
 
 pub taking-init : goal.taking-init
@@ -30,7 +31,7 @@ taking-preserved c =
           (named_by (type_state_at names f)) (named_by_all (map (type_state_at names) (drop (i + 1) fs)))
           (named_by_all (map (type_state_at names) (drop i fs))) (frames_split names fs i f c.taking-test.true c.frame-item.is) c.in_ok-take_classes_in.ensures.classes c.taking.invariant.taking;
       taken = c.in_ok-take_classes_in.ensures.taken;
-      extends = extends_both c.args.pool.now c.taking.pool c.take_classes_in.new.pool c.taking.invariant.extends c.in_ok-take_classes_in.ensures.extends;
+      extends = extends_more c.args.pool.now c.taking.pool c.take_classes_in.new.pool c.taking.invariant.extends c.in_ok-take_classes_in.ensures.extends;
     }
 
 pub returns-clause-classes : goal.returns-clause-classes
@@ -53,4 +54,4 @@ returns-in_err-take_classes_in-clause-refused c =
 
 pub returns-in_err-take_classes_in-clause-extends : goal.returns-in_err-take_classes_in-clause-extends
 returns-in_err-take_classes_in-clause-extends c =
-    extends_both c.args.pool.now c.taking.pool c.take_classes_in.new.pool c.taking.invariant.extends c.in_err-take_classes_in.ensures.extends
+    extends_more c.args.pool.now c.taking.pool c.take_classes_in.new.pool c.taking.invariant.extends c.in_err-take_classes_in.ensures.extends

@@ -5,10 +5,11 @@ use Rattle.jc_bytes.specs.declared.fail.Fail.{Fail}
 use Rattle.jc_methods.specs.declared.kind.Kind.{Kind}
 use Rattle.jc_methods.specs.VerificationTypes.{VerificationType, class_names, verification_type, IsNumbered}
 use Rattle.jc_pool.specs.declared.add.PoolFull.{PoolFull}
+use Rattle.jc_pool.proofs.AddingLaws.{extends_more}
 use Rattle.jc_frames.specs.Frames.{values_in}
 use Rattle.jc_frames.specs.FullTable.{RefusesClasses, TakesClasses}
 use Rattle.jc_frames.proofs.ResultLaws.{err_then, ok_then}
-use Rattle.jc_frames.proofs.TakenLaws.{extends_both, refused_later, refused_sooner, takes_both}
+use Rattle.jc_frames.proofs.TakenLaws.{refused_later, refused_sooner, takes_both}
 use Rattle.jc_frames.proofs.full_classes.take_classes_in.Goals as goal
 
 pub take_classes_of-requires-clause-numbers : goal.take_classes_of-requires-clause-numbers
@@ -54,7 +55,7 @@ returns-clause-refused c =
     (λ e q. refused_later old mid new front back e first (subst (Back e) c.deref-3.ensures q)) c.take_classes_of-2.ensures.refused
 
 pub returns-clause-extends : goal.returns-clause-extends
-returns-clause-extends c = extends_both c.args.pool.now c.take_classes_of.new.pool c.take_classes_of-2.new.pool c.in_ok-take_classes_of.ensures.extends c.take_classes_of-2.ensures.extends
+returns-clause-extends c = extends_more c.args.pool.now c.take_classes_of.new.pool c.take_classes_of-2.new.pool c.in_ok-take_classes_of.ensures.extends c.take_classes_of-2.ensures.extends
 
 pub returns-in_err-take_classes_of-clause-refused : goal.returns-in_err-take_classes_of-clause-refused
 returns-in_err-take_classes_of-clause-refused c =

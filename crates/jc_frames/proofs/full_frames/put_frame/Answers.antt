@@ -39,7 +39,7 @@ put_kinds-requires-clause-stand c =
     ap (map (verification_type names)) c.deref-2.ensures.value ∙ c.in_ok-locals.ensures.values names ∙ ap (λ (l : List Kind). values_in (map (verification_type names) l)) c.deref.ensures in
     subst (λ (l : List VerificationType). AllByRecursion (HasPlace c.args.pool.now) (class_names l)) (sym values)
     (both_parts (HasPlace c.args.pool.now) (class_names (values_in (map (verification_type names) locals)))
-        (class_names (map (verification_type names) c.args.frame.now.state.stack)) c.requires.stand).0
+    (class_names (map (verification_type names) c.args.frame.now.state.stack)) c.requires.stand).0
 
 pub put_kinds-requires-2-clause-few : goal.put_kinds-requires-2-clause-few
 put_kinds-requires-2-clause-few c =
@@ -82,7 +82,7 @@ returns-clause-text c p are =
     let values : map (verification_type names) c.deref-2.result.now ≡ values_in (map (verification_type names) state.locals) =
     ap (map (verification_type names)) c.deref-2.ensures.value ∙ c.in_ok-locals.ensures.values names ∙ ap (λ (l : List Kind). values_in (map (verification_type names) l)) c.deref.ensures in
     let locals : m ≡ b ++ types_text p (values_in (map (verification_type names) state.locals)) = c.in_ok-put_kinds.ensures.text p are
-            ∙ ap (λ (l : List VerificationType). b ++ types_text p l) values in
+    ∙ ap (λ (l : List VerificationType). b ++ types_text p l) values in
     let delta : b ≡ a ++ short (p.start c.args.frame.now.at - c.args.base) = c.in_ok-put_short.ensures ∙ ap (λ (n : ℕ). a ++ short (n - c.args.base)) (sym (are.start c.args.frame.now.at)) in
     let Text : List Kind → Type 0 = λ l. new ≡ m ++ types_text p (map (verification_type names) l) in
     ok_then (Text c.deref-3.result.now) (new ≡ old ++ full_text p c.args.base (type_state_at names c.args.frame.now)) c.put_kinds-2.result

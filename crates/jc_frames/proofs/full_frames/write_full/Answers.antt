@@ -12,7 +12,7 @@ use Rattle.jc_frames.proofs.full_frames.write_full.Goals as goal
 pub take_classes-requires : goal.take_classes-requires
 take_classes-requires c =
     all_weaker (FitsFull (length c.args.starts.now) (length c.args.names.now)) (λ (f : FrameAt). IsNumberedState (length c.args.names.now) f.state)
-        (λ f fits. fits.numbered) c.args.frames.now c.requires.each
+    (λ f fits. fits.numbered) c.args.frames.now c.requires.each
 
 pub put_table-requires-clause-stand : goal.put_table-requires-clause-stand
 put_table-requires-clause-stand c = all_stand c.args.pool.now c.take_classes.new.pool (named_by_all (map (type_state_at c.args.names.now) c.args.frames.now)) c.in_ok-take_classes.ensures.classes
@@ -28,7 +28,7 @@ returns-clause-text c p are =
 pub returns-clause-classes : goal.returns-clause-classes
 returns-clause-classes c =
     subst (λ (pool : PoolValue). TakesClasses c.args.pool.now (named_by_all (map (type_state_at c.args.names.now) c.args.frames.now)) pool)
-        (sym c.in_ok-put_table.ensures.kept) c.in_ok-take_classes.ensures.classes
+    (sym c.in_ok-put_table.ensures.kept) c.in_ok-take_classes.ensures.classes
 
 pub returns-clause-extends : goal.returns-clause-extends
 returns-clause-extends c = subst (λ (pool : PoolValue). Extends c.args.pool.now pool) (sym c.in_ok-put_table.ensures.kept) c.in_ok-take_classes.ensures.extends

@@ -39,7 +39,7 @@ returns-clause-values c names =
     let xs = take c.end_of_values.result c.args.locals.now in
     sym (append-nil (map (verification_type names) c.listing.kinds.items))
     ∙ ap (λ (l : List Kind). map (verification_type names) c.listing.kinds.items ++ values_from c.listing.skips (map (verification_type names) l))
-        (sym (drop_all c.listing.kind-index xs c.listing-test.false))
+    (sym (drop_all c.listing.kind-index xs c.listing-test.false))
     ∙ sym (c.listing.invariant.values names)
     ∙ ap (values_from false) (sym (c.end_of_values.ensures.trimmed names))
 

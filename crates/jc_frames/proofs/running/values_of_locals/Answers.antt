@@ -17,8 +17,8 @@ pub returns-clause-few : goal.returns-clause-few
 returns-clause-few c =
     let ks = c.in_ok-kinds.kinds.items in
     let e = ap (λ (l : List Value). length l)
-            (c.listing.invariant
-              ∙ ap (map values.Of) (take_all c.listing.kind-index c.deref-kind-items.result.now c.listing-test.false ∙ c.deref-kind-items.ensures.value)) in
+    (c.listing.invariant
+    ∙ ap (map values.Of) (take_all c.listing.kind-index c.deref-kind-items.result.now c.listing-test.false ∙ c.deref-kind-items.ensures.value)) in
     omega (arith, e, length-map ks values.Of, c.in_ok-kinds.ensures.few)
 
 pub returns-clause-numbered : goal.returns-clause-numbered

@@ -1,7 +1,6 @@
 use Rattle.std.proofs.Common.{Option, subst}
 use Rattle.jc_class.specs.declared.class_file.ClassFile.{ClassFile}
 use Rattle.jc_instrument.specs.Ready.{IsReadyFrom}
-use Rattle.jc_instrument.specs.declared.ready.PlannedBody.{PlannedBody}
 use Rattle.jc_instrument.specs.declared.ready.PlannedBody.TheVariants.{Unread}
 use Rattle.jc_instrument.proofs.again.ready_body.Goals as goal
 

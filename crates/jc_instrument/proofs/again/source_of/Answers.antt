@@ -1,4 +1,4 @@
-use Rattle.std.proofs.Common.{Bool, Option, Some, None, sym, ◌∙◌, ap, if◌then◌else◌}
+use Rattle.std.proofs.Common.{Bool, Some, None, sym, ◌∙◌, ap, if◌then◌else◌}
 use Rattle.jc_class.specs.declared.class_file.ClassFile.{ClassFile}
 use Rattle.jc_instrument.proofs.PlannedLaws.{none_said}
 use Rattle.jc_instrument.proofs.again.source_of.Goals as goal

@@ -8,4 +8,4 @@ use Rattle.jc_instrument.proofs.alone.first_with_code.Goals as goal
 pub returns : goal.returns
 returns c =
     first_by_position (λ method. IsTrue (has_code c.args.pool.now method)) _ _ _ c.position.ensures.ran
-        (YieldsList-from_slice c.args.methods.now c.iter.ensures.rest) (λ y q k. search (rules, tests)) (λ y q k. search (rules, tests))
+    (YieldsList-from_slice c.args.methods.now c.iter.ensures.rest) (λ y q k. search (rules, tests)) (λ y q k. search (rules, tests))

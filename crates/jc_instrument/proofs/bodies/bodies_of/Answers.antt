@@ -11,4 +11,4 @@ returns-clause-no_cause c =
     let class = c.args.class.now in
     ok_more (AreCheckedBodies class) (λ _. NoCause (analysis_causes class)) c.checked_bodies.result
     (λ bodies are. no_cause_checked class bodies (sym c.is_left_alone.ensures ∙ c.if-is_left_alone.false) c.in_default.ensures
-        c.in_default-interface_refusal.ensures are) c.checked_bodies.ensures.bodies
+    c.in_default-interface_refusal.ensures are) c.checked_bodies.ensures.bodies

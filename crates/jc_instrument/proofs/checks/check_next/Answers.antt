@@ -1,4 +1,4 @@
-use Rattle.std.proofs.Common.{inl, inr, None, Some, refl, sym, ◌∙◌, subst}
+use Rattle.std.proofs.Common.{inl, inr, refl, sym, ◌∙◌, subst}
 use Rattle.jc_bytes.specs.Failing.{Said}
 use Rattle.jc_bytes.specs.declared.fail.Fail.{Fail}
 use Rattle.jc_bytes.specs.declared.refusal.Refusal.{Refusal}

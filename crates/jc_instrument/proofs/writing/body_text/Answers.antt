@@ -4,8 +4,9 @@ use Rattle.std.proofs.lemmas.Result.{err_from_is_err_and}
 use Rattle.jc_methods.specs.VerificationTypes.{AreNumberedFrames, type_state_at}
 use Rattle.jc_methods.specs.declared.body.FrameAt.{FrameAt}
 use Rattle.jc_pool.specs.Pool.{PoolValue}
+use Rattle.jc_pool.proofs.AddingLaws.{extends_more}
 use Rattle.jc_frames.specs.FullTable.{CanBeWritten, HasPlace, RefusesClasses, TakesClasses, named_by_all}
-use Rattle.jc_frames.proofs.TakenLaws.{all_stand, extends_both}
+use Rattle.jc_frames.proofs.TakenLaws.{all_stand}
 use Rattle.jc_kinds.specs.Answers.{AreStates}
 use Rattle.jc_instrument_code.specs.LaidText.{laid_text}
 use Rattle.jc_instrument.specs.BodiesWithStates.{emitted_of}
@@ -26,8 +27,8 @@ take_classes-requires c =
     subst (AreNumberedFrames (length now)) (sym c.deref-2.ensures)
     (numbered_of r.laid.starts (length now) c.in_ok-frames.frames
     (can_be_written now r ready c.in_ok-frames.frames plan.0 plan.1
-        (frames_of c.args.names.now now r plan.0 c.in_ok-frames.frames c.deref.result.now c.in_ok-frames.ensures.names c.requires c.deref.ensures
-          (c.in_ok-frames.ensures.frames plan.0 plan.1))))
+    (frames_of c.args.names.now now r plan.0 c.in_ok-frames.frames c.deref.result.now c.in_ok-frames.ensures.names c.requires c.deref.ensures
+    (c.in_ok-frames.ensures.frames plan.0 plan.1))))
 
 pub code_text-requires-clause-rows : goal.code_text-requires-clause-rows
 code_text-requires-clause-rows c =
@@ -45,8 +46,8 @@ code_text-requires-clause-frames c =
     let ready = ready_grown c.args.names.now now r c.in_ok-frames.ensures.names c.requires in
     subst (CanBeWritten r.laid.starts (length now)) (sym c.deref-3.ensures)
     (can_be_written now r ready c.in_ok-frames.frames plan.0 plan.1
-        (frames_of c.args.names.now now r plan.0 c.in_ok-frames.frames c.deref.result.now c.in_ok-frames.ensures.names c.requires c.deref.ensures
-          (c.in_ok-frames.ensures.frames plan.0 plan.1)))
+    (frames_of c.args.names.now now r plan.0 c.in_ok-frames.frames c.deref.result.now c.in_ok-frames.ensures.names c.requires c.deref.ensures
+    (c.in_ok-frames.ensures.frames plan.0 plan.1)))
 
 pub code_text-requires-clause-classes : goal.code_text-requires-clause-classes
 code_text-requires-clause-classes c =
@@ -71,7 +72,7 @@ returns-in_err-take_classes-clause-refused c = λ others array w of.
     rw (p.1, p.2)
     (meant_refused c.args.names.now now others array c.args.ready w c.in_ok-frames.ensures.names c.requires of c.in_ok-frames.frames
     (frames_of c.args.names.now now c.args.ready w.first c.in_ok-frames.frames c.deref.result.now c.in_ok-frames.ensures.names c.requires
-        c.deref.ensures (c.in_ok-frames.ensures.frames w.first of.plan)) c.args.pool.now c.take_classes.new.pool e refused)
+    c.deref.ensures (c.in_ok-frames.ensures.frames w.first of.plan)) c.args.pool.now c.take_classes.new.pool e refused)
 
 pub returns-in_err-tables-clause-refused : goal.returns-in_err-tables-clause-refused
 returns-in_err-tables-clause-refused c = λ others array w of.
@@ -87,7 +88,7 @@ returns-in_err-code_text-clause-refused c = λ others array w of.
 
 pub returns-in_err-code_text-clause-extends : goal.returns-in_err-code_text-clause-extends
 returns-in_err-code_text-clause-extends c =
-    extends_both c.args.pool.now c.take_classes.new.pool c.code_text.new.pool c.in_ok-take_classes.ensures.extends c.code_text.ensures.extends
+    extends_more c.args.pool.now c.take_classes.new.pool c.code_text.new.pool c.in_ok-take_classes.ensures.extends c.code_text.ensures.extends
 
 pub returns-clause-text : goal.returns-clause-text
 returns-clause-text c = λ others array w of.
@@ -103,9 +104,9 @@ returns-clause-text c = λ others array w of.
     (sym c.in_ok-code_text.ensures.kept)
     (body_written c.args.names.now now others array c.args.ready w c.in_ok-frames.ensures.names c.requires of c.in_ok-frames.frames
     (frames_of c.args.names.now now c.args.ready w.first c.in_ok-frames.frames c.deref.result.now c.in_ok-frames.ensures.names c.requires
-        c.deref.ensures (c.in_ok-frames.ensures.frames w.first of.plan)) c.args.pool.now taken c.args.places.now c.in_ok-tables.tables c.in_ok-code_text.field-0 takes
+    c.deref.ensures (c.in_ok-frames.ensures.frames w.first of.plan)) c.args.pool.now taken c.args.places.now c.in_ok-tables.tables c.in_ok-code_text.field-0 takes
     (c.in_ok-tables.ensures w.first of.plan) is)
 
 pub returns-clause-extends : goal.returns-clause-extends
 returns-clause-extends c =
-    extends_both c.args.pool.now c.take_classes.new.pool c.code_text.new.pool c.in_ok-take_classes.ensures.extends c.in_ok-code_text.ensures.extends
+    extends_more c.args.pool.now c.take_classes.new.pool c.code_text.new.pool c.in_ok-take_classes.ensures.extends c.in_ok-code_text.ensures.extends

@@ -23,6 +23,6 @@ returns-clause-text c =
     let count = length-map c.args.frames.now (type_state_at c.args.names.now) in
     frames_text c.args.name c.in-Ok-try_from.size p seen c.new-table.result.items c.write_full.new.into.items c.args.into.now.items
     c.put_header.new.into.items c.put_bytes.new.into.items
-        (let some = some_left (length c.args.frames.now) c.is_empty.result c.is_empty.ensures c.if-is_empty.false in omega (arith, count, some))
-        c.new-table.ensures.items (c.in-Ok.ensures.text p are) (let is = c.in-Ok-try_from.ensures.1 in let len = c.len.ensures in omega (arith, is, len))
+    (let some = some_left (length c.args.frames.now) c.is_empty.result c.is_empty.ensures c.if-is_empty.false in omega (arith, count, some))
+    c.new-table.ensures.items (c.in-Ok.ensures.text p are) (let is = c.in-Ok-try_from.ensures.1 in let len = c.len.ensures in omega (arith, is, len))
     c.in_ok-put_header.ensures (c.in_ok-put_bytes.ensures.ok ∙ ap (λ (l : List ℕ). c.put_header.new.into.items ++ l) c.deref.ensures.value)

@@ -16,7 +16,7 @@ frame_numbers-requires-clause-within c = frames_inside c.args.body.now c.deref.r
 pub first_unguarded-requires-clause-small : goal.first_unguarded-requires-clause-small
 first_unguarded-requires-clause-small c =
     let few = few_walked c.args.names.now c.walk_body.new.names c.args.body.now c.keeps_states.result c.in_ok-walked.walked.count
-            c.in_ok-walked.walked.states.items c.requires.body c.in_ok-walked.ensures.walk in
+    c.in_ok-walked.walked.states.items c.requires.body c.in_ok-walked.ensures.walk in
     omega (arith, few)
 
 pub first_unguarded-requires-clause-states : goal.first_unguarded-requires-clause-states
@@ -31,21 +31,21 @@ pub returns-then-place-len-clause-answer : goal.returns-then-place-len-clause-an
 returns-then-place-len-clause-answer c =
     let missing : IsNowhere (IsMissing c.args.body.now) = search rules in
     let first = same_guard c.args.body.now c.in_ok-walked.walked.states.items c.deref-4.result.now c.deref-5.result.now c.deref-7.result.now
-            c.from-slots.result c.in_ok-walked.walked.count c.in_ok-place-2.place
+    c.from-slots.result c.in_ok-walked.walked.count c.in_ok-place-2.place
     c.deref-4.ensures.value c.deref-5.ensures c.deref-7.ensures c.from-slots.ensures c.in_ok-place-2.ensures in
     subst (λ (e : Fail Refusal). Said e (IsKindRefusal c.walk_body.new.names c.args.body.now)) (sym c.refused-then-place-len.ensures)
     (clash_refused c.walk_body.new.names c.args.body.now c.in_ok-place-2.place
     (clash_answered_at c.args.names.now c.walk_body.new.names c.args.body.now c.keeps_states.result c.in_ok-walked.walked.count
-        c.in_ok-walked.walked.states.items c.in_ok-place-2.place c.requires.body missing c.requires.frames
+    c.in_ok-walked.walked.states.items c.in_ok-place-2.place c.requires.body missing c.requires.frames
     c.in_ok-walked.ensures.walk c.keeps_states.ensures.rows first (search rules)))
 
 pub returns-clause-answer : goal.returns-clause-answer
 returns-clause-answer c =
     let missing : IsNowhere (IsMissing c.args.body.now) = search rules in
     let first = same_guard c.args.body.now c.in_ok-walked.walked.states.items c.deref-4.result.now c.deref-5.result.now c.deref-7.result.now
-            c.from-slots.result c.in_ok-walked.walked.count c.in_ok-place-2.place
+    c.from-slots.result c.in_ok-walked.walked.count c.in_ok-place-2.place
     c.deref-4.ensures.value c.deref-5.ensures c.deref-7.ensures c.from-slots.ensures c.in_ok-place-2.ensures in
     let passed = states_answered_all c.args.names.now c.walk_body.new.names c.args.body.now c.keeps_states.result c.in_ok-walked.walked.count
-            c.in_ok-walked.walked.states.items c.in_ok-place-2.place c.requires.body missing
+    c.in_ok-walked.walked.states.items c.in_ok-place-2.place c.requires.body missing
     c.requires.frames c.in_ok-walked.ensures.walk c.keeps_states.ensures.rows first (search rules) in
     (passed.0, λ wanted. passed.1 (c.keeps_states.ensures.wanted wanted))

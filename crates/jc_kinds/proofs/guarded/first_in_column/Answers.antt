@@ -19,4 +19,4 @@ looking-preserved c =
     next_group column frames c.args.slot c.args.groups.now c.looking.rows-index c.args.bound c.looking.first c.first_in_group-first.result c.rows-item.result c.looking-test.true c.rows-item.is
     c.looking.invariant
     (subst (λ (rows : List Handler). IsFirstOrBound (IsUnfitInColumn column frames c.args.slot rows) c.looking.first c.first_in_group-first.result)
-        c.deref.ensures.value c.first_in_group-first.ensures)
+    c.deref.ensures.value c.first_in_group-first.ensures)

@@ -14,7 +14,7 @@ marking-preserved c =
     let h = get_or c.args.handlers.now c.marking.handler-index d in
     let inside : h.target < length c.marking.marks =
     let lt = All-get_or (λ g. g.target < length c.args.marks.now) c.args.handlers.now c.marking.handler-index d c.marking-test.true c.requires in
-        let s = c.marking.auto.marks in omega (arith, lt, s) in
+    let s = c.marking.auto.marks in omega (arith, lt, s) in
     marks_next (λ j g. nat_eq g.target j) c.args.handlers.now c.marking.handler-index h d c.args.marks.now c.marking.marks (set c.marking.marks h.target true) c.marking-test.true refl
     c.marking.invariant (marks_one c.marking.marks (set c.marking.marks h.target true) h.target (λ j. nat_eq h.target j) inside refl (λ j. nat_eq_equiv.symm h.target j))
 

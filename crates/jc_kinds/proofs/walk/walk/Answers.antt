@@ -10,7 +10,7 @@ use Rattle.jc_kinds.proofs.walk.walk.Goals as goal
 pub returns-in-None-clause-walk : goal.returns-in-None-clause-walk
 returns-in-None-clause-walk c =
     first_not c.args.names.now c.args.body.now c.args.keeps c.deref.result.now c.args.entry c.in_ok-first.field-0 c.in_ok-states.states.items
-        c.requires.entry c.deref.ensures c.in_ok-first.ensures c.in-None.is c.in_ok-states.ensures
+    c.requires.entry c.deref.ensures c.in_ok-first.ensures c.in-None.is c.in_ok-states.ensures
 
 pub walking-init : goal.walking-init
 walking-init c = record {
@@ -31,7 +31,7 @@ step-requires-clause-frames c = frames_numbered (length c.args.names.now) (lengt
 pub returns-in-None-2-clause-walk : goal.returns-in-None-2-clause-walk
 returns-in-None-2-clause-walk c =
     walk_stops c.args.names.now c.walking.names c.step.new.names c.args.body.now c.args.keeps c.walking.states.items c.walking.at c.walking.state
-        c.requires.made c.requires.missing c.requires.frames (search rules)
+    c.requires.made c.requires.missing c.requires.frames (search rules)
     c.walking.invariant.walking c.in_ok-next.ensures.names
     (subst (Steps c.walking.names c.step.new.names c.args.body.now c.walking.at c.walking.state) c.in-None-2.is c.in_ok-next.ensures.steps)
 

@@ -1,7 +1,7 @@
 use Rattle.std.proofs.Common.{◌<◌, length, sym, subst, IfOk, IfSome}
 use Rattle.jc_methods.specs.declared.body.Body.{Body}
+use Rattle.jc_methods.proofs.MetNamesLaws.{grows_both}
 use Rattle.jc_kinds_after.specs.Answers.{IsStateOf, IsWhole}
-use Rattle.jc_kinds_after.proofs.DoesLaws.{grown_twice}
 use Rattle.jc_kinds_after.proofs.EffectsLaws.{of_body, state_later}
 use Rattle.jc_kinds_after.proofs.state_after.after.Goals as goal
 
@@ -26,4 +26,4 @@ returns-clause-whole c = subst (λ (b : Body). IfOk c.after.result (λ o. IfSome
     c.in_ok-effects.ensures.body c.after.ensures.whole
 
 pub returns-clause-names : goal.returns-clause-names
-returns-clause-names c = grown_twice c.args.names.now c.of.new.names c.after.new.names c.of.ensures.names c.after.ensures.names
+returns-clause-names c = grows_both c.args.names.now c.of.new.names c.after.new.names c.of.ensures.names c.after.ensures.names

@@ -1,8 +1,8 @@
 use Rattle.std.proofs.Common.{List, take, sym, subst, ap, ◌∙◌, ◌∷◌, [], ◌++◌}
 use Rattle.std.proofs.lemmas.List.{take_more}
 use Rattle.jc_methods.specs.declared.body.Use.{Use}
+use Rattle.jc_methods.proofs.MetNamesLaws.{grows_both}
 use Rattle.jc_kinds_after.specs.Does.{AllSay}
-use Rattle.jc_kinds_after.proofs.DoesLaws.{grown_twice}
 use Rattle.jc_kinds_after.proofs.uses.all_effects.Goals as goal
 
 pub reading-preserved : goal.reading-preserved
@@ -12,5 +12,5 @@ reading-preserved c =
     record {
       said = subst (λ (us : List Use). AllSay c.add_effect.new.names us c.add_effect.new.effects) (sym more)
           (c.in_ok-add_effect.ensures.effects (take i uses) c.reading.invariant.said);
-      grown = grown_twice _ _ _ c.reading.invariant.grown c.add_effect.ensures.names;
+      grown = grows_both _ _ _ c.reading.invariant.grown c.add_effect.ensures.names;
     }

@@ -25,7 +25,7 @@ owning-preserved c =
           c.owning.invariant here (ap (option_map (λ (p : ProbeInit). p.id)) w.in-Some.is) (sym w.in-None.ensures.value) (λ q. w.in_ok-insert-in-None.ensures.updates.0 q))
       | in_default w ↦ rw w.owners-is
           (known_without id_of c.args.classes.now (IsOwner (get nat_eq c.owning.owners)) c.owning.second c.index-classes-second.result
-            c.owning.invariant here (search rules))
+          c.owning.invariant here (search rules))
     ]
 
 pub returns : goal.returns

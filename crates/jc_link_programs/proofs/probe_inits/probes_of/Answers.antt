@@ -1,10 +1,8 @@
 use Rattle.std.proofs.Common.{◌≡◌, ◌∙◌, Option, Some, None, refl, subst, sym}
 use Rattle.std.specs.Prelude.{IfNone}
+use Rattle.jc_bytes.proofs.OptionLaws.{some_is}
 use Rattle.jc_link_programs.specs.ProbeInits.{CodeAsks}
 use Rattle.jc_link_programs.proofs.probe_inits.probes_of.Goals as goal
-
-some_is : {X : Type 0} {x y : X} → Some x ≡ Some y → x ≡ y
-some_is e = cc
 
 when_none : {X : Type 0} (P : Type 0) (o : Option X) → ((x : X) → o ≡ Some x → ⊥) → IfNone o P → P
 when_none P None none is = is

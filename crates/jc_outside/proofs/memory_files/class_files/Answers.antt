@@ -12,4 +12,4 @@ pub returns-clause-sorted : goal.returns-clause-sorted
 returns-clause-sorted c =
     let ordered = c.keys-path-items.ensures.ordered in
     listed_in_order (is_class_file c.args.front.now) c.args.files.now _ ordered
-        (listed (is_class_file c.args.front.now) c.args.files.now _ _ ordered (rest_all deref _ _ _ c.in-None.is c.next.ensures.steps) c.listing.invariant)
+    (listed (is_class_file c.args.front.now) c.args.files.now _ _ ordered (rest_all deref _ _ _ c.in-None.is c.next.ensures.steps) c.listing.invariant)

@@ -16,13 +16,22 @@ use Rattle.jc_plan.proofs.PlanningLaws.{few_probes, outs_here, next_here, planne
 use Rattle.jc_plan.proofs.planning.plan.Goals as goal
 
 pub planning-init : goal.planning-init
-planning-init c = record { taken = none_first c.args.body.now c.args.first; leads = c.from_vec-lead.ensures ∙ c.in_ok-with_capacity.ensures.items;
-    outs = c.from_vec-out.ensures ∙ c.in_ok-with_capacity-2.ensures.items }
+planning-init c = record {
+  taken = none_first c.args.body.now c.args.first;
+  leads = c.from_vec-lead.ensures ∙ c.in_ok-with_capacity.ensures.items;
+  outs = c.from_vec-out.ensures ∙ c.in_ok-with_capacity-2.ensures.items;
+}
 
 pub index-requires : goal.index-requires
 index-requires c =
-    omega (arith, c.in_ok-probed.probed.ok.0, ap length c.in_ok-probed.ensures, length_mapped (λ i. is_probed_way c.args.body.now (Falls i)) 0
-        (length c.args.body.now.code), ap length c.deref-insn-items.ensures)
+    omega (
+      arith,
+      c.in_ok-probed.probed.ok.0,
+      ap length c.in_ok-probed.ensures,
+      length_mapped (λ i. is_probed_way c.args.body.now (Falls i)) 0
+          (length c.args.body.now.code),
+      ap length c.deref-insn-items.ensures,
+    )
 
 pub take_id-requires : goal.take_id-requires
 take_id-requires c =

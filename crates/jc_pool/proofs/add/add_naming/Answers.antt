@@ -12,4 +12,4 @@ returns-in-Some-clause-ok c = inl (
 pub put_naming-requires-clause-new : goal.put_naming-requires-clause-new
 put_naming-requires-clause-new c =
     naming_missing c.args.kind c.args.slots.now.items c.args.index.now c.args.text.now c.text_place-named.result c.naming_place.result
-        c.requires.index c.text_place-named.ensures c.naming_place.ensures c.in_default.is
+    c.requires.index c.text_place-named.ensures c.naming_place.ensures c.in_default.is

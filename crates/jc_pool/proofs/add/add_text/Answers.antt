@@ -27,4 +27,4 @@ returns-clause-pool c =
     let put : IsPut c.args.slots.now.items c.put_text.new.slots.items (entry.Utf8 c.args.text.now) c.in_ok-put_text.field-0 = rw c.in_ok-take_room.ensures.kept at c.in_ok-put_text.ensures.put in
     let size = ap length put.grown ∙ grown_length c.args.slots.now.items (entry.Utf8 c.args.text.now) in
     utf8_pool c.args.slots.now.items c.put_text.new.slots.items c.args.text.now c.in_ok-put_text.field-0 c.requires.short
-        (omega (arith, size, c.in_ok-take_room.ensures.fits)) (returns-clause-ok c) c.requires.pool
+    (omega (arith, size, c.in_ok-take_room.ensures.fits)) (returns-clause-ok c) c.requires.pool

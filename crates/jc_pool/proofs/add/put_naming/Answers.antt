@@ -16,7 +16,7 @@ returns-clause-pool c =
     let has : HasUtf8 c.args.slots.now.items c.args.text.now c.put_name.new.slots.items c.in_ok-at.at = rw c.in_ok-take_room.ensures.kept at c.in_ok-at.ensures.has in
     let put = subst (λ (e : Entry). IsPut c.put_name.new.slots.items c.put_entry.new.slots.items e c.put_entry.result) c.entry.ensures c.put_entry.ensures.put in
     naming_pool c.args.kind c.args.slots.now.items c.put_name.new.slots.items c.put_entry.new.slots.items c.args.text.now c.in_ok-at.at
-        c.put_entry.result c.requires.short c.in_ok-at.ensures.few has put c.requires.pool
+    c.put_entry.result c.requires.short c.in_ok-at.ensures.few has put c.requires.pool
 
 pub returns-clause-ok : goal.returns-clause-ok
 returns-clause-ok c =

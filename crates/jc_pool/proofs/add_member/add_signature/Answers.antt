@@ -23,7 +23,7 @@ returns-in_err-take_room-clause-extends c =
     let named = c.add_text.new.slots.items in
     let described = c.add_text-2.new.slots.items in
     let more = extends_more old named described (utf8_extends old named c.args.name.now c.in_ok-name.name c.in_ok-name.ensures.ok)
-            (utf8_extends named described c.args.desc.now c.in_ok-descriptor.descriptor c.in_ok-descriptor.ensures.ok) in
+    (utf8_extends named described c.args.desc.now c.in_ok-descriptor.descriptor c.in_ok-descriptor.ensures.ok) in
     extends_more old described c.take_room.new.slots.items more (same_extends described c.take_room.new.slots.items c.in_err-take_room.ensures.kept)
 
 pub returns-in_err-reserve-clause-extends : goal.returns-in_err-reserve-clause-extends
@@ -32,14 +32,14 @@ returns-in_err-reserve-clause-extends c =
     let named = c.add_text.new.slots.items in
     let described = c.add_text-2.new.slots.items in
     let more = extends_more old named described (utf8_extends old named c.args.name.now c.in_ok-name.name c.in_ok-name.ensures.ok)
-            (utf8_extends named described c.args.desc.now c.in_ok-descriptor.descriptor c.in_ok-descriptor.ensures.ok) in
+    (utf8_extends named described c.args.desc.now c.in_ok-descriptor.descriptor c.in_ok-descriptor.ensures.ok) in
     extends_more old described c.take_room.new.slots.items more (same_extends described c.take_room.new.slots.items c.in_ok-take_room.ensures.kept)
 
 pub returns-clause-ok : goal.returns-clause-ok
 returns-clause-ok c =
     let index = c.args.index.now in
     let put = subst (λ (l : PoolValue). IsPut l c.put_entry.new.slots.items (entry.NameAndType c.in_ok-name.name c.in_ok-descriptor.descriptor)
-            c.put_entry.result) c.in_ok-take_room.ensures.kept c.put_entry.ensures.put in
+    c.put_entry.result) c.in_ok-take_room.ensures.kept c.put_entry.ensures.put in
     inr (
       signature_missing c.args.slots.now.items (text_place index.texts.entries (λ x. x.items)) index.firsts.items (key_place index.keys.entries) c.requires.index.tables
           (record { name = c.args.name.now; desc = c.args.desc.now }) c.text_place-named.result c.text_place-described.result (sym c.text_place-named.ensures) (sym c.text_place-described.ensures)

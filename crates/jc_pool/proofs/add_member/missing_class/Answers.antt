@@ -4,7 +4,7 @@ use Rattle.jc_pool.proofs.add_member.missing_class.Goals as goal
 pub returns-in-Some-default-clause-classed : goal.returns-in-Some-default-clause-classed
 returns-in-Some-default-clause-classed c =
     class_there c.args.slots.now c.args.index.now c.args.class.now c.text_place-named.result c.naming_place.result c.in-Some-default.field-0-0
-        c.requires c.text_place-named.ensures c.naming_place.ensures
+    c.requires c.text_place-named.ensures c.naming_place.ensures
     c.in-Some-default.is-0
 
 pub returns-in-None-Some-clause-classed : goal.returns-in-None-Some-clause-classed

@@ -15,7 +15,7 @@ returns-in_err-name_and_type-clause-extends c =
     let classed = c.add_naming.new.slots.items in
     let signed = c.add_signature.new.slots.items in
     let more = extends_more old classed signed
-            (has_naming_extends naming.Class old classed c.args.m.now.class.now c.in_ok-class.class c.in_ok-class.ensures.ok) c.in_err-name_and_type.ensures.extends in
+    (has_naming_extends naming.Class old classed c.args.m.now.class.now c.in_ok-class.class c.in_ok-class.ensures.ok) c.in_err-name_and_type.ensures.extends in
     more
 
 pub returns-in_err-take_room-clause-extends : goal.returns-in_err-take_room-clause-extends
@@ -24,7 +24,7 @@ returns-in_err-take_room-clause-extends c =
     let classed = c.add_naming.new.slots.items in
     let signed = c.add_signature.new.slots.items in
     let more = extends_more old classed signed
-            (has_naming_extends naming.Class old classed c.args.m.now.class.now c.in_ok-class.class c.in_ok-class.ensures.ok) c.in_ok-name_and_type.ensures.extends in
+    (has_naming_extends naming.Class old classed c.args.m.now.class.now c.in_ok-class.class c.in_ok-class.ensures.ok) c.in_ok-name_and_type.ensures.extends in
     extends_more old signed c.take_room.new.slots.items more (same_extends signed c.take_room.new.slots.items c.in_err-take_room.ensures.kept)
 
 pub returns-in_err-reserve-clause-extends : goal.returns-in_err-reserve-clause-extends
@@ -33,14 +33,14 @@ returns-in_err-reserve-clause-extends c =
     let classed = c.add_naming.new.slots.items in
     let signed = c.add_signature.new.slots.items in
     let more = extends_more old classed signed
-            (has_naming_extends naming.Class old classed c.args.m.now.class.now c.in_ok-class.class c.in_ok-class.ensures.ok) c.in_ok-name_and_type.ensures.extends in
+    (has_naming_extends naming.Class old classed c.args.m.now.class.now c.in_ok-class.class c.in_ok-class.ensures.ok) c.in_ok-name_and_type.ensures.extends in
     extends_more old signed c.take_room.new.slots.items more (same_extends signed c.take_room.new.slots.items c.in_ok-take_room.ensures.kept)
 
 pub put_entry-requires-clause-within : goal.put_entry-requires-clause-within
 put_entry-requires-clause-within c =
     subst (λ (l : PoolValue). NamesWithin (length l) (Some c.entry_of.result)) (sym c.in_ok-take_room.ensures.kept)
     (put_within c.args.slots.now.items c.add_naming.new.slots.items c.add_signature.new.slots.items (member c.args.m.now) c.in_ok-class.class
-        c.in_ok-name_and_type.name_and_type c.entry_of.result c.entry_of.ensures
+    c.in_ok-name_and_type.name_and_type c.entry_of.result c.entry_of.ensures
     c.in_ok-class.ensures.ok c.in_ok-name_and_type.ensures.ok)
 
 pub returns-clause-pool : goal.returns-clause-pool
@@ -50,7 +50,7 @@ returns-clause-pool c =
     let textless = ap utf8_in c.entry_of.ensures ∙ member_textless c.args.m.now.tag c.in_ok-class.class c.in_ok-name_and_type.name_and_type in
     let put = subst (λ (l : PoolValue). IsPut l c.put_entry.new.slots.items last c.put_entry.result) c.in_ok-take_room.ensures.kept c.put_entry.ensures.put in
     number_pool c.add_signature.new.slots.items c.put_entry.new.slots.items last c.put_entry.result textless
-        (omega (arith, narrow, c.in_ok-take_room.ensures.fits)) put c.in_ok-name_and_type.ensures.pool
+    (omega (arith, narrow, c.in_ok-take_room.ensures.fits)) put c.in_ok-name_and_type.ensures.pool
 
 pub returns-clause-extends : goal.returns-clause-extends
 returns-clause-extends c =
@@ -58,6 +58,6 @@ returns-clause-extends c =
     let classed = c.add_naming.new.slots.items in
     let signed = c.add_signature.new.slots.items in
     let more = extends_more old classed signed
-            (has_naming_extends naming.Class old classed c.args.m.now.class.now c.in_ok-class.class c.in_ok-class.ensures.ok) c.in_ok-name_and_type.ensures.extends in
+    (has_naming_extends naming.Class old classed c.args.m.now.class.now c.in_ok-class.class c.in_ok-class.ensures.ok) c.in_ok-name_and_type.ensures.extends in
     let put = subst (λ (l : PoolValue). IsPut l c.put_entry.new.slots.items c.entry_of.result c.put_entry.result) c.in_ok-take_room.ensures.kept c.put_entry.ensures.put in
     extends_more old signed c.put_entry.new.slots.items more (put_extends signed c.put_entry.new.slots.items c.entry_of.result c.put_entry.result put)

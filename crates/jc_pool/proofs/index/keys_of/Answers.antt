@@ -10,5 +10,5 @@ reading-preserved c =
       ap (λ (k : ℕ). k + 1) c.reading.invariant.0,
       more_keys (key_at c.args.firsts.now pool) c.reading.slot-index (c.reading.slot-index + 1) c.reading.place (key_place c.reading.keys.entries) (key_place c.note_slot.new.keys.entries)
           (slot_key c.args.firsts.now c.slot-item.result) (key_there c.args.firsts.now pool c.reading.slot-index c.slot-item.result at)
-              c.reading.invariant.0 refl c.in_ok-note_slot.ensures c.reading.invariant.1,
+          c.reading.invariant.0 refl c.in_ok-note_slot.ensures c.reading.invariant.1,
     )

@@ -11,7 +11,7 @@ reading-preserved c =
     let told = c.in_ok-note_slot.ensures in
     let within = c.if-not-branch.false in
     one_more_read c.args.slots.now c.args.firsts.now c.reading.place (key_place c.reading.keys.entries) (key_place c.note_slot.new.members.entries)
-        (told.within within) (told.noted within) c.reading.invariant
+    (told.within within) (told.noted within) c.reading.invariant
 
 pub returns : goal.returns
 returns c = λ _. all_read c.args.slots.now c.args.firsts.now c.reading.place (key_place c.reading.keys.entries) (omega arith) c.reading.invariant

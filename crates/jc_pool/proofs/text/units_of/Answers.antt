@@ -7,7 +7,7 @@ pub reading-preserved : goal.reading-preserved
 reading-preserved c =
     let small : c.in-Some.unit < 2 ^ 16 = search rules in
     one_more c.args.modified.now c.reading.units.items c.push.new.self.items c.reading.rest.now c.in-Some.after.now c.in-Some.unit
-        c.in_ok-push.ensures.items small c.in-Some.ensures.unit c.reading.invariant
+    c.in_ok-push.ensures.items small c.in-Some.ensures.unit c.reading.invariant
 
 pub returns-else-is_empty : goal.returns-else-is_empty
 returns-else-is_empty c =

@@ -10,7 +10,7 @@ put_slot-requires c = next_small c.args.slots.now c.writing.slot-index c.slot-it
 pub writing-preserved : goal.writing-preserved
 writing-preserved c =
     writes_more c.args.slots.now c.writing.slot-index c.slot-item.result c.args.into.now.items c.writing.into.items c.put_slot.new.into.items
-        c.writing-test.true c.slot-item.is c.in_ok-put_slot.ensures c.writing.invariant
+    c.writing-test.true c.slot-item.is c.in_ok-put_slot.ensures c.writing.invariant
 
 pub returns : goal.returns
 returns c = all_written c.args.slots.now c.writing.slot-index c.args.into.now.items c.writing.into.items c.writing-test.false c.writing.invariant

@@ -7,5 +7,5 @@ put_slots-requires c = rw c.slots.ensures.slots (pool_small c.args.pool.now c.sl
 pub returns : goal.returns
 returns c =
     pool_written c.slots.result.now c.args.pool.now c.count.result c.new-text.result.items c.put_u16.new.into.items c.put_slots.new.into.items
-        c.new-text.ensures.items c.slots.ensures.slots c.count.ensures c.slots.ensures.pool
+    c.new-text.ensures.items c.slots.ensures.slots c.count.ensures c.slots.ensures.pool
     c.in_ok-put_u16.ensures.ok c.in_ok-put_slots.ensures

@@ -11,7 +11,7 @@ pub words-preserved : goal.words-preserved
 words-preserved c = (
   c.words.invariant.0
       ∙ all_next (thread_number c.args.threads) (words_of c.words.rest.now) (words_of c.in-Some.after.now) c.in-Some.word.now c.words.turns
-          c.in-Some-thread_number.thread c.in-Some.ensures.words (sym c.in-Some-thread_number.ensures)
+      c.in-Some-thread_number.thread c.in-Some.ensures.words (sym c.in-Some-thread_number.ensures)
       ∙ ap (λ l. all_of l (turns_in c.args.threads (words_of c.in-Some.after.now))) (sym c.in_ok-push-in-Some-thread_number.ensures.ok),
   let n = length-append c.words.turns (c.in-Some-thread_number.thread ∷ []) in
       rw c.in_ok-push-in-Some-thread_number.ensures.ok (omega (arith, n, c.len.ensures, c.if-len.false)),
@@ -25,7 +25,7 @@ returns-then-len c =
 pub returns-in-None : goal.returns-in-None
 returns-in-None c =
     ap few_turns (c.words.invariant.0 ∙ all_stop (thread_number c.args.threads) (words_of c.words.rest.now) (words_of c.in-Some.after.now)
-        c.in-Some.word.now c.words.turns c.in-Some.ensures.words (sym c.in-None.ensures))
+    c.in-Some.word.now c.words.turns c.in-Some.ensures.words (sym c.in-None.ensures))
 
 pub returns : goal.returns
 returns c =

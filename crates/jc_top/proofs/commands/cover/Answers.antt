@@ -31,7 +31,7 @@ returns-in-Err-list_files g c =
     (ends_before F.landed (files_of k.files) (λ paths. covering k c.in-Ok.text paths) _ _ _ _ _ _ (stop_seen c.in-Err-list_files.stop) c.report-in-Err-list_files.result
     (c.in-Err-list_files.ensures.does (O.told c.args.out.now) (E.told c.args.err.now) (O.faults c.args.out.now) (E.faults c.args.err.now))
     (c.report-in-Err-list_files.ensures (F.contents c.list_files.new.files) (O.told c.args.out.now) (F.read_faults c.list_files.new.files)
-        (F.write_faults c.list_files.new.files) (O.faults c.args.out.now)))
+    (F.write_faults c.list_files.new.files) (O.faults c.args.out.now)))
 
 pub returns-in-Err-all_in_folder : goal.returns-in-Err-all_in_folder
 returns-in-Err-all_in_folder g c =

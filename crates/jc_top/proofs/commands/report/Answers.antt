@@ -16,7 +16,7 @@ returns-in-Ok g c =
     let path = c.in-Some.path.now in
     rw c.in-Some.is
     (ends_behind g.F.Files.landed (reading path)
-        (λ text. reporting c.args.csv.now c.args.name.now (Some path) (text ∷ []) (map file_view c.args.words.now)) _ _ c.in-Ok.bytes _ _ _ _ c.report_files-in-Ok.result
+    (λ text. reporting c.args.csv.now c.args.name.now (Some path) (text ∷ []) (map file_view c.args.words.now)) _ _ c.in-Ok.bytes _ _ _ _ c.report_files-in-Ok.result
     (c.in-Ok.ensures.does (O.told c.args.out.now) (E.told c.args.err.now) (O.faults c.args.out.now) (E.faults c.args.err.now)) c.report_files-in-Ok.ensures)
 
 pub returns-in-Err : goal.returns-in-Err
@@ -27,6 +27,6 @@ returns-in-Err g c =
     let path = c.in-Some.path.now in
     rw c.in-Some.is
     (ends_before F.landed (reading path)
-        (λ text. reporting c.args.csv.now c.args.name.now (Some path) (text ∷ []) (map file_view c.args.words.now)) _ _ _ _ _ _ (stop_seen c.in-Err.stop) c.report.result
+    (λ text. reporting c.args.csv.now c.args.name.now (Some path) (text ∷ []) (map file_view c.args.words.now)) _ _ _ _ _ _ (stop_seen c.in-Err.stop) c.report.result
     (c.in-Err.ensures.does (O.told c.args.out.now) (E.told c.args.err.now) (O.faults c.args.out.now) (E.faults c.args.err.now))
     (c.report.ensures (F.contents c.read_one.new.files) (O.told c.args.out.now) (F.read_faults c.read_one.new.files) (F.write_faults c.read_one.new.files) (O.faults c.args.out.now)))

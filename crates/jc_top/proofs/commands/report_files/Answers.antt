@@ -12,8 +12,8 @@ returns-in-Err g c =
     let O = g.O.Sink in
     let E = g.E.Sink in
     unlisted_ends F.landed (map file_view c.args.words.now)
-        (λ paths read. ReportAnswers c.args.csv.now c.args.name.now (exec_path c.args.exec) paths
-          (exec_texts c.args.exec ++ read)) _ _ _ _ _ _ (stop_seen c.in-Err.stop) c.report.result
+    (λ paths read. ReportAnswers c.args.csv.now c.args.name.now (exec_path c.args.exec) paths
+    (exec_texts c.args.exec ++ read)) _ _ _ _ _ _ (stop_seen c.in-Err.stop) c.report.result
     (c.in-Err.ensures.does (O.told c.args.out.now) (E.told c.args.err.now) (O.faults c.args.out.now) (E.faults c.args.err.now))
     (c.report.ensures (F.contents c.list_files.new.files) (O.told c.args.out.now) (F.read_faults c.list_files.new.files) (F.write_faults c.list_files.new.files) (O.faults c.args.out.now))
 
@@ -25,11 +25,11 @@ returns g c =
     let paths = words_of c.in-Ok.paths.items in
     let listed = words_of c.deref.result.now in
     listed_ends F.landed (map file_view c.args.words.now)
-        (λ paths read. ReportAnswers c.args.csv.now c.args.name.now (exec_path c.args.exec) paths (exec_texts c.args.exec ++ read)) _ _ paths _ _ _ _ c.complete.result
+    (λ paths read. ReportAnswers c.args.csv.now c.args.name.now (exec_path c.args.exec) paths (exec_texts c.args.exec ++ read)) _ _ paths _ _ _ _ c.complete.result
     (c.in-Ok.ensures.does (O.told c.args.out.now) (E.told c.args.err.now) (O.faults c.args.out.now) (E.faults c.args.err.now))
     (ends_same F.landed (λ _ ps read. ReportAnswers c.args.csv.now c.args.name.now (exec_path c.args.exec) ps (exec_texts c.args.exec ++ read)) []
-        [] listed paths refl (ap words_of c.deref.ensures.value) _ _ _ _ c.complete.result
+    [] listed paths refl (ap words_of c.deref.ensures.value) _ _ _ _ c.complete.result
     (completed F.landed listed
-        (λ read. ReportAnswers c.args.csv.now c.args.name.now (exec_path c.args.exec) listed
-          (exec_texts c.args.exec ++ read)) _ _ _ _ _ _ c.prepare_report-prepared.result c.complete.result
+    (λ read. ReportAnswers c.args.csv.now c.args.name.now (exec_path c.args.exec) listed
+    (exec_texts c.args.exec ++ read)) _ _ _ _ _ _ c.prepare_report-prepared.result c.complete.result
     (c.prepare_report-prepared.ensures (O.told c.args.out.now) (E.told c.args.err.now) (O.faults c.args.out.now) (E.faults c.args.err.now)) c.complete.ensures))

@@ -28,10 +28,10 @@ returns-in-Err-list_files g c =
     ends_behind F.landed (reading plan) rest _ _ c.in-Ok.text _ _ _ _ c.report-in-Err-list_files.result
     (c.in-Ok.ensures.does (O.told c.args.out.now) (E.told c.args.err.now) (O.faults c.args.out.now) (E.faults c.args.err.now))
     (unlisted_ends F.landed (map file_view c.args.words.now)
-        (λ paths read. RunAnswers plan c.args.destfile.now paths (c.in-Ok.text ∷ read)) _ _ _ _ _ _ (stop_seen c.in-Err-list_files.stop) c.report-in-Err-list_files.result
+    (λ paths read. RunAnswers plan c.args.destfile.now paths (c.in-Ok.text ∷ read)) _ _ _ _ _ _ (stop_seen c.in-Err-list_files.stop) c.report-in-Err-list_files.result
     (c.in-Err-list_files.ensures.does (O.told c.args.out.now) (E.told c.args.err.now) (O.faults c.args.out.now) (E.faults c.args.err.now))
     (c.report-in-Err-list_files.ensures (F.contents c.list_files.new.files) (O.told c.args.out.now) (F.read_faults c.list_files.new.files)
-        (F.write_faults c.list_files.new.files) (O.faults c.args.out.now)))
+    (F.write_faults c.list_files.new.files) (O.faults c.args.out.now)))
 
 pub returns : goal.returns
 returns g c =

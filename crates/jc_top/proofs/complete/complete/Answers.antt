@@ -13,4 +13,4 @@ returns g c =
     rw c.in-Ok.is
     (wrote_some F.landed c.deref.result.now c.in-Ok.writes.items c.deref.ensures.value _ _ _ _ _ _ (stop_seen c.in-Err-write_all.stop) c.report-in-Err-write_all.result c.in-Err-write_all.ensures.does
     (c.report-in-Err-write_all.ensures (F.contents c.write_all.new.files) (O.told c.write_all.new.out) (F.read_faults c.write_all.new.files)
-        (F.write_faults c.write_all.new.files) (O.faults c.write_all.new.out)))
+    (F.write_faults c.write_all.new.files) (O.faults c.write_all.new.out)))

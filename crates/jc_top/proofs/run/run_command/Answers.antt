@@ -12,7 +12,7 @@ pub returns-in-Merge : goal.returns-in-Merge
 returns-in-Merge g c =
     rw c.in-Merge.is
     (ends_same g.F.Files.landed (λ _. MergeAnswers c.in-Merge.destfile.now) [] [] (texts_of c.deref-in-Merge.result.now)
-        (texts_of c.in-Merge.inputs.items) refl (ap texts_of c.deref-in-Merge.ensures.value)
+    (texts_of c.in-Merge.inputs.items) refl (ap texts_of c.deref-in-Merge.ensures.value)
     _ _ _ _ c.merge.result c.merge.ensures)
 
 pub returns-in-ExecInfo : goal.returns-in-ExecInfo
@@ -32,7 +32,7 @@ returns-in-Cover g c =
     let k = c.in-Cover in
     rw c.in-Cover.is
     (ends_on g.F.Files.landed (λ files. work_of (cover k.dest.now k.plan.now k.destfile.now k.csv.now k.workers k.name.now files))
-        (map file_view c.deref-in-Cover.result.now) (map file_view k.words.items)
+    (map file_view c.deref-in-Cover.result.now) (map file_view k.words.items)
     (ap (map file_view) c.deref-in-Cover.ensures.value) _ _ _ _ c.cover.result c.cover.ensures)
 
 pub returns-in-CoverSample : goal.returns-in-CoverSample

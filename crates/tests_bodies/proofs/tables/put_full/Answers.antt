@@ -1,4 +1,4 @@
-use Rattle.std.proofs.Common.{ℕ, ◌+◌, ◌<◌, List, length, sym, subst, arith}
+use Rattle.std.proofs.Common.{ℕ, List, length, sym, subst, arith}
 use Rattle.jc_base.specs.declared.FrameAt.{FrameAt}
 use Rattle.jc_frames.specs.FullTable.{CanBeWritten}
 use Rattle.jc_frames.proofs.WrittenLaws.{can_be_written}

@@ -12,8 +12,11 @@ use Rattle.jc_emit.proofs.frames.Framing.put_arms_at.Goals as goal
 pub overflow_add-first : goal.overflow_add-first
 overflow_add-first c =
     let framing = c.requires.framing in
-    omega (arith, image_small framing.0 c.args.self.now framing.1 c.args.self.now.places.now.images.items c.args.at c.index.result.now
-        (λ k. c.args.self.now.places.now.images.items) c.index.ensures c.requires.at)
+    omega (
+      arith,
+      image_small framing.0 c.args.self.now framing.1 c.args.self.now.places.now.images.items c.args.at c.index.result.now
+          (λ k. c.args.self.now.places.now.images.items) c.index.ensures c.requires.at,
+    )
 
 pub bounds-deref-at-in-Switches : goal.bounds-deref-at-in-Switches
 bounds-deref-at-in-Switches c =
@@ -26,7 +29,7 @@ put_arms-requires c =
     let images = f.places.now.images.items in
     let ids = switch_read framing.0 f framing.1 c.deref.result.now c.deref-in-Switches.result.now c.args.at c.index-deref-at.result c.index-deref-at-in-Switches.result
     c.deref-in-Switches-2.result.now c.deref.ensures c.index-deref-at.is c.deref-in-Switches.ensures c.index-deref-at-in-Switches.is c.requires.at
-        (sym c.in-Switches.ensures) c.deref-in-Switches-2.ensures in
+    (sym c.in-Switches.ensures) c.deref-in-Switches-2.ensures in
     switch_small framing.0 f framing.1 c.args.at c.index.result.now images c.deref-in-Switches-2.result.now (λ k. images) c.index.ensures c.requires.at ids
 
 pub returns-in_ok-put_arms-in-Switches : goal.returns-in_ok-put_arms-in-Switches
@@ -37,7 +40,7 @@ returns-in_ok-put_arms-in-Switches c = λ first is.
     let images = f.places.now.images.items in
     let ids = switch_read first f is c.deref.result.now c.deref-in-Switches.result.now c.args.at c.index-deref-at.result c.index-deref-at-in-Switches.result
     c.deref-in-Switches-2.result.now c.deref.ensures c.index-deref-at.is c.deref-in-Switches.ensures c.index-deref-at-in-Switches.is c.requires.at
-        (sym c.in-Switches.ensures) c.deref-in-Switches-2.ensures in
+    (sym c.in-Switches.ensures) c.deref-in-Switches-2.ensures in
     let place = table_read (image_of b first false) (length b.code) c.args.at c.index.result.now images images is.places.images c.requires.at (λ k. images) c.index.ensures in
     let insn = insn_read first f is c.deref.result.now c.args.at c.index-deref-at.result c.deref.ensures c.index-deref-at.is c.requires.at in
     let taken = c.operands.ensures ∙ ap operands_of insn in

@@ -7,8 +7,11 @@ use Rattle.jc_emit.proofs.frames.Framing.put_behind.Goals as goal
 pub overflow_add-behind : goal.overflow_add-behind
 overflow_add-behind c =
     let framing = c.requires.framing in
-    omega (arith, image_small framing.0 c.args.self.now framing.1 c.args.self.now.places.now.images.items c.args.at c.index.result.now
-        (λ k. c.args.self.now.places.now.images.items) c.index.ensures c.requires.at)
+    omega (
+      arith,
+      image_small framing.0 c.args.self.now framing.1 c.args.self.now.places.now.images.items c.args.at c.index.result.now
+          (λ k. c.args.self.now.places.now.images.items) c.index.ensures c.requires.at,
+    )
 
 pub index-requires-in-None : goal.index-requires-in-None
 index-requires-in-None c =

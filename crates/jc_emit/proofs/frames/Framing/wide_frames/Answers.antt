@@ -6,4 +6,4 @@ pub framing-preserved : goal.framing-preserved
 framing-preserved c = λ first is.
     let f = c.args.self.now in
     piece_more (wide_frames_at f.body.now first f.states.now f.array) c.framing.at c.framing.frames.items c.put_wide_at.new.frames.items
-        (c.framing.invariant first is) (c.in_ok-put_wide_at.ensures first is)
+    (c.framing.invariant first is) (c.in_ok-put_wide_at.ensures first is)

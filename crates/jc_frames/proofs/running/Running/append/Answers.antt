@@ -23,5 +23,5 @@ returns-clause-values c names =
     let some = rw c.in-Some.is at said in
     ap (behind (held_values pool names c.args.self.now.values.items)) some
     ∙ sym (ap (λ (l : List Value). Rattle.std.proofs.Common.Some (held_values pool names l))
-        (c.in_ok-extend_from_slice.ensures.items ∙ ap (λ (l : List Value). c.args.self.now.values.items ++ l) c.deref-2.ensures.value)
+    (c.in_ok-extend_from_slice.ensures.items ∙ ap (λ (l : List Value). c.args.self.now.values.items ++ l) c.deref-2.ensures.value)
     ∙ ap Rattle.std.proofs.Common.Some (map-append (held_value pool names) c.args.self.now.values.items c.in-Some.more.items))

@@ -30,8 +30,8 @@ returns-then-not-branch-clause-says c names =
           unfit_nothing g b c.args.item.now (held_values g.pool names c.change.new.self.values.items) (held_values g.pool names c.in-Some-2.stack.items)
           (is_done (values_of g b c.args.item.now) c.in_ok-change.field-0 (held_values g.pool names c.change.new.self.values.items) values w.if-not-branch.false) stack
           (sym (w.fits.ensures names
-              ∙ ap (λ (l : List Value). fits_slots g (held_values g.pool names c.change.new.self.values.items) (held_values g.pool names l))
-              w.deref.ensures.value) ∙ w.if-not-fits.true)
+          ∙ ap (λ (l : List Value). fits_slots g (held_values g.pool names c.change.new.self.values.items) (held_values g.pool names l))
+          w.deref.ensures.value) ∙ w.if-not-fits.true)
     ]
 
 pub returns-clause-says : goal.returns-clause-says
@@ -46,8 +46,8 @@ returns-clause-says c names =
     (ap (λ (k : ℕ). c.args.self.now.base + k) (c.from.ensures ∙ c.delta.ensures)) refl c.in-Some.ensures.number c.in-Some.ensures.below
     (is_done (values_of g b c.args.item.now) c.in_ok-change.field-0 (held_values g.pool names c.change.new.self.values.items) values c.if-not-branch.false) stack
     (sym (c.fits.ensures names
-        ∙ ap (λ (l : List Value). fits_slots g (held_values g.pool names c.change.new.self.values.items) (held_values g.pool names l))
-        c.deref.ensures.value) ∙ c.if-not-fits.false)
+    ∙ ap (λ (l : List Value). fits_slots g (held_values g.pool names c.change.new.self.values.items) (held_values g.pool names l))
+    c.deref.ensures.value) ∙ c.if-not-fits.false)
 
 pub returns-clause-running : goal.returns-clause-running
 returns-clause-running c =

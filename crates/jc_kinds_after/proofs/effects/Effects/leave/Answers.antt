@@ -1,6 +1,6 @@
 use Rattle.std.proofs.Common.{refl, sym, ◌∙◌}
+use Rattle.jc_methods.proofs.MetNamesLaws.{grows_none}
 use Rattle.jc_kinds_after.specs.Effects.{body_of}
-use Rattle.jc_kinds_after.proofs.DoesLaws.{grown_here}
 use Rattle.jc_kinds_after.proofs.ApplyLaws.{insn_here, local_there, leave_step, leave_pick, leave_array}
 use Rattle.jc_kinds_after.proofs.EffectsLaws.{are_later, with_elements}
 use Rattle.jc_kinds_after.proofs.effects.Effects.leave.Goals as goal
@@ -40,7 +40,7 @@ returns-in_default c = record {
       c.requires.state.numbered
       (insn_here c.deref.result.now (body_of c.args.self.now).code c.args.i c.index-deref-i.result c.deref.ensures c.requires.place
       c.index-deref-i.is) c.step.ensures c.apply.ensures;
-  names = grown_here c.args.names.now;
+  names = grows_none c.args.names.now;
   effects = c.requires.effects;
   body = refl;
 }

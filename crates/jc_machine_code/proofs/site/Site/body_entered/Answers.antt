@@ -21,7 +21,7 @@ returns-then-may_name_method c = λ program at i linked site place index.
       b.max_locals,
       entered at c.args.callee linked (slice_get linked.bodies c.args.callee.method) b there enter
           (sym (c.may_name_method.ensures program at site place ∙ ap (may_name_method at c.args.callee.class) c.as_slice-then-is_enterable.ensures)
-            ∙ c.if-may_name_method.true),
+          ∙ c.if-may_name_method.true),
     )
 
 pub returns-else-is_enterable : goal.returns-else-is_enterable
@@ -35,6 +35,6 @@ returns-else-is_enterable c = λ program at i linked site place index.
     not_entered at c.args.callee linked (slice_get linked.bodies c.args.callee.method) b there (elim c.else-is_enterable.branch [
       | else-is_enterable-via-then-is_enterable+else-may_name_method w ↦ inr
           (sym (w.may_name_method.ensures program at site place ∙ ap (may_name_method at c.args.callee.class) w.as_slice-then-is_enterable.ensures)
-            ∙ w.if-may_name_method.false)
+          ∙ w.if-may_name_method.false)
       | else-is_enterable-via-else-is_enterable w ↦ inl (sym enter ∙ w.if-is_enterable.false)
     ])

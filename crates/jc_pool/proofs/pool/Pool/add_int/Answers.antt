@@ -20,7 +20,7 @@ returns-clause-ok c =
     subst (λ (v : ℤ). IfOk c.add_number-added.result (HasInteger c.args.self.now v new)) same
     (subst (λ (l : PoolValue). IfOk c.add_number-added.result (HasInteger l value new)) c.self.view_is
     (ok_as_one integer_of value (key_at firsts) (key.Integer value) old (IsPutAs old (entry.Integer value)) (integer_as_one old firsts value)
-        c.add_number-added.result new c.add_number-added.ensures.ok))
+    c.add_number-added.result new c.add_number-added.ensures.ok))
 
 pub returns-clause-full : goal.returns-clause-full
 returns-clause-full c =
@@ -31,7 +31,7 @@ returns-clause-full c =
     subst (λ (v : ℤ). RefusesFull (HasInteger c.args.self.now v) c.add_number-added.result) same
     (subst (λ (l : PoolValue). RefusesFull (HasInteger l value) c.add_number-added.result) c.self.view_is
     (full_as_one integer_of value (key_at firsts) (key.Integer value) old (IsPutAs old (entry.Integer value)) (integer_as_one old firsts value)
-        c.add_number-added.result c.add_number-added.ensures.full))
+    c.add_number-added.result c.add_number-added.ensures.full))
 
 pub returns-clause-extends : goal.returns-clause-extends
 returns-clause-extends c =

@@ -12,7 +12,7 @@ use Rattle.jc_workers.specs.Cases.{case_at, no_case, end_under}
 use Rattle.jc_workers.proofs.CaseLaws.{read, is_case, entries_at, as_many_threads, run_of, each_ok}
 use Rattle.jc_workers.proofs.plan_runner.PlanRunnerCaseRunner.run.Given.{Over}
 use Rattle.jc_workers.proofs.plan_runner.PlanRunnerCaseRunner.run.Goals as goal
-use Rattle.jc_workers.proofs.plan_runner.PlanRunnerCaseRunner.run.Goals.{After-deref-2, After-next, After-run}
+use Rattle.jc_workers.proofs.plan_runner.PlanRunnerCaseRunner.run.Goals.{After-deref-2, After-run}
 
 -- the case with the number
 case_is : (g : Over) (c : After-deref-2 g) → c.index-deref-case.result ≡ case_at c.args.self.now.plan.now c.args.case
