@@ -7,8 +7,8 @@ use jc_class::Attribute;
 use jc_pool::Pool;
 use std::alloc::Global;
 
-/// Whether the attribute has this name.
-fn has_name(pool: &Pool, name: &[u8], attribute: &Attribute) -> bool
+/// Whether the attribute has this name (JVM Specification 4.7).
+pub fn has_name(pool: &Pool, name: &[u8], attribute: &Attribute) -> bool
     ensures { result ≡ has_name pool.now name.now attribute.now }
 {
     match pool.utf8_at(attribute.name) {

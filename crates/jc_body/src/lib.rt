@@ -18,5 +18,6 @@ mod tables;
 mod texts;
 mod uses;
 
+pub use attributes::has_name;
 pub use laws::{each_method_has_one_answer, each_stack_map_has_frames_or_a_fault};
 pub use reading::read_body;

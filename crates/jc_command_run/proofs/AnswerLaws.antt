@@ -5,11 +5,11 @@ use Rattle.std.specs.Option.{option_map}
 use Rattle.std.proofs.lemmas.Option.{none-some}
 use Rattle.jc_run_plans.specs.Plans.{IsPlanText, FirstUnfit}
 use Rattle.jc_link_laws.specs.TwinFiles.{IsShortFile}
-use Rattle.jc_link_laws.proofs.PlaceLaws.{class_at}
 use Rattle.jc_link_laws.proofs.SomeProgramLaws.{program_or_reason}
 use Rattle.jc_link_programs.specs.Linking.{IsProgramOf, IsLinkRefusal, refused, one_name, one_id}
 use Rattle.jc_link_programs.specs.declared.link_refusal.LinkRefusal.{LinkRefusal}
 use Rattle.jc_link_programs.specs.declared.link_refusal.LinkRefusal.TheVariants as refusals
+use Rattle.jc_link_programs.proofs.AnswerLaws.{class_at}
 use Rattle.jc_programs.specs.declared.program.Program.{Program}
 use Rattle.jc_programs.specs.declared.program.ProbeInit.{ProbeInit}
 use Rattle.jc_programs.specs.declared.run_plan.RunPlan.{RunPlan}

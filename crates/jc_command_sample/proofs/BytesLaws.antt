@@ -5,7 +5,7 @@ use Rattle.std.specs.List.{flat_map, range_with_len}
 use Rattle.std.proofs.lemmas.Fmt.{decimal_by_steps, length-decimal-le}
 use Rattle.jc_bytes.specs.ByteLists.{AreBytes}
 use Rattle.jc_bytes.specs.Reader.{most_read}
-use Rattle.jc_insn.specs.Writing.{short, word}
+use Rattle.jc_bytes.specs.BigNumbers.{short, word}
 use Rattle.jc_insn.proofs.ReadBackLaws.{short_size}
 use Rattle.jc_instrument_laws.proofs.CodeBytesLaws.{short_are, word_are}
 use Rattle.jc_instrument_laws.proofs.ClassSpellingLaws.{bytes_both}

@@ -2,8 +2,8 @@
 use Rattle.std.proofs.Common.{◌≡◌, ℕ, ◌+◌, List, [], ◌∷◌, ◌++◌, length, codes, refl, sym, ◌∙◌, ap}
 use Rattle.std.specs.List.{flat_map, range_with_len}
 use Rattle.jc_methods.specs.Opcode as opcode
-use Rattle.jc_insn.specs.Writing.{short, word}
 use Rattle.jc_bytes.proofs.AppendingLaws.{joined}
+use Rattle.jc_bytes.specs.BigNumbers.{short, word}
 use Rattle.jc_command_sample.specs.SampleFile.{utf8_entry, class_entry, class_entries, name_entries, attribute_text, method_code, frame_table, code_body, method_text, file_head, class_head, class_methods, sample_file}
 use Rattle.jc_command_sample.proofs.PieceLaws.{three, four, five, seven}
 

@@ -24,10 +24,11 @@ use Rattle.jc_link_laws.proofs.SomeProgramLaws.{program_or_reason}
 use Rattle.jc_machine_laws.specs.Frameless.{frameless}
 use Rattle.jc_command_work.specs.declared.status.Fault.TheVariants as fault
 use Rattle.jc_command_work.specs.Step.{Landed, Step, IsFile, Fit, Outside, to_out}
-use Rattle.jc_command_work.specs.Part.{End, done, Outcome, wants, gives, stops, Part, ending, deciding, writing, ◌>>=◌}
+use Rattle.jc_command_work.specs.Part.{End, done, gives, Part, ending, deciding, writing, ◌>>=◌}
 use Rattle.jc_command_work.specs.Answered.{refusal_of}
-use Rattle.jc_command_work.specs.OneWay.{IsOver, OneDecision, HasOne}
+use Rattle.jc_command_work.specs.OneWay.{OneDecision, HasOne}
 use Rattle.jc_command_work.proofs.OneWork.{one_giving, one_ending, one_deciding, one_writing, has_then, has_then_if}
+use Rattle.jc_command_work.proofs.AnsweredLaws.{decides}
 use Rattle.jc_command_run.specs.RunAnswers.{IsRunProgram}
 use Rattle.jc_command_run.specs.RunStore.{threads_of, first_without, run_store}
 use Rattle.jc_command_run.proofs.StoreLaws.{same_frameless}
@@ -39,22 +40,6 @@ use Rattle.jc_command_sample.proofs.CounterLaws.{one_counters, one_clash, counte
 use Rattle.jc_command_sample.proofs.OneFileLaws.{alone_refused, refuses_alone}
 
 -- ---- a decision
-
--- what is so is one thing, an end is one, both are never so, and one of them is
-decides : {X : Type 0} (Is : X → Type 0) (Ends : End → Type 0) → ((x y : X) → Is x → Is y → x ≡ y) → ((e f : End) → Ends e → Ends f → e ≡ f)
-    → ((x : X) (e : End) → Is x → Ends e → ⊥) → ((x : X) × Is x) ⊎ ((e : End) × Ends e) → OneDecision Is Ends
-decides {X} Is Ends one one_end apart (inl (x, is)) = record { decision = gives x; over = tt; holds = is; only = only }
-  where
-    only : (o : Outcome X) → IsOver o → deciding Is Ends [] o → o ≡ gives x
-    only (wants call) over so = absurd over
-    only (gives y) over so = ap (λ (z : X). let p : Outcome X = gives z in p) (one y x so is)
-    only (stops e) over so = absurd (apart x e is so)
-decides {X} Is Ends one one_end apart (inr (e, ends)) = record { decision = stops e; over = tt; holds = ends; only = only }
-  where
-    only : (o : Outcome X) → IsOver o → deciding Is Ends [] o → o ≡ stops e
-    only (wants call) over so = absurd over
-    only (gives y) over so = absurd (apart y e so ends)
-    only (stops f) over so = ap (λ (g : End). let p : Outcome X = stops g in p) (one_end f e so ends)
 
 -- ---- the class
 

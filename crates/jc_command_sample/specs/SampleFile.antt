@@ -2,8 +2,8 @@
 use Rattle.std.specs.Prelude.{ℕ, ◌+◌, List, [], ◌∷◌, ◌++◌, length, codes}
 use Rattle.std.specs.Fmt.{decimal}
 use Rattle.std.specs.List.{flat_map, range_with_len}
+use Rattle.jc_bytes.specs.BigNumbers.{short, word}
 use Rattle.jc_methods.specs.Opcode as opcode
-use Rattle.jc_insn.specs.Writing.{short, word}
 
 -- ---- the constant pool (JVM Specification 4.4.1, 4.4.7)
 

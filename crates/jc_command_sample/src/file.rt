@@ -5,8 +5,7 @@ ghost use Rattle.jc_command_sample.specs.SampleFile.{utf8_entry, class_entry, cl
 ghost use Rattle.jc_command_sample.specs.SampleFile.{attribute_text, method_code, frame_table, code_body, method_text};
 ghost use Rattle.jc_command_sample.specs.SampleFile.{file_head, class_head, class_methods, sample_file};
 
-use crate::numbers::{put_short, put_with_short, put_word};
-use jc_bytes::{Bytes, List, Memory, put_bytes, put_u8};
+use jc_bytes::{Bytes, List, Memory, put_bytes, put_short, put_u8, put_with_short, put_word};
 use jc_methods::opcode;
 use std::alloc::{AllocError, Global};
 

@@ -5,7 +5,6 @@ mod coverage;
 mod file;
 mod laws;
 mod line;
-mod numbers;
 mod plan;
 mod work;
 

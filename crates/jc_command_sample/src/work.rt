@@ -17,7 +17,7 @@ use crate::coverage::{PATH, file_counters};
 use crate::file::sample_file;
 use crate::line::sample_text;
 use crate::plan::sample_plan;
-use jc_bytes::{Bytes, Fail, MOST_READ, Memory, not_a_class};
+use jc_bytes::{Bytes, Fail, MOST_READ, Memory, are_bytes, not_a_class};
 use jc_command_run::{line_without_entry, run_program};
 use jc_command_work::{Fault, Stop, class_stop, put_out};
 use jc_instrument::{Instrumented, instrument};
@@ -39,11 +39,6 @@ fn instrumented<'a>(alloc: Global, bytes: &[u8]) -> Result<Instrumented, Stop<'a
         Err(fail) => Err(class_stop(fail, 0, PATH)),
     }
 }
-
-/// What is kept as bytes is bytes.
-fn are_bytes(bytes: &[u8])
-    ensures { AreBytes bytes.now }
-{}
 
 /// A list of one file.
 fn one_file(alloc: Global, bytes: Bytes) -> Result<Vec<Bytes>, Memory>

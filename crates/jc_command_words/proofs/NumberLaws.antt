@@ -3,8 +3,9 @@ use Rattle.std.proofs.Common.{◌≡◌, ap, sym, subst, refl, ℕ, ◌≤◌, B
 use Rattle.std.proofs.lemmas.Bool.Decides.{nat_tests}
 use Rattle.std.specs.List.{fold, list_all}
 use Rattle.std.proofs.lemmas.Bool.{and_parts}
+use Rattle.jc_bytes.specs.Digits.{is_digit}
 use Rattle.jc_command_words.specs.Words.{Word}
-use Rattle.jc_command_words.specs.Numbers.{is_digit, one_more_digit, IsNumber, digits_up_to, number_up_to}
+use Rattle.jc_command_words.specs.Numbers.{one_more_digit, IsNumber, digits_up_to, number_up_to}
 use Rattle.jc_command_words.proofs.BoolLaws.{both_true}
 
 le_test : (a b : ℕ) → nat_le a b ≡ true → a ≤ b

@@ -1,10 +1,8 @@
 -- Decimal numbers without sign and leading zero.
 use Rattle.std.specs.Prelude.{◌≡◌, ◌≤◌, ◌+◌, ◌-◌, ◌*◌, ℕ, Bool, false, not, ◌&&◌, [], ◌∷◌, Option, Some, None, nat_eq, nat_le, IsTrue, if◌then◌else◌}
 use Rattle.std.specs.List.{fold, list_all}
+use Rattle.jc_bytes.specs.Digits.{is_digit}
 use Rattle.jc_command_words.specs.Words.{Word}
-
-abbrev pub is_digit : ℕ → Bool
-is_digit b = nat_le 48 b && nat_le b 57
 
 abbrev pub one_more_digit : ℕ → ℕ → ℕ
 one_more_digit n b = n * 10 + (b - 48)

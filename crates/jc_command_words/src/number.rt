@@ -1,13 +1,9 @@
 //! Decimal numbers without sign and leading zero.
 ghost use Rattle.std.specs.Prelude.{◌≡◌, ◌≤◌};
-ghost use Rattle.jc_command_words.specs.Numbers.{is_digit, digits_up_to, number_up_to};
+ghost use Rattle.jc_bytes.specs.Digits.{is_digit};
+ghost use Rattle.jc_command_words.specs.Numbers.{digits_up_to, number_up_to};
 
-/// Whether the byte is a decimal digit.
-fn is_digit(byte: u8) -> bool
-    ensures { result ≡ is_digit byte }
-{
-    byte >= b'0' && byte <= b'9'
-}
+use jc_bytes::is_digit;
 
 /// The number that digits spell behind those of a number, if it is at most so much.
 fn digits_up_to(most: u32, number: u32, digits: &[u8]) -> Option<u32>

@@ -1,11 +1,11 @@
 -- A command that reads, decides and then writes has one work, and functions that do its parts do the whole.
-use Rattle.std.proofs.Common.{◌≡◌, ℕ, List, [], ◌∷◌, ◌++◌, map, Option, None, Some, Result, Ok, Err, Vec, length, inl, inr, refl, sym, subst, arith}
+use Rattle.std.proofs.Common.{◌≡◌, ◌⊎◌, ℕ, List, [], ◌∷◌, ◌++◌, map, Option, None, Some, Result, Ok, Err, Vec, length, inl, inr, refl, sym, ap, subst, arith}
 use Rattle.std.specs.List.{AllByRecursion}
 use Rattle.std.specs.declared.alloc.Global.{Global}
 use Rattle.jc_command_work.specs.declared.output.Write.{Write as Written}
 use Rattle.jc_command_work.specs.declared.stop.Stop.{Stop}
 use Rattle.jc_command_work.specs.Step.{Word, IsFile, AreTexts, Outside, Counts, Landed, Write, to_read, Step, has_read, has_no, has_listed, has_written, Fit, after}
-use Rattle.jc_command_work.specs.Part.{End, done, unread, wants, gives, stops, Part, giving, ending, reading, reading_all, writing_all, ◌>>=◌}
+use Rattle.jc_command_work.specs.Part.{End, done, unread, Outcome, deciding, wants, gives, stops, Part, giving, ending, reading, reading_all, writing_all, ◌>>=◌}
 use Rattle.jc_command_work.specs.Ending.{CameTo, Stops, Does, Ran}
 use Rattle.jc_command_work.specs.OneWay.{IsOver, HasOne, OneDecision}
 use Rattle.jc_paths.specs.Paths.{FileText, plain, folder}
@@ -63,6 +63,22 @@ module _ (landed : Landed) where
   has_files files = has_then landed (all_paths files) _ (has_all_paths files) (λ paths w told. one_giving landed w (once [] paths))
 
 -- ---- what is decided
+
+-- One decision, where of two facts of the same texts one holds, each of one value, and not both.
+pub decides : {X : Type 0} (Is : X → Type 0) (Ends : End → Type 0) → ((x y : X) → Is x → Is y → x ≡ y) → ((e f : End) → Ends e → Ends f → e ≡ f)
+    → ((x : X) (e : End) → Is x → Ends e → ⊥) → ((x : X) × Is x) ⊎ ((e : End) × Ends e) → OneDecision Is Ends
+decides {X} Is Ends one one_end apart (inl (x, is)) = record { decision = gives x; over = tt; holds = is; only = only }
+  where
+    only : (o : Outcome X) → IsOver o → deciding Is Ends [] o → o ≡ gives x
+    only (wants call) over so = absurd over
+    only (gives y) over so = ap (λ (z : X). let p : Outcome X = gives z in p) (one y x so is)
+    only (stops e) over so = absurd (apart x e is so)
+decides {X} Is Ends one one_end apart (inr (e, ends)) = record { decision = stops e; over = tt; holds = ends; only = only }
+  where
+    only : (o : Outcome X) → IsOver o → deciding Is Ends [] o → o ≡ stops e
+    only (wants call) over so = absurd over
+    only (gives y) over so = absurd (apart y e so ends)
+    only (stops f) over so = ap (λ (g : End). let p : Outcome X = stops g in p) (one_end f e so ends)
 
 one_answering : (Is : Answer → Type 0) → OneAnswer Is → OneDecision (λ writes. Is (gives writes)) (λ end. Is (stops end))
 one_answering Is one = record { decision = one.answer; over = one.over; holds = by one.answer one.over one.holds; only = λ o over is. one.only o (back o over is) }

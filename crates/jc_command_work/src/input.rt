@@ -8,7 +8,7 @@ ghost use Rattle.jc_command_work.specs.Handed.{BetweenFiles};
 ghost use Rattle.jc_command_work.specs.Seen.{words_of, texts_of, stop_seen, read_stop};
 
 use crate::stop::Stop;
-use jc_bytes::{Bytes, Memory};
+use jc_bytes::{Bytes, Memory, are_bytes};
 use jc_outside::{FileFault, Files};
 use std::alloc::Global;
 
@@ -21,11 +21,6 @@ fn read_stop<'a>(fault: FileFault, path: &'a str) -> Stop<'a>
         FileFault::Failed | FileFault::Missing | FileFault::TooLarge => Stop::Read(path),
     }
 }
-
-/// What is kept as bytes is bytes.
-fn are_bytes(bytes: &[u8])
-    ensures { AreBytes bytes.now }
-{}
 
 /// The bytes of the file at a path.
 pub fn read_one<'a, F: Files>(

@@ -7,6 +7,7 @@ use Rattle.jc_bytes.specs.Counted.{counted}
 use Rattle.jc_bytes.specs.Decoder.{IsBig}
 use Rattle.jc_bytes.specs.Grammar.{times}
 use Rattle.jc_bytes.proofs.AppendingLaws.{big_spells}
+use Rattle.jc_bytes.specs.BigNumbers.{short}
 use Rattle.jc_methods.specs.Starts.{insn_number}
 use Rattle.jc_methods.specs.VerificationTypes.{VerificationType, top, int, float, double, long, null, uninit_this, object, uninit, TypeStateAt, slots}
 use Rattle.jc_methods.specs.EntryState.{in_locals}
@@ -17,7 +18,7 @@ use Rattle.jc_frames.specs.declared.items.FrameItem.TheVariants as frames
 use Rattle.jc_frames.specs.TableForm.{type_item, frame_item}
 use Rattle.jc_frames.specs.Frames.{Ground, Before, first_before, trimmed, values_in, is_new, type_of, in_front, types_of, is_start, found, fits_slots, found_if, frame_of}
 use Rattle.jc_frames.specs.Table.{AreFrames}
-use Rattle.jc_frames.specs.FullFrames.{short, Places, type_text, types_text, full_text, full_texts, HasPlaces, IsWritable, AreRising, FullFramesReadBack}
+use Rattle.jc_frames.specs.FullFrames.{Places, type_text, types_text, full_text, full_texts, HasPlaces, IsWritable, AreRising, FullFramesReadBack}
 use Rattle.jc_frames.proofs.ValuesLaws.{values_back, few_slots, values_few, trimmed_few}
 
 -- ---- types

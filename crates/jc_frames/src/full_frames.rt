@@ -1,17 +1,17 @@
 //! Writing full frames (JVM Specification 4.7.4).
 ghost use Rattle.std.specs.Prelude.{◌≡◌, ◌<◌, ◌≤◌, ◌++◌, [], All, IfErr, IfOk, OnErr, OnOk, length, map, slice_index, slice_index_or};
 ghost use Rattle.std.specs.List.{AllByRecursion, flat_map};
+ghost use Rattle.jc_bytes.specs.BigNumbers.{short};
 ghost use Rattle.jc_methods.specs.VerificationTypes.{IsNumbered, class_name, class_names, verification_type, type_state_at};
 ghost use Rattle.jc_pool.specs.Adding.{Extends, IsFirst};
 ghost use Rattle.jc_pool.specs.Lookup.{class_name_of};
-ghost use Rattle.jc_frames.specs.FullFrames.{Places, full_text, full_texts, short, table_text, type_text, types_text};
+ghost use Rattle.jc_frames.specs.FullFrames.{Places, full_text, full_texts, table_text, type_text, types_text};
 ghost use Rattle.jc_frames.specs.FullTable.{AreFirstPlaces, ArePlacesIn, AreShort, CanBeWritten, FitsFull, HasPlace, IsPlaced};
 ghost use Rattle.jc_frames.specs.FullTable.{OffsetsRise, RefusesClasses, TakesClasses, named_by, named_by_all};
 
 use crate::full_classes::{place_of_class, take_classes};
 use crate::running::kinds_in_locals;
-use byteorder::{BigEndian, ByteOrder};
-use jc_bytes::{Fail, Memory, Names, put_bytes, put_u8};
+use jc_bytes::{Fail, Memory, Names, put_bytes, put_short, put_u8};
 use jc_methods::{FrameAt, Kind};
 use jc_pool::{Pool, PoolFull};
 use std::alloc::Global;
@@ -19,16 +19,6 @@ use std::collections::HashMap;
 
 /// The tag of a full frame.
 const FULL_FRAME: u8 = 255;
-
-/// Puts a number of two bytes at the end.
-#[tactic(auto, unfolding(crate::specs::FullFrames::short))]
-fn put_short(into: &mut Vec<u8>, number: u16) -> Result<(), Memory>
-    ensures { OnOk result (into.new.items ≡ into.old.items ++ short number) }
-{
-    let mut bytes = [0; 2];
-    BigEndian::write_u16(&mut bytes, number);
-    put_bytes(into, &bytes)
-}
 
 /// The first place of a class that the pool has, by the number of its name. Each is looked up once, since its name
 /// may be long.

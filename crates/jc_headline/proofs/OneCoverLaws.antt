@@ -16,18 +16,18 @@ use Rattle.jc_link_programs.specs.Linking.{IsProgramOf, IsLinkRefusal, refused, 
 use Rattle.jc_link_programs.specs.declared.link_refusal.LinkRefusal.{LinkRefusal}
 use Rattle.jc_link_programs.specs.declared.link_refusal.LinkRefusal.TheVariants as refusals
 use Rattle.jc_link_programs.proofs.OneRefusalLaws.{one_refusal, program_or_refusal, same_program}
+use Rattle.jc_link_programs.proofs.AnswerLaws.{class_at}
 use Rattle.jc_link_laws.specs.TwinFiles.{IsShortFile}
-use Rattle.jc_link_laws.proofs.PlaceLaws.{class_at}
 use Rattle.jc_link_laws.proofs.SomeProgramLaws.{program_or_reason}
 use Rattle.jc_machine_laws.specs.Frameless.{frameless}
 use Rattle.jc_machine_model.specs.CaseText.{case_texts}
 use Rattle.jc_command_work.specs.declared.status.Fault.TheVariants as fault
 use Rattle.jc_command_work.specs.Step.{Word, Landed, IsFile, AreTexts, to_file, to_out}
-use Rattle.jc_command_work.specs.Part.{End, done, refused as refused_end, Outcome, wants, gives, stops, never, deciding, making, reading, writing, reading_all, writing_all, ◌>>=◌}
+use Rattle.jc_command_work.specs.Part.{End, done, refused as refused_end, never, deciding, making, reading, writing, reading_all, writing_all, ◌>>=◌}
 use Rattle.jc_command_work.specs.Answered.{refusal_of}
 use Rattle.jc_command_work.specs.Folders.{files_of}
-use Rattle.jc_command_work.specs.OneWay.{IsOver, OneDecision, HasOne}
-use Rattle.jc_command_work.proofs.AnsweredLaws.{texts_read, has_files, all_files}
+use Rattle.jc_command_work.specs.OneWay.{OneDecision, HasOne}
+use Rattle.jc_command_work.proofs.AnsweredLaws.{texts_read, has_files, all_files, decides}
 use Rattle.jc_command_work.proofs.OneWork.{one_giving, one_ending, one_deciding, one_writing, one_reading, has_then, has_then_if, has_reading_all, has_writing_all}
 use Rattle.jc_command_classes.specs.Instrument.{Decision}
 use Rattle.jc_command_classes.specs.Report.{ReportedFile, AreItems, first_clash, changed_of, first_of_each_id, report_text}
@@ -46,22 +46,6 @@ use Rattle.jc_headline.proofs.OriginalLaws.{all_short}
 use Rattle.jc_headline.proofs.PartLaws.{instrumenting_over}
 
 -- ---- a decision
-
--- what is so is one thing, an end is one, both are never so, and one of them is
-decides : {X : Type 0} (Is : X → Type 0) (Ends : End → Type 0) → ((x y : X) → Is x → Is y → x ≡ y) → ((e f : End) → Ends e → Ends f → e ≡ f)
-    → ((x : X) (e : End) → Is x → Ends e → ⊥) → ((x : X) × Is x) ⊎ ((e : End) × Ends e) → OneDecision Is Ends
-decides {X} Is Ends one one_end apart (inl (x, is)) = record { decision = gives x; over = tt; holds = is; only = only }
-  where
-    only : (o : Outcome X) → IsOver o → deciding Is Ends [] o → o ≡ gives x
-    only (wants call) over so = absurd over
-    only (gives y) over so = ap (λ (z : X). let p : Outcome X = gives z in p) (one y x so is)
-    only (stops e) over so = absurd (apart x e is so)
-decides {X} Is Ends one one_end apart (inr (e, ends)) = record { decision = stops e; over = tt; holds = ends; only = only }
-  where
-    only : (o : Outcome X) → IsOver o → deciding Is Ends [] o → o ≡ stops e
-    only (wants call) over so = absurd over
-    only (gives y) over so = absurd (apart y e so ends)
-    only (stops f) over so = ap (λ (z : End). let p : Outcome X = stops z in p) (one_end f e so ends)
 
 -- ---- class files
 

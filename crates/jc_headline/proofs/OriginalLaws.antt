@@ -26,8 +26,9 @@ use Rattle.jc_link_programs.specs.Linking.{AreLinkedClasses, IsFirstRefused, IsL
 use Rattle.jc_link_programs.specs.Pairs.{HaveOneId, HaveOneName, IsFirstPair, id_of}
 use Rattle.jc_link_programs.specs.declared.link_refusal.LinkRefusal.{LinkRefusal}
 use Rattle.jc_link_programs.proofs.LinkingLaws.{no_reason}
+use Rattle.jc_link_programs.proofs.AnswerLaws.{class_at}
 use Rattle.jc_link_laws.specs.TwinFiles.{AreWrittenOf, IsShortFile, IsWrittenOf}
-use Rattle.jc_link_laws.proofs.PlaceLaws.{linked_at, class_at}
+use Rattle.jc_link_laws.proofs.PlaceLaws.{linked_at}
 use Rattle.jc_link_laws.proofs.SecondLinkingLaws.{same_name}
 use Rattle.jc_link_laws.proofs.SomeProgramLaws.{program_or_reason}
 use Rattle.jc_link_laws.proofs.TwinPairLaws.{no_probes, none_added}

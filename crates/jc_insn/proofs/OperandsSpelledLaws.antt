@@ -12,6 +12,7 @@ use Rattle.jc_methods.specs.Opcode as opcode
 use Rattle.jc_bytes.specs.Decoder.{IsBig}
 use Rattle.jc_bytes.proofs.DecoderLaws.{big_front}
 use Rattle.jc_bytes.proofs.BooleanLaws.{test_true}
+use Rattle.jc_bytes.specs.BigNumbers.{short, word}
 use Rattle.jc_methods.specs.declared.form.Form.{Form}
 use Rattle.jc_methods.specs.declared.form.Form.TheVariants as forms
 use Rattle.jc_methods.specs.InsnForm.{form_of}
@@ -22,7 +23,7 @@ use Rattle.jc_insn.specs.declared.item.CodeItem.TheVariants as items
 use Rattle.jc_insn.specs.Fields.{nothing, byte, piece, Then}
 use Rattle.jc_insn.specs.Items.{number, target_of, in_pieces, offset_in, wide_operands, operands, IsItem}
 use Rattle.jc_insn.specs.Sizes.{is_narrow_inc}
-use Rattle.jc_insn.specs.Writing.{short, word, signed_byte, signed_short, difference, short_code, local_text, inc_text}
+use Rattle.jc_insn.specs.Writing.{signed_byte, signed_short, difference, short_code, local_text, inc_text}
 use Rattle.jc_insn.proofs.ReadBackLaws.{big_short, big_word, signed_byte_back, signed_short_back, word_target}
 
 -- ---- fields

@@ -7,8 +7,9 @@ use Rattle.std.proofs.lemmas.Bool.{cases_lt, le-ltb}
 use Rattle.byteorder.specs.Numbers.{length-bytes_high_first}
 use Rattle.jc_bytes.specs.Decoder.{IsBig}
 use Rattle.jc_bytes.proofs.AppendingLaws.{big_spells}
+use Rattle.jc_bytes.specs.BigNumbers.{short, word}
 use Rattle.jc_insn.specs.Items.{target_of}
-use Rattle.jc_insn.specs.Writing.{short, word, signed_byte, difference, IsNear}
+use Rattle.jc_insn.specs.Writing.{signed_byte, difference, IsNear}
 
 pub short_size : (x : ℕ) → length (short x) ≡ 2
 unfolding short

@@ -6,6 +6,7 @@ use Rattle.std.specs.Int.{cast_signed, cast_unsigned}
 use Rattle.std.proofs.lemmas.Bool.{cases_lt, lt-ltb, le-ltb}
 use Rattle.std.proofs.lemmas.Bool.Decides.{nat_tests}
 use Rattle.std.proofs.lemmas.List.{get_or-map, length-map}
+use Rattle.jc_bytes.specs.BigNumbers.{short}
 use Rattle.jc_methods.specs.Opcode as opcode
 use Rattle.jc_methods.specs.declared.form.Form.{Form}
 use Rattle.jc_methods.specs.declared.form.Form.TheVariants as forms
@@ -20,7 +21,7 @@ use Rattle.jc_insn.specs.declared.item.CodeItem.{CodeItem}
 use Rattle.jc_insn.specs.declared.item.CodeItem.TheVariants as items
 use Rattle.jc_insn.specs.Fields.{nothing, byte, piece, Then, only_if}
 use Rattle.jc_insn.specs.Items.{number, target_of, operands, IsItem}
-use Rattle.jc_insn.specs.Writing.{short, signed_byte, difference, push_text, constant_text, jump_text, insn_text, IsNear, IsNearJump, IsInRange}
+use Rattle.jc_insn.specs.Writing.{signed_byte, difference, push_text, constant_text, jump_text, insn_text, IsNear, IsNearJump, IsInRange}
 use Rattle.jc_insn.proofs.ReadBackLaws.{big_short, signed_byte_back, signed_short_back, short_target}
 use Rattle.jc_insn.proofs.OperandsSpelledLaws.{item_of, byte_then, number_then, one_byte, one_number, one_piece, short_fits, local_is, inc_is}
 use Rattle.jc_insn.proofs.SwitchesSpelledLaws.{ArmFits, table_is, lookup_is}

@@ -17,10 +17,11 @@ use Rattle.jc_methods.specs.Insn.{IsAscending}
 use Rattle.jc_insn.specs.declared.item.CodeItem.TheVariants as items
 use Rattle.jc_insn.specs.Fields.{nothing, piece, Then, only_if}
 use Rattle.jc_insn.specs.Items.{padding, key_count, target_of, in_pieces, offset_in, offsets_in, arm_in, arms_in, ascending, table_operands, lookup_operands, operands, IsItem}
-use Rattle.jc_insn.specs.Writing.{word, difference, arm_text, pad_text, last_key, table_text, lookup_text}
+use Rattle.jc_insn.specs.Writing.{difference, arm_text, pad_text, last_key, table_text, lookup_text}
 use Rattle.jc_insn.proofs.ReadBackLaws.{big_word, signed_word_back, word_target, word_size}
 use Rattle.jc_insn.proofs.OperandsSpelledLaws.{item_of, number_then, piece_then, one_piece, length_pieces, pieces_back, offset_back, le_true, word_fits}
 use Rattle.jc_bytes.proofs.BooleanLaws.{test_true}
+use Rattle.jc_bytes.specs.BigNumbers.{word}
 
 pub pad_length : (at : ℕ) → length (pad_text at) ≡ padding at
 unfolding pad_text

@@ -3,6 +3,7 @@ use Rattle.std.proofs.Common.{◌≡◌, ℕ, ◌+◌, ◌-◌, ◌*◌, ◌%◌
 use Rattle.std.specs.List.{flat_map}
 use Rattle.std.specs.Int.{cast_unsigned}
 use Rattle.std.proofs.lemmas.List.{length-map}
+use Rattle.jc_bytes.specs.BigNumbers.{short, word}
 use Rattle.jc_methods.specs.Opcode as opcode
 use Rattle.jc_methods.specs.declared.form.Form.{Form}
 use Rattle.jc_methods.specs.declared.form.Form.TheVariants as forms
@@ -14,7 +15,7 @@ use Rattle.jc_methods.specs.Insn.{with_places, arm_with_place}
 use Rattle.jc_methods.specs.Flow.{inverse_of}
 use Rattle.jc_insn.specs.Items.{padding}
 use Rattle.jc_insn.specs.Sizes.{size_of, push_size, is_narrow_inc}
-use Rattle.jc_insn.specs.Writing.{short, word, signed_byte, signed_short, difference, push_text, local_text, inc_text, constant_text, pad_text, arm_text, last_key, table_text, lookup_text, jump_text, insn_text}
+use Rattle.jc_insn.specs.Writing.{signed_byte, signed_short, difference, push_text, local_text, inc_text, constant_text, pad_text, arm_text, last_key, table_text, lookup_text, jump_text, insn_text}
 use Rattle.jc_insn.proofs.ReadBackLaws.{short_size, word_size}
 use Rattle.jc_insn.proofs.SwitchesSpelledLaws.{pad_length, offsets_length, arms_length}
 

@@ -5,6 +5,7 @@ use Rattle.std.specs.Int.{cast_signed}
 use Rattle.std.proofs.lemmas.List.{map-append}
 use Rattle.std.proofs.lemmas.List.Elements.{All-tail}
 use Rattle.std.proofs.lemmas.Bool.{eq-eqb, eqb-true, eqb-false}
+use Rattle.jc_bytes.specs.BigNumbers.{short, word}
 use Rattle.jc_methods.specs.Opcode as opcode
 use Rattle.jc_methods.specs.declared.form.Form.TheVariants as forms
 use Rattle.jc_methods.proofs.InsnFormLaws.{named_forms, inverse_form, test_below}
@@ -23,7 +24,7 @@ use Rattle.jc_insn.specs.Items.{IsItem, target_of, operands}
 use Rattle.jc_insn.specs.Spells.{SpellsFrom, Spells}
 use Rattle.jc_insn.specs.Sizes.{size_of, StartAt}
 use Rattle.jc_insn.specs.Layouts.{wide_starts_by, wide_starts}
-use Rattle.jc_insn.specs.Writing.{short, word, difference, insn_text, code_text}
+use Rattle.jc_insn.specs.Writing.{difference, insn_text, code_text}
 use Rattle.jc_insn.proofs.InsnWritingLaws.{jump_tests}
 use Rattle.jc_insn.proofs.ReadBackLaws.{short_size, word_size, big_short, big_word, word_target}
 use Rattle.jc_insn.proofs.OperandsSpelledLaws.{item_of, one_number}

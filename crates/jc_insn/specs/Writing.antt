@@ -2,7 +2,7 @@
 use Rattle.std.specs.Prelude.{◌<◌, ◌≤◌, ⊤, ℕ, ◌+◌, ◌-◌, ◌*◌, ◌%◌, ◌^◌, ℤ, pos, ◌+ℤ◌, Bool, List, [], ◌∷◌, ◌++◌, length, replicate, nat_eq, nat_lt, if◌then◌else◌, FitsSigned, All}
 use Rattle.std.specs.List.{flat_map}
 use Rattle.std.specs.Int.{w16, w32, cast_unsigned}
-use Rattle.byteorder.specs.Endian.{big_bytes}
+use Rattle.jc_bytes.specs.BigNumbers.{short, word}
 use Rattle.jc_methods.specs.declared.form.Form.{Form}
 use Rattle.jc_methods.specs.declared.form.Form.TheVariants as forms
 use Rattle.jc_methods.specs.Opcode as opcode
@@ -14,13 +14,6 @@ use Rattle.jc_methods.specs.Flow.{inverse_of}
 use Rattle.jc_methods.specs.Insn.{with_places}
 use Rattle.jc_insn.specs.Items.{padding}
 use Rattle.jc_insn.specs.Sizes.{is_narrow_inc}
-
--- a number of two bytes, and one of four
-unfoldable pub short : ℕ → List ℕ
-short x = big_bytes 2 x
-
-unfoldable pub word : ℕ → List ℕ
-word x = big_bytes 4 x
 
 -- a signed number in one byte, and in two
 abbrev pub signed_byte : ℤ → ℕ

@@ -9,11 +9,11 @@ ghost use Rattle.jc_insn.specs.Layouts.{AppendsSpelling};
 
 use crate::write::{
     put_constant, put_dynamic, put_inc, put_interface, put_jump, put_local, put_lookup, put_multi,
-    put_new_array, put_push, put_table, put_with_short,
+    put_new_array, put_push, put_table,
 };
-use jc_bytes::Memory;
+use jc_bytes::{Memory, put_with_short};
 use jc_methods::{Insn, form_of, opcode};
-use std::alloc::{AllocError, Global};
+use std::alloc::Global;
 
 /// An instruction that begins at the offset `at`.
 #[tactic(auto, unfolding(crate::specs::Writing::insn_text))]
@@ -23,7 +23,7 @@ fn put_insn(
     starts: &[u32],
     wide: bool,
     insn: &Insn,
-) -> Result<(), AllocError>
+) -> Result<(), Memory>
     requires at { at ≤ 2147483647 }
     requires well_formed { IsWellFormed insn.now }
     requires places { All (λ to. to < length starts.now) (targets_of insn.now) }

@@ -4,34 +4,19 @@ ghost use Rattle.std.specs.Prelude.{slice_index, OnOk, OnErr, All, map, IsTrue, 
 ghost use Rattle.std.specs.List.{flat_map};
 ghost use Rattle.std.specs.Int.{w32, cast_unsigned};
 ghost use Rattle.jc_bytes.specs.Reader.{most_read};
+ghost use Rattle.jc_bytes.specs.BigNumbers.{short, word};
 ghost use Rattle.jc_methods.specs.declared.form.Form.TheVariants as forms;
 ghost use Rattle.jc_methods.specs.Opcode.{iload, aload, istore, astore, goto_w, newarray};
 ghost use Rattle.jc_methods.specs.InsnForm.{form_of};
 ghost use Rattle.jc_methods.specs.Insn.{arm_with_place};
-ghost use Rattle.jc_insn.specs.Writing.{short, word, signed_byte, signed_short, difference, push_text, short_code};
+ghost use Rattle.jc_insn.specs.Writing.{signed_byte, signed_short, difference, push_text, short_code};
 ghost use Rattle.jc_insn.specs.Writing.{local_text, inc_text, constant_text, wide_jump_text, jump_text, arm_text};
 ghost use Rattle.jc_insn.specs.Writing.{pad_text, last_key, table_text, lookup_text, interface_text, dynamic_text};
 ghost use Rattle.jc_insn.specs.Writing.{multi_text};
 
 use crate::size::{is_narrow_inc, padding};
+use jc_bytes::{Memory, put_short, put_with_short, put_word};
 use jc_methods::{Arm, Form, inverse, opcode};
-use std::alloc::AllocError;
-
-/// A number in two bytes.
-#[tactic(auto, unfolding(crate::specs::Writing::short))]
-fn put_short(out: &mut Vec<u8>, number: u16) -> Result<(), AllocError>
-    ensures { OnOk result (out.new.items ≡ out.old.items ++ short number) }
-{
-    out.extend_from_slice(&number.to_be_bytes())
-}
-
-/// A number in four bytes.
-#[tactic(auto, unfolding(crate::specs::Writing::word))]
-fn put_word(out: &mut Vec<u8>, number: u32) -> Result<(), AllocError>
-    ensures { OnOk result (out.new.items ≡ out.old.items ++ word number) }
-{
-    out.extend_from_slice(&number.to_be_bytes())
-}
 
 /// The low byte of a signed number.
 fn signed_byte(number: i16) -> u8
@@ -47,17 +32,8 @@ fn difference(at: u32, to: u32) -> u32
     to.wrapping_sub(at)
 }
 
-/// An opcode and a number in two bytes.
-pub fn put_with_short(out: &mut Vec<u8>, op: u8, number: u16) -> Result<(), AllocError>
-    ensures { OnOk result (out.new.items ≡ out.old.items ++ op ∷ short number) }
-{
-    out.push(op)?;
-    put_short(out, number)?;
-    Ok(())
-}
-
 /// `bipush` or `sipush`.
-pub fn put_push(out: &mut Vec<u8>, form: Form, op: u8, value: i16) -> Result<(), AllocError>
+pub fn put_push(out: &mut Vec<u8>, form: Form, op: u8, value: i16) -> Result<(), Memory>
     ensures { OnOk result (out.new.items ≡ out.old.items ++ push_text form op value) }
 {
     match form {
@@ -84,7 +60,7 @@ fn short_code(op: u8, slot: u8) -> u8
 }
 
 /// A load or a store.
-pub fn put_local(out: &mut Vec<u8>, op: u8, slot: u16) -> Result<(), AllocError>
+pub fn put_local(out: &mut Vec<u8>, op: u8, slot: u16) -> Result<(), Memory>
     requires { ((iload ≤ op) × (op ≤ aload)) ⊎ ((istore ≤ op) × (op ≤ astore)) }
     ensures { OnOk result (out.new.items ≡ out.old.items ++ local_text op slot) }
 {
@@ -101,7 +77,7 @@ pub fn put_local(out: &mut Vec<u8>, op: u8, slot: u16) -> Result<(), AllocError>
 }
 
 /// `iinc`.
-pub fn put_inc(out: &mut Vec<u8>, slot: u16, by: i16) -> Result<(), AllocError>
+pub fn put_inc(out: &mut Vec<u8>, slot: u16, by: i16) -> Result<(), Memory>
     ensures { OnOk result (out.new.items ≡ out.old.items ++ inc_text slot by) }
 {
     if is_narrow_inc(slot, by) {
@@ -117,7 +93,7 @@ pub fn put_inc(out: &mut Vec<u8>, slot: u16, by: i16) -> Result<(), AllocError>
 }
 
 /// `ldc` or `ldc_w`.
-pub fn put_constant(out: &mut Vec<u8>, place: u16) -> Result<(), AllocError>
+pub fn put_constant(out: &mut Vec<u8>, place: u16) -> Result<(), Memory>
     ensures { OnOk result (out.new.items ≡ out.old.items ++ constant_text place) }
 {
     if place < 256 {
@@ -130,7 +106,7 @@ pub fn put_constant(out: &mut Vec<u8>, place: u16) -> Result<(), AllocError>
 }
 
 /// `goto_w`.
-fn put_goto(out: &mut Vec<u8>, at: u32, to: u32) -> Result<(), AllocError>
+fn put_goto(out: &mut Vec<u8>, at: u32, to: u32) -> Result<(), Memory>
     ensures { OnOk result (out.new.items ≡ out.old.items ++ goto_w ∷ word (difference at to)) }
 {
     out.push(opcode::GOTO_W)?;
@@ -139,7 +115,7 @@ fn put_goto(out: &mut Vec<u8>, at: u32, to: u32) -> Result<(), AllocError>
 }
 
 /// A jump of the wide layout.
-fn put_wide_jump(out: &mut Vec<u8>, at: u32, op: u8, to: u32) -> Result<(), AllocError>
+fn put_wide_jump(out: &mut Vec<u8>, at: u32, op: u8, to: u32) -> Result<(), Memory>
     requires form { form_of op ≡ forms.Jump }
     requires at { at ≤ 2147483647 }
     ensures { OnOk result (out.new.items ≡ out.old.items ++ wide_jump_text at op to) }
@@ -154,7 +130,7 @@ fn put_wide_jump(out: &mut Vec<u8>, at: u32, op: u8, to: u32) -> Result<(), Allo
 }
 
 /// A jump.
-pub fn put_jump(out: &mut Vec<u8>, at: u32, wide: bool, op: u8, to: u32) -> Result<(), AllocError>
+pub fn put_jump(out: &mut Vec<u8>, at: u32, wide: bool, op: u8, to: u32) -> Result<(), Memory>
     requires form { form_of op ≡ forms.Jump }
     requires at { at ≤ 2147483647 }
     ensures { OnOk result (out.new.items ≡ out.old.items ++ jump_text at wide op to) }
@@ -169,7 +145,7 @@ pub fn put_jump(out: &mut Vec<u8>, at: u32, wide: bool, op: u8, to: u32) -> Resu
 
 /// What pads a switch.
 #[tactic(auto, unfolding(crate::specs::Writing::pad_text))]
-fn put_pad(out: &mut Vec<u8>, at: u32) -> Result<(), AllocError>
+fn put_pad(out: &mut Vec<u8>, at: u32) -> Result<(), Memory>
     ensures { OnOk result (out.new.items ≡ out.old.items ++ pad_text at) }
 {
     let pad = [0; 3];
@@ -178,7 +154,7 @@ fn put_pad(out: &mut Vec<u8>, at: u32) -> Result<(), AllocError>
 }
 
 /// The arms of `tableswitch`.
-fn put_offsets(out: &mut Vec<u8>, at: u32, starts: &[u32], arms: &[u32]) -> Result<(), AllocError>
+fn put_offsets(out: &mut Vec<u8>, at: u32, starts: &[u32], arms: &[u32]) -> Result<(), Memory>
     requires { All (λ to. to < length starts.now) arms.now }
     ensures { OnOk result (out.new.items
         ≡ out.old.items ++ flat_map (λ to. word (difference at to)) (map (slice_index starts.now) arms.now)) }
@@ -190,7 +166,7 @@ fn put_offsets(out: &mut Vec<u8>, at: u32, starts: &[u32], arms: &[u32]) -> Resu
 }
 
 /// An arm of `lookupswitch`.
-fn put_arm(out: &mut Vec<u8>, at: u32, starts: &[u32], arm: &Arm) -> Result<(), AllocError>
+fn put_arm(out: &mut Vec<u8>, at: u32, starts: &[u32], arm: &Arm) -> Result<(), Memory>
     requires { arm.now.to < length starts.now }
     ensures text { OnOk result (out.new.items ≡ out.old.items ++ arm_text at (arm_with_place (slice_index starts.now) arm.now)) }
     ensures key { OnOk result (FitsSigned w32 arm.now.key) }
@@ -201,7 +177,7 @@ fn put_arm(out: &mut Vec<u8>, at: u32, starts: &[u32], arm: &Arm) -> Result<(), 
 }
 
 /// The arms of `lookupswitch`.
-fn put_arms(out: &mut Vec<u8>, at: u32, starts: &[u32], arms: &[Arm]) -> Result<(), AllocError>
+fn put_arms(out: &mut Vec<u8>, at: u32, starts: &[u32], arms: &[Arm]) -> Result<(), Memory>
     requires { All (λ arm. arm.to < length starts.now) arms.now }
     ensures text { OnOk result (out.new.items
         ≡ out.old.items ++ flat_map (arm_text at) (map (arm_with_place (slice_index starts.now)) arms.now)) }
@@ -231,7 +207,7 @@ pub fn put_table(
     low: i32,
     default: u32,
     arms: &[u32],
-) -> Result<(), AllocError>
+) -> Result<(), Memory>
     requires some { 1 ≤ length arms.now }
     requires few { length arms.now ≤ most_read }
     requires fits { (low +ℤ pos (length arms.now)) ≤ℤ pos 2147483648 }
@@ -256,7 +232,7 @@ pub fn put_lookup(
     starts: &[u32],
     default: u32,
     arms: &[Arm],
-) -> Result<(), AllocError>
+) -> Result<(), Memory>
     requires few { length arms.now ≤ most_read }
     requires default { default < length starts.now }
     requires places { All (λ arm. arm.to < length starts.now) arms.now }
@@ -273,7 +249,7 @@ pub fn put_lookup(
 }
 
 /// `invokeinterface`.
-pub fn put_interface(out: &mut Vec<u8>, place: u16, count: u8) -> Result<(), AllocError>
+pub fn put_interface(out: &mut Vec<u8>, place: u16, count: u8) -> Result<(), Memory>
     ensures { OnOk result (out.new.items ≡ out.old.items ++ interface_text place count) }
 {
     put_with_short(out, opcode::INVOKEINTERFACE, place)?;
@@ -283,7 +259,7 @@ pub fn put_interface(out: &mut Vec<u8>, place: u16, count: u8) -> Result<(), All
 }
 
 /// `invokedynamic`.
-pub fn put_dynamic(out: &mut Vec<u8>, place: u16) -> Result<(), AllocError>
+pub fn put_dynamic(out: &mut Vec<u8>, place: u16) -> Result<(), Memory>
     ensures { OnOk result (out.new.items ≡ out.old.items ++ dynamic_text place) }
 {
     put_with_short(out, opcode::INVOKEDYNAMIC, place)?;
@@ -293,7 +269,7 @@ pub fn put_dynamic(out: &mut Vec<u8>, place: u16) -> Result<(), AllocError>
 }
 
 /// `newarray`.
-pub fn put_new_array(out: &mut Vec<u8>, elem: u8) -> Result<(), AllocError>
+pub fn put_new_array(out: &mut Vec<u8>, elem: u8) -> Result<(), Memory>
     ensures { OnOk result (out.new.items ≡ out.old.items ++ newarray ∷ elem ∷ []) }
 {
     out.push(opcode::NEWARRAY)?;
@@ -302,7 +278,7 @@ pub fn put_new_array(out: &mut Vec<u8>, elem: u8) -> Result<(), AllocError>
 }
 
 /// `multianewarray`.
-pub fn put_multi(out: &mut Vec<u8>, place: u16, dims: u8) -> Result<(), AllocError>
+pub fn put_multi(out: &mut Vec<u8>, place: u16, dims: u8) -> Result<(), Memory>
     ensures { OnOk result (out.new.items ≡ out.old.items ++ multi_text place dims) }
 {
     put_with_short(out, opcode::MULTIANEWARRAY, place)?;

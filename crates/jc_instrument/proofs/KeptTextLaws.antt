@@ -3,12 +3,13 @@ use Rattle.std.proofs.Common.{◌≡◌, ℕ, ◌-◌, ◌+◌, List, [], ◌∷
 use Rattle.std.specs.Prelude.{slice_index}
 use Rattle.std.specs.List.{AllByRecursion, flat_map}
 use Rattle.std.proofs.lemmas.List.Concat.{flat_map-cons}
+use Rattle.jc_bytes.specs.BigNumbers.{short}
 use Rattle.jc_methods.specs.VerificationTypes.{Names, VerificationType, top, int, float, double, long, null, uninit_this, object, uninit, TypeStateAt, class_name, class_names, type_state_at}
 use Rattle.jc_methods.specs.declared.body.FrameAt.{FrameAt}
 use Rattle.jc_pool.specs.Pool.{PoolValue}
 use Rattle.jc_class.specs.declared.class_file.Attribute.{Attribute}
 use Rattle.jc_frames.specs.Frames.{values_in}
-use Rattle.jc_frames.specs.FullFrames.{Places, full_text, full_texts, short, type_text, types_text}
+use Rattle.jc_frames.specs.FullFrames.{Places, full_text, full_texts, type_text, types_text}
 use Rattle.jc_frames.specs.FullTable.{named_by, named_by_all}
 use Rattle.jc_frames.proofs.FullTextLaws.{both_parts}
 use Rattle.jc_emit.specs.declared.tables.MovedTables.{MovedTables}

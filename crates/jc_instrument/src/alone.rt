@@ -7,6 +7,7 @@ ghost use Rattle.jc_instrument.specs.Causes.{FirstCause};
 ghost use Rattle.jc_instrument.specs.LeftAlone.{has_code, is_left_alone};
 ghost use Rattle.jc_instrument.specs.Reasons.{interface_causes};
 
+use jc_body::has_name;
 use jc_bytes::{Refusal, RefusalKind};
 use jc_class::{Attribute, ClassFile, Member};
 use jc_pool::Pool;
@@ -19,16 +20,6 @@ const SYNTHETIC: u16 = 0x1000;
 
 /// The flag of a module file (ACC_MODULE).
 const MODULE: u16 = 0x8000;
-
-/// Whether the attribute has this name.
-pub fn has_name(pool: &Pool, name: &[u8], attribute: &Attribute) -> bool
-    ensures { result ≡ has_name pool.now name.now attribute.now }
-{
-    match pool.utf8_at(attribute.name) {
-        Ok(text) => text == name,
-        Err(_) => false,
-    }
-}
 
 /// Whether one of the attributes has this name.
 fn some_named(pool: &Pool, name: &[u8], attributes: &[Attribute]) -> bool

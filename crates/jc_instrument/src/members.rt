@@ -11,9 +11,9 @@ ghost use Rattle.jc_instrument.specs.Writing.{ArePlannedWorks, ArePut};
 ghost use Rattle.jc_instrument.specs.TwinText.{data_member, init_member, with_code};
 
 use crate::again::planned_text;
-use crate::alone::has_name;
 use crate::needs::MemberPlaces;
 use crate::ready::{PlannedBody, method_of};
+use jc_body::has_name;
 use jc_bytes::{Bytes, Fail, List, Memory, Names};
 use jc_class::{Attribute, ClassFile, Member};
 use jc_instrument_code::{AddedPlaces, CodePlaces, write_init};

@@ -28,7 +28,7 @@ use crate::class::class_refusal;
 use crate::described::class_name_at;
 use crate::ready_class::{ReadyClass, ready_class};
 use crate::twin::grown_twin;
-use jc_bytes::{Bytes, Fail, List, Memory, Names, Refusal};
+use jc_bytes::{Bytes, Fail, List, Memory, Names, Refusal, are_bytes};
 use jc_class::{Attribute, ClassFile, Member, class_id, read_class, write_class};
 use std::alloc::Global;
 
@@ -89,11 +89,6 @@ fn some_too_long(methods: &[Member]) -> bool
 {
     methods.iter().any(|method| has_too_long(method))
 }
-
-/// What is kept as bytes is bytes.
-fn are_bytes(bytes: &[u8])
-    ensures { AreBytes bytes.now }
-{}
 
 /// A class whose bodies are ready for their instrumented code to be written, with its name.
 #[derive(Debug, Drop)]

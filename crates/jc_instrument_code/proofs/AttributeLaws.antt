@@ -6,6 +6,7 @@ use Rattle.std.proofs.lemmas.Bool.{eqb-true}
 use Rattle.std.proofs.lemmas.Grind.{flat_map-append}
 use Rattle.std.proofs.lemmas.List.{append-nil, length-map}
 use Rattle.jc_bytes.proofs.AppendingLaws.{joined}
+use Rattle.jc_bytes.specs.BigNumbers.{short, word}
 use Rattle.jc_methods.specs.VerificationTypes.{Names, TypeStateAt, type_state_at}
 use Rattle.jc_methods.specs.declared.body.FrameAt.{FrameAt}
 use Rattle.jc_class.specs.declared.class_file.Attribute.{Attribute}
@@ -13,7 +14,6 @@ use Rattle.jc_emit.specs.declared.tables.MovedTables.{MovedTables}
 use Rattle.jc_frames.specs.FullFrames.{Places, table_text}
 use Rattle.jc_frames.specs.FullTable.{ArePlacesIn, HasPlace, TakesClasses}
 use Rattle.jc_frames.proofs.TakenLaws.{stands_first}
-use Rattle.jc_insn.specs.Writing.{short, word}
 use Rattle.jc_pool.specs.Pool.{PoolValue}
 use Rattle.jc_instrument_code.specs.CodeText.{all_parts, attribute, attribute_text, counted_text, line_text, var_text, table_attributes, frame_attributes}
 use Rattle.jc_instrument_code.specs.TwinCode.{attributes_by, places_by}

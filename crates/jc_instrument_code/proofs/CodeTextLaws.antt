@@ -3,8 +3,8 @@ use Rattle.std.proofs.Common.{◌≡◌, ℕ, List, [], ◌∷◌, ◌++◌, len
 use Rattle.std.specs.List.{flat_map}
 use Rattle.std.proofs.lemmas.List.{append-nil}
 use Rattle.jc_bytes.proofs.AppendingLaws.{joined}
+use Rattle.jc_bytes.specs.BigNumbers.{short, word}
 use Rattle.jc_class.specs.declared.class_file.Attribute.{Attribute}
-use Rattle.jc_insn.specs.Writing.{short, word}
 use Rattle.jc_instrument_code.specs.CodeText.{attribute_text, code_text, counted_text}
 
 -- the sizes, the code, the exception table and the attributes

@@ -5,12 +5,13 @@ use Rattle.std.proofs.lemmas.Bool.Decides.{nat_tests}
 use Rattle.std.proofs.lemmas.List.{append-nil}
 use Rattle.std.proofs.Math.Nat.{sub-zero}
 use Rattle.jc_bytes.proofs.AppendingLaws.{joined}
+use Rattle.jc_bytes.specs.BigNumbers.{short, word}
 use Rattle.jc_methods.specs.Opcode as opcode
 use Rattle.jc_methods.specs.InsnForm.{form_of}
 use Rattle.jc_methods.specs.declared.insn.Insn.{Insn}
 use Rattle.jc_methods.specs.declared.insn.Insn.TheVariants as insns
 use Rattle.jc_frames.specs.FullFrames as frames
-use Rattle.jc_insn.specs.Writing.{short, word, insn_text}
+use Rattle.jc_insn.specs.Writing.{insn_text}
 use Rattle.jc_insn.proofs.ReadBackLaws.{short_size}
 use Rattle.jc_emit.specs.Added.{InitPlaces, end_place, init_frame, init_stack}
 use Rattle.jc_instrument_code.specs.CodeText.{attribute, attribute_text}
@@ -112,7 +113,7 @@ no_ends one offset none class =
 
 frame_is : (array : ℕ) (pushed : List ℕ)
     → frames.table_text (init_frame_places array (end_offset pushed)) (record { at = end_place; state = init_frame } ∷ []) ≡ frame_bytes array pushed
-unfolding frames.short short
+unfolding short
 frame_is array pushed =
     no_ends (short 1) (short (end_offset pushed - 0)) (short 0) (short array)
     ∙ ap (λ (n : ℕ). short 1 ++ ((255 ∷ []) ++ (short n ++ (short 0 ++ (short 1 ++ (7 ∷ short array)))))) (sub-zero (end_offset pushed))

@@ -6,9 +6,9 @@ use Rattle.std.proofs.lemmas.List.Concat.{flat_map-cons}
 use Rattle.std.proofs.lemmas.List.Folds.{drop_split}
 use Rattle.std.proofs.Math.Seq.{take-append_seam, drop-append_seam}
 use Rattle.jc_bytes.proofs.AppendingLaws.{joined}
+use Rattle.jc_bytes.specs.BigNumbers.{short, word}
 use Rattle.jc_methods.specs.declared.body.LineAt.{LineAt}
 use Rattle.jc_methods.specs.declared.body.VarAt.{VarAt}
-use Rattle.jc_insn.specs.Writing.{short, word}
 use Rattle.jc_insn.proofs.ReadBackLaws.{short_size}
 use Rattle.jc_instrument_code.specs.CodeText.{counted_text, line_text, var_text, parts_of, all_parts, attribute, attribute_text, table_attributes}
 

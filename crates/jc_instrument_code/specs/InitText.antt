@@ -1,9 +1,10 @@
 -- The text of the method that gives the probe array of a class.
 use Rattle.std.specs.Prelude.{ℕ, ◌+◌, false, List, [], ◌∷◌, ◌++◌, length}
+use Rattle.jc_bytes.specs.BigNumbers.{short}
 use Rattle.jc_methods.specs.Opcode as opcode
 use Rattle.jc_class.specs.declared.class_file.Attribute.{Attribute}
 use Rattle.jc_frames.specs.FullFrames.{Places, table_text}
-use Rattle.jc_insn.specs.Writing.{short, insn_text}
+use Rattle.jc_insn.specs.Writing.{insn_text}
 use Rattle.jc_emit.specs.Added.{InitPlaces, end_place, init_stack, init_frame}
 use Rattle.jc_emit.specs.Marks.{push}
 use Rattle.jc_instrument_code.specs.declared.init.AddedPlaces.{AddedPlaces}

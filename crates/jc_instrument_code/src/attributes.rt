@@ -11,9 +11,9 @@ ghost use Rattle.jc_instrument_code.specs.TwinCode.{places_by};
 ghost use Rattle.jc_instrument_code.specs.declared.code.CodePlaces.{CodePlaces as CodeTextPlaces};
 
 use crate::code::{CodePlaces, CodeTables};
-use crate::numbers::{put_header, put_short};
+use crate::numbers::put_header;
 use crate::parts::{part_count, put_line_tables, put_var_tables};
-use jc_bytes::{Memory, Names, put_bytes};
+use jc_bytes::{Memory, Names, put_bytes, put_short};
 use jc_frames::write_full;
 use jc_methods::FrameAt;
 use jc_pool::Pool;

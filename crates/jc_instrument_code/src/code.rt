@@ -10,9 +10,9 @@ ghost use Rattle.jc_instrument_code.specs.LaidText.{laid_text, tables_seen};
 ghost use Rattle.jc_instrument_code.specs.TwinCode.{twin_code};
 
 use crate::attributes::put_attributes;
-use crate::numbers::{put_short, put_sizes};
+use crate::numbers::put_sizes;
 use crate::tables::put_rows;
-use jc_bytes::{Bytes, List, Memory, Names, put_bytes, put_u8};
+use jc_bytes::{Bytes, List, Memory, Names, put_bytes, put_short, put_u8};
 use jc_layout::Laid;
 use jc_methods::{Emitted, FrameAt, Handler, LineAt, VarAt};
 use jc_pool::Pool;

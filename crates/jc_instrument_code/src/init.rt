@@ -1,11 +1,11 @@
 //! The method that gives the probe array of a class.
 ghost use Rattle.std.specs.Prelude.{◌≡◌, ◌≤◌, ◌+◌, ◌++◌, ◌∷◌, IfOk, OnOk, length};
-ghost use Rattle.jc_insn.specs.Writing.{short};
+ghost use Rattle.jc_bytes.specs.BigNumbers.{short};
 ghost use Rattle.jc_instrument_code.specs.CodeText.{attribute_text};
 ghost use Rattle.jc_instrument_code.specs.InitText.{init_bytes, init_frames, init_text, named_places, push_count};
 
-use crate::numbers::{put_header, put_short, put_sizes};
-use jc_bytes::{Bytes, List, Memory, put_bytes, put_u8};
+use crate::numbers::{put_header, put_sizes};
+use jc_bytes::{Bytes, List, Memory, put_bytes, put_short, put_u8, put_with_short};
 use jc_methods::opcode;
 use std::alloc::Global;
 
@@ -53,15 +53,6 @@ fn put_push(into: &mut Vec<u8>, number: u32) -> Result<(), Memory>
         put_u8(into, opcode::SIPUSH)?;
         put_short(into, number as u16)?;
     }
-    Ok(())
-}
-
-/// Puts an opcode and a number of two bytes at the end.
-fn put_with_short(into: &mut Vec<u8>, op: u8, number: u16) -> Result<(), Memory>
-    ensures { OnOk result (into.new.items ≡ into.old.items ++ op ∷ short number) }
-{
-    put_u8(into, op)?;
-    put_short(into, number)?;
     Ok(())
 }
 

@@ -1,26 +1,8 @@
-//! Numbers of two and of four bytes.
+//! The numbers at the head of an attribute and of the code.
 ghost use Rattle.std.specs.Prelude.{◌≡◌, ◌++◌, OnOk};
-ghost use Rattle.jc_insn.specs.Writing.{short, word};
+ghost use Rattle.jc_bytes.specs.BigNumbers.{short, word};
 
-use jc_bytes::{Memory, put_bytes};
-
-/// Puts a number of two bytes at the end.
-#[tactic(auto, unfolding(jc_insn::specs::Writing::short))]
-pub fn put_short(into: &mut Vec<u8>, number: u16) -> Result<(), Memory>
-    ensures { OnOk result (into.new.items ≡ into.old.items ++ short number) }
-{
-    put_bytes(into, &number.to_be_bytes())?;
-    Ok(())
-}
-
-/// Puts a number of four bytes at the end.
-#[tactic(auto, unfolding(jc_insn::specs::Writing::word))]
-pub fn put_word(into: &mut Vec<u8>, number: u32) -> Result<(), Memory>
-    ensures { OnOk result (into.new.items ≡ into.old.items ++ word number) }
-{
-    put_bytes(into, &number.to_be_bytes())?;
-    Ok(())
-}
+use jc_bytes::{Memory, put_short, put_word};
 
 /// Puts the place of an attribute's name and its length at the end (JVM Specification 4.7).
 pub fn put_header(into: &mut Vec<u8>, name: u16, length: u32) -> Result<(), Memory>

@@ -3,8 +3,7 @@ ghost use Rattle.std.specs.Prelude.{◌≡◌, ◌≤◌, ◌++◌, OnOk, length
 ghost use Rattle.jc_frames.specs.FullTable.{AreShort};
 ghost use Rattle.jc_instrument_code.specs.CodeText.{counted_text, line_text, row_text, var_text};
 
-use crate::numbers::put_short;
-use jc_bytes::Memory;
+use jc_bytes::{Memory, put_short};
 use jc_methods::{Handler, LineAt, VarAt};
 
 /// The offset of an instruction, or of the end of the code; 0 where there is none.

@@ -6,17 +6,17 @@ use Rattle.std.proofs.Math.ListN.{drop_of_length-le}
 use Rattle.std.proofs.lemmas.Bool.{cases_lt}
 use Rattle.std.proofs.lemmas.Grind.{flat_map-append}
 use Rattle.std.proofs.lemmas.List.{take-append-drop, length-drop}
+use Rattle.jc_bytes.specs.BigNumbers.{short, word}
 use Rattle.jc_methods.specs.VerificationTypes.{VerificationType, top, int, float, double, long, null, uninit_this, object, uninit, TypeStateAt}
 use Rattle.jc_class.specs.declared.class_file.Attribute.{Attribute}
 use Rattle.jc_frames.specs.Frames.{trimmed, values_in}
 use Rattle.jc_frames.specs.FullFrames as full
 use Rattle.jc_frames.proofs.ValuesLaws.{trimmed_few, values_few}
-use Rattle.jc_insn.specs.Writing.{short, word}
 use Rattle.jc_insn.proofs.ReadBackLaws.{short_size, word_size}
 use Rattle.jc_instrument_code.specs.CodeText.{attribute, attribute_text, counted_text, parts_of, table_attributes}
 
-frame_short_count : (x : ℕ) → length (full.short x) ≡ 2
-unfolding full.short
+frame_short_count : (x : ℕ) → length (short x) ≡ 2
+unfolding short
 frame_short_count x = refl
 
 -- ---- frames
@@ -48,7 +48,7 @@ module _ (p : full.Places) where
   types_most hs =
       let count = frame_short_count (length hs) in
       let all = all_most hs in
-      let both = length-append (full.short (length hs)) (flat_map (full.type_text p) hs) in
+      let both = length-append (short (length hs)) (flat_map (full.type_text p) hs) in
       omega (arith, count, all, both)
 
   frame_most : (base : ℕ) (f : TypeStateAt) → length (full.full_text p base f) ≤ 7 + 3 * (length f.state.locals + length f.state.stack)
@@ -57,7 +57,7 @@ module _ (p : full.Places) where
       let values = values_most f.state.locals in
       let locals = types_most (values_in f.state.locals) in
       let stack = types_most f.state.stack in
-      let both = length-append (full.short (p.start f.at - base)) (full.types_text p (values_in f.state.locals) ++ full.types_text p f.state.stack) in
+      let both = length-append (short (p.start f.at - base)) (full.types_text p (values_in f.state.locals) ++ full.types_text p f.state.stack) in
       let more = length-append (full.types_text p (values_in f.state.locals)) (full.types_text p f.state.stack) in
       omega (arith, count, values, locals, stack, both, more)
 
@@ -79,7 +79,7 @@ module _ (p : full.Places) where
   table_most most list all =
       let count = frame_short_count (length list) in
       let frames = frames_most 0 most list all in
-      let both = length-append (full.short (length list)) (full.full_texts p 0 list) in
+      let both = length-append (short (length list)) (full.full_texts p 0 list) in
       omega (arith, count, frames, both)
 
 -- ---- tables in parts

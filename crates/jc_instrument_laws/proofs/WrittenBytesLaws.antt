@@ -5,6 +5,7 @@ use Rattle.std.specs.Int.{w16, cast_unsigned}
 use Rattle.std.specs.List.{flat_map, AllByRecursion}
 use Rattle.std.proofs.lemmas.Bool.{leb-true}
 use Rattle.jc_bytes.specs.ByteLists.{AreBytes}
+use Rattle.jc_bytes.specs.BigNumbers.{short, word}
 use Rattle.jc_methods.specs.VerificationTypes.{Names, VerificationType, top, int, float, double, long, null, uninit_this, object, uninit, TypeStateAt}
 use Rattle.jc_methods.specs.InsnForm.{form_of}
 use Rattle.jc_methods.specs.Opcode as opcode
@@ -19,7 +20,7 @@ use Rattle.jc_methods.specs.declared.insn.Insn.TheVariants as insns
 use Rattle.jc_class.specs.declared.class_file.Attribute.{Attribute}
 use Rattle.jc_frames.specs.Frames.{values_in}
 use Rattle.jc_frames.specs.FullFrames as full
-use Rattle.jc_insn.specs.Writing.{short, word, push_text, insn_text}
+use Rattle.jc_insn.specs.Writing.{push_text, insn_text}
 use Rattle.jc_insn.proofs.ReadBackLaws.{short_size, word_size}
 use Rattle.jc_plan.proofs.CountLaws.{each_joined}
 use Rattle.jc_pool.specs.Pool.{PoolValue}
@@ -72,8 +73,8 @@ parts_are name text each (part ∷ parts) = (counted_are text each part, parts_a
 
 -- ---- frames
 
-frame_short_are : (x : ℕ) → AreBytes (full.short x)
-unfolding full.short
+frame_short_are : (x : ℕ) → AreBytes (short x)
+unfolding short
 frame_short_are x = big_bytes_are 2 x
 
 module _ (p : full.Places) where
@@ -89,21 +90,21 @@ module _ (p : full.Places) where
   type_are (uninit at) = (omega arith, frame_short_are (p.start at))
 
   types_are : (hs : List VerificationType) → AreBytes (full.types_text p hs)
-  types_are hs = bytes_both (full.short (length hs)) _ (frame_short_are (length hs)) (flat_are (full.type_text p) type_are hs)
+  types_are hs = bytes_both (short (length hs)) _ (frame_short_are (length hs)) (flat_are (full.type_text p) type_are hs)
 
   frames_are : (base : ℕ) (list : List TypeStateAt) → AreBytes (full.full_texts p base list)
   frames_are base [] = tt
   frames_are base (f ∷ list) =
       bytes_both (full.full_text p base f) (full.full_texts p (p.start f.at + 1) list) (
         omega arith,
-        bytes_both (full.short (p.start f.at - base)) _ (frame_short_are (p.start f.at - base))
+        bytes_both (short (p.start f.at - base)) _ (frame_short_are (p.start f.at - base))
             (bytes_both (full.types_text p (values_in f.state.locals)) (full.types_text p f.state.stack) (types_are (values_in f.state.locals))
             (types_are f.state.stack)),
       )
       (frames_are (p.start f.at + 1) list)
 
   pub table_are : (list : List TypeStateAt) → AreBytes (full.table_text p list)
-  table_are list = bytes_both (full.short (length list)) _ (frame_short_are (length list)) (frames_are 0 list)
+  table_are list = bytes_both (short (length list)) _ (frame_short_are (length list)) (frames_are 0 list)
 
   map_are : (name : ℕ) (list : List TypeStateAt) → AllByRecursion (λ a. AreBytes a.body) (frame_attributes name p list)
   map_are name [] = tt

@@ -4,12 +4,12 @@ use Rattle.std.specs.List.{AllByRecursion, flat_map}
 use Rattle.std.proofs.lemmas.Grind.{flat_map-append}
 use Rattle.std.proofs.lemmas.List.{length-map, take-append-drop}
 use Rattle.std.proofs.lemmas.List.Concat.{flat_map-cons}
+use Rattle.jc_bytes.specs.BigNumbers.{short, word}
 use Rattle.jc_methods.specs.VerificationTypes.{TypeStateAt}
 use Rattle.jc_methods.specs.declared.body.LineAt.{LineAt}
 use Rattle.jc_methods.specs.declared.body.VarAt.{VarAt}
 use Rattle.jc_class.specs.declared.class_file.Attribute.{Attribute}
 use Rattle.jc_frames.specs.FullFrames.{Places}
-use Rattle.jc_insn.specs.Writing.{short, word}
 use Rattle.jc_insn.proofs.ReadBackLaws.{short_size}
 use Rattle.jc_instrument_code.specs.CodeText.{all_parts, attribute, attribute_text, code_text, counted_text, frame_attributes, line_text, parts_of, table_attributes, var_text}
 use Rattle.jc_instrument_code.proofs.PartLaws.{parts_count}

@@ -4,13 +4,13 @@ use Rattle.std.specs.List.{AllByRecursion, flat_map}
 use Rattle.std.proofs.lemmas.List.{append-nil}
 use Rattle.jc_bytes.proofs.EachLaws.{all_both, all_weaker}
 use Rattle.jc_bytes.specs.Counted.{counted}
+use Rattle.jc_bytes.specs.BigNumbers.{short, word}
 use Rattle.jc_methods.specs.VerificationTypes.{Names, TypeStateAt}
 use Rattle.jc_methods.specs.WellMade.{IsWellMadeOfAnySize}
 use Rattle.jc_methods.specs.declared.body.Body.{Body}
 use Rattle.jc_methods.specs.declared.emitted.Emitted.{Emitted}
 use Rattle.jc_methods.specs.declared.kind.State.{State}
 use Rattle.jc_insn.specs.Spells.{Spells}
-use Rattle.jc_insn.specs.Writing.{short, word}
 use Rattle.jc_insn.proofs.ReadBackLaws.{big_short, big_word}
 use Rattle.jc_pool.specs.Pool.{PoolValue}
 use Rattle.jc_class.specs.ClassFormat.{HasText}

@@ -5,10 +5,10 @@ use Rattle.std.proofs.lemmas.List.{append-nil, map-id}
 use Rattle.jc_bytes.proofs.EachLaws.{all_weaker}
 use Rattle.jc_bytes.specs.Counted.{counted}
 use Rattle.jc_bytes.specs.Grammar.{Grammar}
+use Rattle.jc_bytes.specs.BigNumbers.{short, word}
 use Rattle.jc_methods.specs.declared.body.Handler.{Handler}
 use Rattle.jc_methods.specs.declared.body.LineAt.{LineAt}
 use Rattle.jc_methods.specs.declared.body.VarAt.{VarAt}
-use Rattle.jc_insn.specs.Writing.{short, word}
 use Rattle.jc_insn.proofs.ReadBackLaws.{big_short, big_word}
 use Rattle.jc_pool.specs.Pool.{PoolValue}
 use Rattle.jc_class.specs.ClassFormat.{attribute, HasText}

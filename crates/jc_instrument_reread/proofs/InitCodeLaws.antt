@@ -5,6 +5,7 @@ use Rattle.std.specs.Int.{cast_signed}
 use Rattle.std.proofs.lemmas.Bool.{cases_lt}
 use Rattle.std.proofs.lemmas.Int.{fits_signed_from_abs}
 use Rattle.std.proofs.lemmas.List.Elements.{All-nil}
+use Rattle.jc_bytes.specs.BigNumbers.{short}
 use Rattle.jc_methods.specs.Insn.{IsWellFormed, with_places}
 use Rattle.jc_methods.specs.InsnForm.{form_of}
 use Rattle.jc_methods.specs.Opcode as opcode
@@ -15,7 +16,7 @@ use Rattle.jc_methods.specs.declared.insn.Insn.TheVariants as insns
 use Rattle.jc_insn.specs.declared.item.CodeItem.TheVariants as items
 use Rattle.jc_insn.specs.Items.{IsItem, operands, target_of}
 use Rattle.jc_insn.specs.Spells.{Spells, SpellsFrom}
-use Rattle.jc_insn.specs.Writing.{IsNearJump, difference, insn_text, short}
+use Rattle.jc_insn.specs.Writing.{IsNearJump, difference, insn_text}
 use Rattle.jc_insn.proofs.OperandsSpelledLaws.{item_of, one_number}
 use Rattle.jc_insn.proofs.ReadBackLaws.{big_short, short_size, short_target}
 use Rattle.jc_insn.proofs.ShortestSpellingLaws.{Fits, near_text_is}

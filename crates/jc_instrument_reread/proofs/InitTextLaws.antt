@@ -4,8 +4,8 @@ use Rattle.std.proofs.lemmas.List.{append-nil}
 use Rattle.std.specs.Str.{bytes_eq}
 use Rattle.jc_bytes.specs.Counted.{counted}
 use Rattle.jc_bytes.specs.Grammar.{Grammar}
+use Rattle.jc_bytes.specs.BigNumbers.{short}
 use Rattle.jc_frames.specs.FullFrames as frames
-use Rattle.jc_insn.specs.Writing.{short}
 use Rattle.jc_insn.proofs.ReadBackLaws.{big_short, short_size}
 use Rattle.jc_pool.specs.Pool.{PoolValue}
 use Rattle.jc_class.specs.declared.class_file.Member.{Member}
@@ -29,7 +29,7 @@ use Rattle.jc_instrument_reread.proofs.NamedLaws.{all_bodies, no_bodies}
 -- its text has few bytes
 frame_few : (array : ℕ) (pushed : List ℕ)
     → length (frames.table_text (init_frame_places array (end_offset pushed)) (record { at = end_place; state = init_frame } ∷ [])) ≤ 4294967295
-unfolding frames.short short
+unfolding short
 frame_few array pushed =
     let last = (7 ∷ short array) ++ [] in
     let one = short 1 in

@@ -2,6 +2,7 @@
 use Rattle.std.proofs.Common.{◌≡◌, ℕ, ◌+◌, ◌-◌, Bool, true, false, List, [], ◌∷◌, ◌++◌, length, map, refl, sym, ◌∙◌, ap, ap₂}
 use Rattle.std.specs.List.{flat_map}
 use Rattle.std.proofs.lemmas.List.{length-map}
+use Rattle.jc_bytes.specs.BigNumbers.{short}
 use Rattle.jc_methods.specs.VerificationTypes.{Names, VerificationType, top, int, float, double, long, null, uninit_this, object, uninit, class_names, verification_type, type_state_at, is_pair}
 use Rattle.jc_methods.specs.declared.body.FrameAt.{FrameAt}
 use Rattle.jc_methods.specs.declared.kind.Kind.{Kind}
@@ -10,7 +11,7 @@ use Rattle.jc_kinds_after.specs.Shift.{renamed}
 use Rattle.jc_emit.specs.Emission.{widened_frame}
 use Rattle.jc_emit.specs.Shift.{image_kind}
 use Rattle.jc_frames.specs.Frames.{without_last_top, trimmed, values_from, values_in}
-use Rattle.jc_frames.specs.FullFrames.{Places, short, type_text, types_text, full_text, full_texts, table_text}
+use Rattle.jc_frames.specs.FullFrames.{Places, type_text, types_text, full_text, full_texts, table_text}
 use Rattle.jc_frames.specs.FullTable.{named_by, named_by_all}
 
 module _ (f : ℕ → ℕ) where

@@ -2,6 +2,7 @@
 use Rattle.std.proofs.Common.{◌≡◌, ℕ, ◌+◌, ◌<◌, Bool, false, List, [], ◌∷◌, ◌++◌, map, length, refl, sym, ap, ◌∙◌, subst, arith}
 use Rattle.std.specs.Prelude.{slice_index}
 use Rattle.std.proofs.lemmas.List.{append_cancel_left}
+use Rattle.jc_bytes.specs.BigNumbers.{short}
 use Rattle.jc_methods.specs.Opcode as opcode
 use Rattle.jc_methods.specs.declared.form.Form.TheVariants as forms
 use Rattle.jc_methods.specs.InsnForm.{form_of}
@@ -17,7 +18,7 @@ use Rattle.jc_insn.specs.declared.item.CodeItem.TheVariants as items
 use Rattle.jc_insn.specs.Items.{operands, IsItem}
 use Rattle.jc_insn.specs.Sizes.{StartAt}
 use Rattle.jc_insn.specs.Spells.{SpellsFrom, Spells}
-use Rattle.jc_insn.specs.Writing.{short, insn_text, code_text}
+use Rattle.jc_insn.specs.Writing.{insn_text, code_text}
 use Rattle.jc_insn.specs.Layouts.{laid_starts}
 use Rattle.jc_insn.proofs.ItemReadingLaws.{same_item}
 use Rattle.jc_insn.proofs.OperandsSpelledLaws.{item_of, one_number}

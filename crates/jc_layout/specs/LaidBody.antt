@@ -1,5 +1,6 @@
 -- The body that the bytes of a layout stand for.
 use Rattle.std.specs.Prelude.{◌≡◌, ℕ, ◌<◌, ◌^◌, Bool, true, false, List, [], ◌∷◌, ◌++◌, map, Some}
+use Rattle.jc_bytes.specs.BigNumbers.{short}
 use Rattle.jc_methods.specs.VerificationTypes.{Names}
 use Rattle.jc_methods.specs.WellMade.{what_used}
 use Rattle.jc_methods.specs.Widened.{wide_place}
@@ -13,7 +14,6 @@ use Rattle.jc_methods.specs.declared.kind.State.{State}
 use Rattle.jc_methods.specs.declared.emitted.Emitted.{Emitted}
 use Rattle.jc_insn.specs.Layouts.{laid_code, laid_starts}
 use Rattle.jc_insn.specs.Spells.{Spells}
-use Rattle.jc_insn.specs.Writing.{short}
 use Rattle.jc_emit.specs.Emission.{emission, widened_frame}
 use Rattle.jc_emit.specs.Marks.{invokestatic}
 use Rattle.jc_emit.specs.Twin.{probe_init, Twin}

@@ -13,12 +13,3 @@ linked_at names [] classes are i bytes at = absurd (none-some bytes at)
 linked_at names (x ∷ files) [] are i bytes at = absurd are
 linked_at names (x ∷ files) (l ∷ classes) are zero bytes at = (l, refl, subst (λ (b : List ℕ). IsLinkedClass names b l) (same_Some x bytes at) are.0)
 linked_at names (x ∷ files) (l ∷ classes) are (suc i) bytes at = linked_at names files classes are.1 i bytes at
-
--- the file of which the class at a place is linked
-pub class_at : (names : Names) (files : List (List ℕ)) (classes : List Linked) → AreLinkedClasses names files classes → (i : ℕ) (l : Linked) → slice_get classes i ≡ Some l
-    → (bytes : List ℕ) × (slice_get files i ≡ Some bytes) × IsLinkedClass names bytes l
-class_at names [] [] are i l at = absurd (none-some l at)
-class_at names [] (k ∷ classes) are i l at = absurd are
-class_at names (x ∷ files) [] are i l at = absurd are
-class_at names (x ∷ files) (k ∷ classes) are zero l at = (x, refl, subst (IsLinkedClass names x) (same_Some k l at) are.0)
-class_at names (x ∷ files) (k ∷ classes) are (suc i) l at = class_at names files classes are.1 i l at

@@ -24,10 +24,11 @@ use Rattle.jc_link_programs.specs.Pairs.{HaveOneId, HaveOneName, IsFirstPair, id
 use Rattle.jc_link_programs.specs.declared.link_refusal.LinkRefusal.{LinkRefusal}
 use Rattle.jc_link_programs.specs.declared.link_refusal.LinkRefusal.TheVariants as refusals
 use Rattle.jc_link_programs.proofs.LinkingLaws.{no_reason}
+use Rattle.jc_link_programs.proofs.AnswerLaws.{class_at}
 use Rattle.jc_link_laws.specs.SecondLinking.{IsSecondRefusal, one_id as ids_of, too_wide}
 use Rattle.jc_link_laws.specs.TwinFiles.{AreWrittenOf, IsShortFile, IsWrittenOf, IsWrittenTwin}
 use Rattle.jc_link_laws.proofs.ChangedPairLaws.{probes_new}
-use Rattle.jc_link_laws.proofs.PlaceLaws.{linked_at, class_at}
+use Rattle.jc_link_laws.proofs.PlaceLaws.{linked_at}
 use Rattle.jc_link_laws.proofs.SecondReasonLaws.{twin_reason}
 use Rattle.jc_link_laws.proofs.TwinLinkLaws.{pair}
 use Rattle.jc_link_laws.proofs.TwinPairLaws.{no_probes, none_added, unchanged_pair}

@@ -73,14 +73,14 @@ program_is files p few classes fit none = (
 
 -- ---- two classes of one name, or of one id
 
--- a linked class is that of its file
-linked_at : (names : Names) (files : List (List ℕ)) (classes : List Linked) (i : ℕ) (c : Linked) → AreLinkedClasses names files classes
-    → slice_get classes i ≡ Some c → (bytes : List ℕ) × (slice_get files i ≡ Some bytes) × IsLinkedClass names bytes c
-linked_at names [] [] i c are at = absurd (none-some c at)
-linked_at names [] (d ∷ classes) i c are at = absurd are
-linked_at names (bytes ∷ files) [] i c are at = absurd are
-linked_at names (bytes ∷ files) (d ∷ classes) zero c are at = (bytes, refl, subst (IsLinkedClass names bytes) (same_Some d c at) are.0)
-linked_at names (bytes ∷ files) (d ∷ classes) (suc i) c are at = linked_at names files classes i c are.1 at
+-- the file of which the class at a place is linked
+pub class_at : (names : Names) (files : List (List ℕ)) (classes : List Linked) → AreLinkedClasses names files classes → (i : ℕ) (l : Linked) → slice_get classes i ≡ Some l
+    → (bytes : List ℕ) × (slice_get files i ≡ Some bytes) × IsLinkedClass names bytes l
+class_at names [] [] are i l at = absurd (none-some l at)
+class_at names [] (k ∷ classes) are i l at = absurd are
+class_at names (x ∷ files) [] are i l at = absurd are
+class_at names (x ∷ files) (k ∷ classes) are zero l at = (x, refl, subst (IsLinkedClass names x) (same_Some k l at) are.0)
+class_at names (x ∷ files) (k ∷ classes) are (suc i) l at = class_at names files classes are.1 i l at
 
 with_id : (o : Option ProbeInit) (id : ℕ) → option_map (λ (p : ProbeInit). p.id) o ≡ Some id → (init : ProbeInit) × (o ≡ Some init) × (id ≡ init.id)
 with_id None id is = absurd (none-some id is)
@@ -90,7 +90,7 @@ pub pair_refused : (names : Names) (files : List (List ℕ)) (classes : List Lin
     → PairAnswer classes (Some clash) → IsLinkClash files clash
 pair_refused names files classes (clashes.SameName first second name) are pair =
     let key = pair.1 in
-    let at = linked_at names files classes first key.linked are key.stands in
+    let at = class_at names files classes are first key.linked key.stands in
     record {
       refusal = one_name names classes are pair.0;
       common = record {
@@ -104,7 +104,7 @@ pair_refused names files classes (clashes.SameName first second name) are pair =
     }
 pair_refused names files classes (clashes.SameId first second id) are pair =
     let key = pair.2 in
-    let at = linked_at names files classes first key.linked are key.stands in
+    let at = class_at names files classes are first key.linked key.stands in
     let has = with_id key.linked.probes id key.is in
     record {
       refusal = one_id names classes are pair.0 pair.1;

@@ -8,11 +8,12 @@ ghost use Rattle.jc_methods.specs.ValueTypes.{Says};
 ghost use Rattle.jc_machine_model.specs.Programs.{IsFirstOf, IsStatic};
 ghost use Rattle.jc_machine_numbers.specs.Narrowings.{narrowing_of};
 ghost use Rattle.jc_programs.specs.Narrowing.{narrowed};
-ghost use Rattle.jc_body.specs.Attributes.{bodies_of, has_name};
+ghost use Rattle.jc_body.specs.Attributes.{bodies_of};
 ghost use Rattle.jc_class.specs.ClassFormat.{HasText, HasFieldDescriptor};
 ghost use Rattle.jc_class.specs.Writable.{IsClassFile, IsMember};
 ghost use Rattle.jc_link_programs.specs.Statics.{as_static, constant_place, first_number, has_clinit, int_at, is_clinit, long_at, number_at, place_in, single, statics_of};
 
+use jc_body::has_name;
 use jc_bytes::{Bytes, List, Memory};
 use jc_class::{Attribute, ClassFile, Member};
 use jc_machine_numbers::Narrowing;
@@ -31,16 +32,6 @@ fn place_in(bytes: &[u8]) -> Option<u16>
     match bytes {
         [high, low] => Some(u16::from(*high) * 256 + u16::from(*low)),
         _ => None,
-    }
-}
-
-/// Whether the attribute has this name.
-fn has_name(pool: &Pool, name: &[u8], attribute: &Attribute) -> bool
-    ensures { result ≡ has_name pool.now name.now attribute.now }
-{
-    match pool.utf8_at(attribute.name) {
-        Ok(text) => text == name,
-        Err(_) => false,
     }
 }
 

@@ -1,9 +1,8 @@
 //! Which methods threads may enter.
 ghost use Rattle.std.specs.Prelude.{◌≡◌};
-ghost use Rattle.jc_methods.specs.EntryState.{is_static};
 ghost use Rattle.jc_machine_model.specs.Methods.{is_init_name, declares_init, most_frame_slots, is_wide, is_synchronized, is_native, is_plain, is_enterable};
 
-use jc_methods::{Body, INIT_NAME};
+use jc_methods::{Body, INIT_NAME, is_static};
 use jc_programs::Linked;
 
 /// Whether it is the name of the method that gives the probe array.
@@ -35,13 +34,6 @@ fn is_wide(most: u32, body: &Body) -> bool
     ensures { (class : Linked) → most_frame_slots class ≡ most → result ≡ is_wide class body.now }
 {
     most < u32::from(body.max_locals) + u32::from(body.max_stack)
-}
-
-/// Whether a method has no `this` (JVM Specification 4.6).
-fn is_static(flags: u16) -> bool
-    ensures { result ≡ is_static flags }
-{
-    flags & 0x0008 != 0
 }
 
 /// Whether a method is native (JVM Specification 4.6).

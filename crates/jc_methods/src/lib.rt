@@ -28,7 +28,7 @@ pub use descriptor_types::{
     more_names_change_nothing,
 };
 pub use emitted::Emitted;
-pub use entry::{entry_state, put_tops};
+pub use entry::{entry_state, is_static, put_tops};
 pub use form::{Form, form_of};
 pub use insn::{Arm, Flow, Insn, inverse, is_conditional_branch};
 pub use kind::{Kind, State};

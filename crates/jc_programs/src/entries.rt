@@ -1,22 +1,11 @@
 //! The method with which a thread begins.
 ghost use Rattle.std.specs.Prelude.{◌≡◌, ◌<◌, ◌^◌, length, position, All};
-ghost use Rattle.jc_methods.specs.EntryState.{is_static};
 ghost use Rattle.jc_programs.specs.Entries.{is_entry, entry_of};
 ghost use Rattle.jc_programs.specs.Members.{class_named};
 
 use crate::arguments::takes;
 use crate::{Entry, Program, ThreadLine};
-use jc_methods::{Body, INIT_NAME};
-
-/// The flag of a method without `this` (JVM Specification 4.6).
-const ACC_STATIC: u16 = 0x0008;
-
-/// Whether a method with these flags has no `this`.
-fn is_static(flags: u16) -> bool
-    ensures { result ≡ is_static flags }
-{
-    flags & ACC_STATIC != 0
-}
+use jc_methods::{Body, INIT_NAME, is_static};
 
 /// The number of the class with a name.
 fn class_named(program: &Program, name: &[u8]) -> Option<usize>

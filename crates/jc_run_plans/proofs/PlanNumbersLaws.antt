@@ -2,7 +2,8 @@
 use Rattle.std.proofs.Common.{◌≡◌, ℕ, ◌+◌, ◌-◌, ◌*◌, ◌<◌, ◌≤◌, Bool, true, false, cond, nat_le, nat_lt, List, [], ◌∷◌, ◌++◌, length, get_or, Option, Some, None, refl, sym, ap, ◌∙◌, arith, append_assoc, append-nil, length-append}
 use Rattle.std.proofs.lemmas.Bool.{leb-true, le-leb, ltb-true, both_ways}
 use Rattle.jc_bytes.proofs.OptionLaws.{none_some}
-use Rattle.jc_run_plans.specs.PlanWords.{is_digit, decimal_behind, up_to}
+use Rattle.jc_bytes.specs.Digits.{is_digit}
+use Rattle.jc_run_plans.specs.PlanWords.{decimal_behind, up_to}
 use Rattle.jc_run_plans.specs.Plans.{with_item, each_of, one_of, few_turns, most_turns}
 
 above_false : (most n : ℕ) → most < n → nat_le n most ≡ false

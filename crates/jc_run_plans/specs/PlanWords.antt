@@ -1,7 +1,8 @@
 -- The lines of a run plan, their words, and the numbers among these.
-use Rattle.std.specs.Prelude.{ℕ, ℤ, pos, ◌+◌, ◌-◌, ◌*◌, Bool, true, false, ◌==◌, ◌&&◌, List, [], ◌∷◌, filter, Option, Some, None, neg_ℤ, nat_le, if◌then◌else◌}
+use Rattle.std.specs.Prelude.{ℕ, ℤ, pos, ◌+◌, ◌-◌, ◌*◌, Bool, true, false, ◌==◌, List, [], ◌∷◌, filter, Option, Some, None, neg_ℤ, nat_le, if◌then◌else◌}
 use Rattle.std.specs.List.{slice_split}
 use Rattle.std.specs.Str.Lines.{lines}
+use Rattle.jc_bytes.specs.Digits.{is_digit}
 
 abbrev pub is_some_text : List ℕ → Bool
 is_some_text [] = false
@@ -51,9 +52,6 @@ abbrev pub numbered_lines : List ℕ → List Line
 numbered_lines text = numbered_from 1 (lines_of text)
 
 -- ---- numbers
-
-abbrev pub is_digit : ℕ → Bool
-is_digit b = nat_le 48 b && nat_le b 57
 
 -- the number that decimal digits spell behind those of this number, if there is nothing but digits
 abbrev pub decimal_behind : ℕ → List ℕ → Option ℕ

@@ -1,11 +1,12 @@
 //! Numbers in a run plan.
 ghost use Rattle.std.specs.Prelude.{◌≡◌, ◌≤◌, ◌+◌, ◌-◌, ◌*◌, true, Some, IfSome, pos, neg_ℤ};
-ghost use Rattle.jc_run_plans.specs.PlanWords.{is_digit, decimal_behind, decimal_up_to, signed_in, words_of, up_to};
+ghost use Rattle.jc_bytes.specs.Digits.{is_digit};
+ghost use Rattle.jc_run_plans.specs.PlanWords.{decimal_behind, decimal_up_to, signed_in, words_of, up_to};
 ghost use Rattle.jc_run_plans.specs.PlanReading.{Gives};
 ghost use Rattle.jc_run_plans.specs.Plans.{numbers_in, thread_number, turns_in, few_turns};
 
 use crate::plan_words::next_word;
-use jc_bytes::{Fail, List, Unfit};
+use jc_bytes::{Fail, List, Unfit, is_digit};
 use std::alloc::Global;
 
 /// The most turns of a schedule.
@@ -13,13 +14,6 @@ pub const MOST_TURNS: u64 = 1_000_000;
 
 /// The greatest number of 64 bits with a sign.
 const GREATEST: u64 = 9_223_372_036_854_775_807;
-
-/// Whether the byte is a decimal digit.
-fn is_digit(byte: u8) -> bool
-    ensures { result ≡ is_digit byte }
-{
-    byte >= b'0' && byte <= b'9'
-}
 
 /// The number that is spelled with one more digit, if it has 64 bits.
 fn with_digit(number: u64, digit: u8) -> Option<u64>

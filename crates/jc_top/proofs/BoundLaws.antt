@@ -4,10 +4,11 @@ use Rattle.std.proofs.lemmas.Bool.{and_parts}
 use Rattle.std.proofs.lemmas.Bool.Decides.{nat_tests}
 use Rattle.std.specs.List.{list_all}
 use Rattle.jc_command_words.specs.Words.{Word}
-use Rattle.jc_command_words.specs.Numbers.{is_digit, is_decimal, one_more_digit, decimal_value, IsNumber}
+use Rattle.jc_command_words.specs.Numbers.{is_decimal, one_more_digit, decimal_value, IsNumber}
 use Rattle.jc_command_words.specs.Forms.{Call}
 use Rattle.jc_command_words.specs.Commands.{Called, instrument, run, merge, report, exec_info, class_info, cover, cover_sample, IsWorkers, IsCallOf, Means, by_call, by_sample}
 use Rattle.jc_bytes.specs.declared.fail.Fail.{Fail}
+use Rattle.jc_bytes.specs.Digits.{is_digit}
 use Rattle.jc_command_words.specs.declared.command.Command.{Command}
 use Rattle.jc_command_words.specs.declared.read.Usage.{Usage}
 use Rattle.jc_command_words.specs.Outcome.{CommandRead}

@@ -1,11 +1,12 @@
 use Rattle.std.proofs.Common.{◌≡◌, ℕ, ◌-◌, List, ◌++◌, length, map, sym, ◌∙◌, ap, subst, arith, All}
 use Rattle.std.proofs.lemmas.List.Elements.{All-from_recursion}
 use Rattle.std.specs.List.{AllByRecursion}
+use Rattle.jc_bytes.specs.BigNumbers.{short}
 use Rattle.jc_methods.specs.declared.kind.Kind.{Kind}
 use Rattle.jc_methods.specs.VerificationTypes.{VerificationType, class_names, verification_type, type_state_at, IsNumbered}
 use Rattle.jc_pool.specs.Pool.{PoolValue}
 use Rattle.jc_frames.specs.Frames.{values_in}
-use Rattle.jc_frames.specs.FullFrames.{full_text, short, types_text}
+use Rattle.jc_frames.specs.FullFrames.{full_text, types_text}
 use Rattle.jc_frames.specs.FullTable.{AreFirstPlaces, ArePlacesIn, HasPlace, IsPlaced}
 use Rattle.jc_frames.proofs.FullTextLaws.{both_parts, full_parts}
 use Rattle.jc_frames.proofs.ResultLaws.{ok_then}

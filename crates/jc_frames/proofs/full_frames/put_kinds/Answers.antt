@@ -2,8 +2,9 @@ use Rattle.std.proofs.Common.{◌≡◌, ℕ, ◌++◌, length, map, sym, ◌∙
 use Rattle.std.proofs.lemmas.List.{length-map}
 use Rattle.std.specs.List.{flat_map}
 use Rattle.jc_bytes.proofs.AppendingLaws.{joined}
+use Rattle.jc_bytes.specs.BigNumbers.{short}
 use Rattle.jc_methods.specs.VerificationTypes.{verification_type}
-use Rattle.jc_frames.specs.FullFrames.{short, type_text, types_text}
+use Rattle.jc_frames.specs.FullFrames.{type_text, types_text}
 use Rattle.jc_frames.proofs.ResultLaws.{ok_then}
 use Rattle.jc_frames.proofs.full_frames.put_kinds.Goals as goal
 

@@ -1,8 +1,9 @@
 use Rattle.std.proofs.Common.{◌≡◌, ℕ, ◌++◌, length, map, sym, ◌∙◌, ap, arith}
 use Rattle.std.proofs.lemmas.List.{length-map}
 use Rattle.jc_bytes.proofs.AppendingLaws.{joined}
+use Rattle.jc_bytes.specs.BigNumbers.{short}
 use Rattle.jc_methods.specs.VerificationTypes.{type_state_at}
-use Rattle.jc_frames.specs.FullFrames.{full_texts, short, table_text}
+use Rattle.jc_frames.specs.FullFrames.{full_texts, table_text}
 use Rattle.jc_frames.proofs.FullTextLaws.{offsets_rise}
 use Rattle.jc_frames.proofs.ResultLaws.{ok_then}
 use Rattle.jc_frames.proofs.full_frames.put_table.Goals as goal

@@ -1,7 +1,8 @@
 use Rattle.std.proofs.Common.{◌≡◌, ◌++◌, map, take}
 use Rattle.std.specs.Prelude.{slice_index}
 use Rattle.std.specs.List.{flat_map}
-use Rattle.jc_insn.specs.Writing.{word, difference}
+use Rattle.jc_bytes.specs.BigNumbers.{word}
+use Rattle.jc_insn.specs.Writing.{difference}
 use Rattle.jc_insn.proofs.write.put_offsets.Given as goal
 
 -- the arms so far

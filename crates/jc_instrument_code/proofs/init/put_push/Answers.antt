@@ -1,7 +1,7 @@
 use Rattle.std.proofs.Common.{◌++◌, [], ◌∷◌, ℕ, List, sym, ◌∙◌, ap}
 use Rattle.jc_bytes.proofs.AppendingLaws.{joined}
+use Rattle.jc_bytes.specs.BigNumbers.{short}
 use Rattle.jc_methods.specs.Opcode as opcode
-use Rattle.jc_insn.specs.Writing.{short}
 use Rattle.jc_instrument_code.proofs.InitLaws.{push_small, push_byte, push_short}
 use Rattle.jc_instrument_code.proofs.init.put_push.Goals as goal
 

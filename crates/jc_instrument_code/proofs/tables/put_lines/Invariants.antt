@@ -1,7 +1,7 @@
 use Rattle.std.proofs.Common.{◌≡◌, ◌++◌, length, take}
 use Rattle.std.specs.Prelude.{slice_index}
 use Rattle.std.specs.List.{flat_map}
-use Rattle.jc_insn.specs.Writing.{short}
+use Rattle.jc_bytes.specs.BigNumbers.{short}
 use Rattle.jc_instrument_code.specs.CodeText.{line_text}
 use Rattle.jc_instrument_code.proofs.tables.put_lines.Given as goal
 
