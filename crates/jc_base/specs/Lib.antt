@@ -10,6 +10,8 @@ pub use Rattle.jc_bytes.specs.Descriptor
 pub use Rattle.jc_bytes.specs.DescriptorReading
 pub use Rattle.jc_bytes.specs.Deciding
 pub use Rattle.jc_bytes.specs.Names
+pub use Rattle.jc_bytes.specs.BigNumbers
+pub use Rattle.jc_bytes.specs.Digits
 pub use Rattle.jc_bytes.specs.Appending
 pub use Rattle.jc_bytes.specs.Least
 pub use Rattle.jc_bytes.specs.FirstSeen
