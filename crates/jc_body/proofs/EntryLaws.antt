@@ -2,7 +2,7 @@
 use Rattle.std.proofs.Common.{ℕ, zero, suc, ◌-◌, Bool, true, false, List, [], ◌∷◌, ◌++◌, length, map, replicate, codes, if◌then◌else◌}
 use Rattle.std.specs.List.{AllByRecursion}
 use Rattle.std.specs.Str.{bytes_eq}
-use Rattle.jc_bytes.specs.Descriptor.{FieldType, Byte, Char, Double, Float, Int, Long, Short, Boolean, Object, Array}
+use Rattle.jc_bytes.specs.Descriptor.{FieldType, Double, Long}
 use Rattle.jc_methods.specs.DescriptorTypes.{method_type_in}
 use Rattle.jc_methods.specs.VerificationTypes.{VerificationType, top, uninit_this, object}
 use Rattle.jc_methods.specs.EntryState.{spread_one, spread, held_of, is_static, arguments, entry_seen}
@@ -22,16 +22,9 @@ module _ (g : Ground) where
   tops_have (suc n) = (tt, tops_have n)
 
   value_has : (type : FieldType) → Have (spread_one (held_of type))
-  value_has Byte = (tt, tt)
-  value_has Char = (tt, tt)
   value_has Double = (tt, (tt, tt))
-  value_has Float = (tt, tt)
-  value_has Int = (tt, tt)
   value_has Long = (tt, (tt, tt))
-  value_has Short = (tt, tt)
-  value_has Boolean = (tt, tt)
-  value_has (Object name) = (tt, tt)
-  value_has (Array component) = (tt, tt)
+  value_has type = (tt, tt)
 
   values_have : (types : List FieldType) → Have (spread (map held_of types))
   values_have [] = tt

@@ -56,14 +56,7 @@ frame_of names f = record { at = f.at; state = state_of names f.state }
 module _ (names : Names) (distinct : IsDistinct bytes_eq names) where
   kind_again : (k : Kind) → IsNumbered (length names) k → kind_of names (verification_type names k) ≡ k
   kind_again (kinds.Object n) lt = ap kinds.Object (number_again names distinct n lt)
-  kind_again kinds.Top lt = refl
-  kind_again kinds.Int lt = refl
-  kind_again kinds.Float lt = refl
-  kind_again kinds.Double lt = refl
-  kind_again kinds.Long lt = refl
-  kind_again kinds.Null lt = refl
-  kind_again kinds.UninitThis lt = refl
-  kind_again (kinds.Uninit at) lt = refl
+  kind_again k lt = refl
 
   kinds_again : (ks : List Kind) → AllByRecursion (IsNumbered (length names)) ks → map (kind_of names) (map (verification_type names) ks) ≡ ks
   kinds_again [] all = refl
@@ -212,25 +205,11 @@ module _ (names : Names) where
 
   held_again : (h : VerificationType) → HasNames (class_of h) → verification_type names (kind_of names h) ≡ h
   held_again (object name) all = ap object (at_number name names all.0).is
-  held_again top all = refl
-  held_again int all = refl
-  held_again float all = refl
-  held_again double all = refl
-  held_again long all = refl
-  held_again null all = refl
-  held_again uninit_this all = refl
-  held_again (uninit at) all = refl
+  held_again h all = refl
 
   numbered : (h : VerificationType) → HasNames (class_of h) → IsNumbered (length names) (kind_of names h)
   numbered (object name) all = (at_number name names all.0).within
-  numbered top all = tt
-  numbered int all = tt
-  numbered float all = tt
-  numbered double all = tt
-  numbered long all = tt
-  numbered null all = tt
-  numbered uninit_this all = tt
-  numbered (uninit at) all = tt
+  numbered h all = tt
 
   each_again : (hs : List VerificationType) → HasNames (classes_of hs) → map (verification_type names) (map (kind_of names) hs) ≡ hs
   each_again [] all = refl

@@ -30,15 +30,7 @@ values_numbered a b vs g all k d lt = value_numbered (length a) (length b) (grow
 
 unnumbered : (count : ℕ) (v : Value) → IsUnnumbered v → IsNumberedValue count v
 unnumbered count (values.Of (kinds.Object n)) none = absurd none
-unnumbered count (values.Of kinds.Top) none = tt
-unnumbered count (values.Of kinds.Int) none = tt
-unnumbered count (values.Of kinds.Float) none = tt
-unnumbered count (values.Of kinds.Double) none = tt
-unnumbered count (values.Of kinds.Long) none = tt
-unnumbered count (values.Of kinds.Null) none = tt
-unnumbered count (values.Of kinds.UninitThis) none = tt
-unnumbered count (values.Of (kinds.Uninit at)) none = tt
-unnumbered count (values.ClassAt place) none = tt
+unnumbered count v none = tt
 
 pub all_unnumbered : (count : ℕ) (vs : List Value) → All IsUnnumbered vs → All (IsNumberedValue count) vs
 all_unnumbered count vs all k d lt = unnumbered count (get_or vs k d) (all k d lt)

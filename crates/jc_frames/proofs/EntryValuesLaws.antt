@@ -7,7 +7,7 @@ use Rattle.jc_pool.specs.Pool.{PoolValue}
 use Rattle.jc_frames.specs.declared.method.Value.TheVariants as values
 use Rattle.jc_frames.specs.Running.{held_values}
 use Rattle.jc_frames.proofs.RunningLaws.{take_last}
-use Rattle.jc_methods.specs.VerificationTypes.{Names, verification_type, VerificationType, top, int, float, double, long, null, uninit_this, object, uninit, is_pair}
+use Rattle.jc_methods.specs.VerificationTypes.{Names, verification_type, VerificationType, top, is_pair}
 use Rattle.jc_bytes.proofs.AppendingLaws.{drop_at}
 use Rattle.jc_methods.proofs.SeenLaws.{held_top}
 use Rattle.jc_frames.specs.Frames.{without_last_top, trimmed, values_from}
@@ -20,27 +20,13 @@ trim_top (x ∷ xs) = ap (without_last_top x) (trim_top xs)
 -- any other value at the end stays
 pub trim_other : (xs : List VerificationType) (h : VerificationType) → (h ≡ top → ⊥) → trimmed (xs ++ h ∷ []) ≡ xs ++ h ∷ []
 trim_other [] top other = absurd (other refl)
-trim_other [] int other = refl
-trim_other [] float other = refl
-trim_other [] double other = refl
-trim_other [] long other = refl
-trim_other [] null other = refl
-trim_other [] uninit_this other = refl
-trim_other [] (object name) other = refl
-trim_other [] (uninit at) other = refl
+trim_other [] h other = refl
 trim_other (x ∷ xs) h other = ap (without_last_top x) (trim_other xs h other) ∙ kept x xs
   where
     kept : (x : VerificationType) (xs : List VerificationType) → without_last_top x (xs ++ h ∷ []) ≡ x ∷ (xs ++ h ∷ [])
     kept top [] = refl
     kept top (y ∷ ys) = refl
-    kept int ys = refl
-    kept float ys = refl
-    kept double ys = refl
-    kept long ys = refl
-    kept null ys = refl
-    kept uninit_this ys = refl
-    kept (object name) ys = refl
-    kept (uninit at) ys = refl
+    kept x ys = refl
 
 -- ---- from the last local variable on
 

@@ -29,15 +29,9 @@ if_none true x e = absurd (none_some (sym e))
 if_none false x e = refl
 
 one_names_nothing : (g : Ground) (item : TypeItem) → type_of g item ≡ None → NamesNothing g item
-one_names_nothing g types.Top e = absurd (none_some (sym e))
-one_names_nothing g types.Int e = absurd (none_some (sym e))
-one_names_nothing g types.Float e = absurd (none_some (sym e))
-one_names_nothing g types.Double e = absurd (none_some (sym e))
-one_names_nothing g types.Long e = absurd (none_some (sym e))
-one_names_nothing g types.Null e = absurd (none_some (sym e))
-one_names_nothing g types.UninitThis e = absurd (none_some (sym e))
 one_names_nothing g (types.Object place) e = record { which = inl (place, refl, map_none object (class_name_of g.pool place) e) }
 one_names_nothing g (types.Uninit offset) e = record { which = inr (offset, refl, if_none (is_new (insn_from g offset)) (uninit (insn_number g.starts offset)) e) }
+one_names_nothing g item e = absurd (none_some (sym e))
 
 nothing_is_none : (g : Ground) (item : TypeItem) → NamesNothing g item → type_of g item ≡ None
 nothing_is_none g item n = ⊎_elim

@@ -86,17 +86,11 @@ module _ (g : Ground) (p : Places) where
   types_spelled hs few all = (length hs, short (length hs), flat_map (type_text p) hs, refl, short_spells (length hs) few, times_spelled hs all)
 
   type_says : (h : VerificationType) → HasPlaces g p h → type_of g (item_of p h) ≡ Some h
-  type_says top has = refl
-  type_says int has = refl
-  type_says float has = refl
-  type_says double has = refl
-  type_says long has = refl
-  type_says null has = refl
-  type_says uninit_this has = refl
   type_says (object name) has = ap (option_map object) has.1
   type_says (uninit at) has =
       ap (λ (k : ℕ). if is_new (slice_get g.code k) then Some (uninit k) else None) has.0.number
       ∙ ap (λ (b : Bool). if b then Some (uninit at) else None) has.1
+  type_says h has = refl
 
   types_say : (hs : List VerificationType) → AllByRecursion (HasPlaces g p) hs → types_of g (map (item_of p) hs) ≡ Some hs
   types_say [] all = refl

@@ -12,7 +12,7 @@ use Rattle.jc_methods.specs.declared.body.FrameAt.{FrameAt}
 use Rattle.jc_methods.specs.declared.kind.Kind.{Kind}
 use Rattle.jc_methods.specs.declared.kind.Kind.TheVariants as kinds
 use Rattle.jc_methods.specs.EntryState.{spread_one, spread, in_locals}
-use Rattle.jc_methods.specs.VerificationTypes.{Names, VerificationType, TypeStateAt, top, int, float, double, long, null, uninit_this, object, uninit, verification_type, type_state_at, class_name, class_names, Grows, IsNumbered, AreNumberedFrames}
+use Rattle.jc_methods.specs.VerificationTypes.{Names, VerificationType, TypeStateAt, top, verification_type, type_state_at, class_name, class_names, Grows, IsNumbered, AreNumberedFrames}
 use Rattle.jc_bytes.specs.Names.{with_name, met}
 use Rattle.jc_methods.proofs.MetNamesLaws.{met_more}
 use Rattle.jc_methods.proofs.SeenLaws.{frames_stay, kinds_stay}
@@ -47,14 +47,7 @@ number_there (x ∷ names) (suc n) lt = number_there names n (omega (arith, lt))
 -- a numbered kind adds no name
 pub none_met : (names : Names) (k : Kind) → IsNumbered (length names) k → met names (class_name (verification_type names k)) ≡ names
 none_met names (kinds.Object n) lt = known_name names n (get_or names n []) (number_there names n lt)
-none_met names kinds.Top lt = refl
-none_met names kinds.Int lt = refl
-none_met names kinds.Float lt = refl
-none_met names kinds.Double lt = refl
-none_met names kinds.Long lt = refl
-none_met names kinds.Null lt = refl
-none_met names kinds.UninitThis lt = refl
-none_met names (kinds.Uninit at) lt = refl
+none_met names k lt = refl
 
 -- ---- more names change no value
 
@@ -88,14 +81,7 @@ one_more_met pool old mid new vs i d lt g all before this =
 
 one_in_slots : (h : VerificationType) → class_names (spread_one h) ≡ class_name h
 one_in_slots top = refl
-one_in_slots int = refl
-one_in_slots float = refl
-one_in_slots double = refl
-one_in_slots long = refl
-one_in_slots null = refl
-one_in_slots uninit_this = refl
-one_in_slots (object name) = refl
-one_in_slots (uninit at) = refl
+one_in_slots h = refl
 
 all_in_slots : (hs : List VerificationType) → class_names (spread hs) ≡ class_names hs
 all_in_slots [] = refl

@@ -85,14 +85,7 @@ module _ {X : Type 0} (g : Ground) (entry : TypeState) (table : List ℕ) where
 -- the objects of the state in which the method begins that aren't initialized have a `new`
 new_kind : (g : Ground) (names : Names) (k : Kind) → IsKind g.code k → HasNew g (verification_type names k)
 new_kind g names (kinds.Uninit at) is = ap is_new is.1
-new_kind g names kinds.Top is = tt
-new_kind g names kinds.Int is = tt
-new_kind g names kinds.Float is = tt
-new_kind g names kinds.Double is = tt
-new_kind g names kinds.Long is = tt
-new_kind g names kinds.Null is = tt
-new_kind g names kinds.UninitThis is = tt
-new_kind g names (kinds.Object n) is = tt
+new_kind g names k is = tt
 
 pub new_kinds : (g : Ground) (names : Names) (ks : List Kind) → All (IsKind g.code) ks → AllByRecursion (HasNew g) (map (verification_type names) ks)
 new_kinds g names [] all = tt

@@ -35,15 +35,7 @@ said_some f o r x e n = e ∙ ap (option_map f) n
 
 one_counted : (pool : PoolValue) (names : Names) (v : Value) → width (held_value pool names v) ≡ value_slots v
 one_counted pool names (values.Of kinds.Top) = refl
-one_counted pool names (values.Of kinds.Int) = refl
-one_counted pool names (values.Of kinds.Float) = refl
-one_counted pool names (values.Of kinds.Double) = refl
-one_counted pool names (values.Of kinds.Long) = refl
-one_counted pool names (values.Of kinds.Null) = refl
-one_counted pool names (values.Of kinds.UninitThis) = refl
-one_counted pool names (values.Of (kinds.Object n)) = refl
-one_counted pool names (values.Of (kinds.Uninit at)) = refl
-one_counted pool names (values.ClassAt place) = refl
+one_counted pool names v = refl
 
 pub slots_counted : (pool : PoolValue) (names : Names) (vs : List Value) → slots (held_values pool names vs) ≡ sum_by value_slots vs
 slots_counted pool names [] = refl
@@ -51,15 +43,7 @@ slots_counted pool names (v ∷ vs) = ap₂ (λ (a b : ℕ). a + b) (one_counted
 
 one_bounded : (v : Value) → (1 ≤ value_slots v) × (value_slots v ≤ 2)
 one_bounded (values.Of kinds.Top) = (omega arith, omega arith)
-one_bounded (values.Of kinds.Int) = (omega arith, omega arith)
-one_bounded (values.Of kinds.Float) = (omega arith, omega arith)
-one_bounded (values.Of kinds.Double) = (omega arith, omega arith)
-one_bounded (values.Of kinds.Long) = (omega arith, omega arith)
-one_bounded (values.Of kinds.Null) = (omega arith, omega arith)
-one_bounded (values.Of kinds.UninitThis) = (omega arith, omega arith)
-one_bounded (values.Of (kinds.Object n)) = (omega arith, omega arith)
-one_bounded (values.Of (kinds.Uninit at)) = (omega arith, omega arith)
-one_bounded (values.ClassAt place) = (omega arith, omega arith)
+one_bounded v = (omega arith, omega arith)
 
 -- each value takes one slot or two
 pub slots_bounded : (vs : List Value) → (length vs ≤ sum_by value_slots vs) × (sum_by value_slots vs ≤ 2 * length vs)

@@ -2,7 +2,7 @@
 use Rattle.std.proofs.Common.{◌≡◌, ◌⊎◌, inl, inr, ⊎_elim, ℕ, suc, ◌+◌, ◌-◌, ◌≤◌, Bool, true, false, List, [], ◌∷◌, ◌++◌, length, replicate, refl, sym, ◌∙◌, ap, ap₂, arith, length-append, if◌then◌else◌, zero}
 use Rattle.std.specs.List.{AllByRecursion}
 use Rattle.std.proofs.lemmas.Bool.{false≢true}
-use Rattle.jc_methods.specs.VerificationTypes.{VerificationType, top, int, float, double, long, null, uninit_this, object, uninit, is_pair, width, slots}
+use Rattle.jc_methods.specs.VerificationTypes.{VerificationType, top, double, long, is_pair, width, slots}
 use Rattle.jc_methods.specs.EntryState.{spread_one, spread, in_locals}
 use Rattle.jc_frames.specs.Frames.{without_last_top, trimmed, values_from, values_in}
 use Rattle.jc_frames.specs.FullFrames.{BeginsWithTop, ArePaired}
@@ -19,14 +19,9 @@ single_values h rest single = by h (trimmed rest) single
         ⊎ ((h ≡ top) × (values_from false (without_last_top h t) ≡ []) × (values_from false t ≡ []))
     by top [] single = inr (refl, refl, refl)
     by top (x ∷ t) single = inl refl
-    by int t single = inl refl
-    by float t single = inl refl
-    by null t single = inl refl
-    by uninit_this t single = inl refl
-    by (object name) t single = inl refl
-    by (uninit at) t single = inl refl
     by double t single = absurd cc
     by long t single = absurd cc
+    by h t single = inl refl
 
 pub pair_values : (h : VerificationType) (rest : List VerificationType) → is_pair h ≡ true → values_in (h ∷ top ∷ rest) ≡ h ∷ values_in rest
 pair_values h rest pair = by h (trimmed rest) pair
@@ -36,13 +31,7 @@ pair_values h rest pair = by h (trimmed rest) pair
     by double (x ∷ t) pair = refl
     by long [] pair = refl
     by long (x ∷ t) pair = refl
-    by top t pair = absurd cc
-    by int t pair = absurd cc
-    by float t pair = absurd cc
-    by null t pair = absurd cc
-    by uninit_this t pair = absurd cc
-    by (object name) t pair = absurd cc
-    by (uninit at) t pair = absurd cc
+    by h t pair = absurd cc
 
 pub spread_single : (h : VerificationType) → is_pair h ≡ false → spread_one h ≡ h ∷ []
 spread_single h e = rw e refl
@@ -100,14 +89,7 @@ values_back (h ∷ x ∷ rest) paired = ⊎_elim
     two : (x : VerificationType) → BeginsWithTop (x ∷ rest) → is_pair h ≡ true → in_locals (length rest) (values_in rest) ≡ rest
         → in_locals (suc (suc (length rest))) (values_in (h ∷ x ∷ rest)) ≡ h ∷ x ∷ rest
     two top begins pair back = after_top pair back
-    two int begins pair back = absurd begins
-    two float begins pair back = absurd begins
-    two double begins pair back = absurd begins
-    two long begins pair back = absurd begins
-    two null begins pair back = absurd begins
-    two uninit_this begins pair back = absurd begins
-    two (object name) begins pair back = absurd begins
-    two (uninit at) begins pair back = absurd begins
+    two x begins pair back = absurd begins
 
 -- ---- pairs
 
@@ -135,14 +117,7 @@ spread_slots (h ∷ values) = length-append (spread_one h) (spread values) ∙ a
   where
     one : (h : VerificationType) → length (spread_one h) ≡ width h
     one top = refl
-    one int = refl
-    one float = refl
-    one double = refl
-    one long = refl
-    one null = refl
-    one uninit_this = refl
-    one (object name) = refl
-    one (uninit at) = refl
+    one h = refl
 
 pub few_slots : (locals : List VerificationType) → ArePaired locals → slots (values_in locals) ≤ length locals
 few_slots locals paired =
@@ -164,14 +139,7 @@ trimmed_few (h ∷ locals) = by h (trimmed locals) (trimmed_few locals)
     by : (h : VerificationType) (t : List VerificationType) → length t ≤ length locals → length (without_last_top h t) ≤ suc (length locals)
     by top [] le = omega arith
     by top (x ∷ t) le = omega (arith, le)
-    by int t le = omega (arith, le)
-    by float t le = omega (arith, le)
-    by double t le = omega (arith, le)
-    by long t le = omega (arith, le)
-    by null t le = omega (arith, le)
-    by uninit_this t le = omega (arith, le)
-    by (object name) t le = omega (arith, le)
-    by (uninit at) t le = omega (arith, le)
+    by h t le = omega (arith, le)
 
 -- what holds of all local variables holds of the values
 module _ (Fact : VerificationType → Type 0) where
@@ -187,14 +155,7 @@ module _ (Fact : VerificationType → Type 0) where
       by : (h : VerificationType) (t : List VerificationType) → Fact h → AllByRecursion Fact t → AllByRecursion Fact (without_last_top h t)
       by top [] f a = tt
       by top (x ∷ t) f a = (f, a)
-      by int t f a = (f, a)
-      by float t f a = (f, a)
-      by double t f a = (f, a)
-      by long t f a = (f, a)
-      by null t f a = (f, a)
-      by uninit_this t f a = (f, a)
-      by (object name) t f a = (f, a)
-      by (uninit at) t f a = (f, a)
+      by h t f a = (f, a)
 
   pub in_values : (locals : List VerificationType) → AllByRecursion Fact locals → AllByRecursion Fact (values_in locals)
   in_values locals all = values_all false (trimmed locals) (trimmed_all locals all)

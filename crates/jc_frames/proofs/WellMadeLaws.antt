@@ -189,14 +189,7 @@ module _ (g : Ground) where
 
   kind_new : (names : Names) (k : Kind) → HasNew g (verification_type names k) → IsKind g.code k
   kind_new names (kinds.Uninit at) p = new_is (slice_get g.code at) p
-  kind_new names kinds.Top p = tt
-  kind_new names kinds.Int p = tt
-  kind_new names kinds.Float p = tt
-  kind_new names kinds.Double p = tt
-  kind_new names kinds.Long p = tt
-  kind_new names kinds.Null p = tt
-  kind_new names kinds.UninitThis p = tt
-  kind_new names (kinds.Object n) p = tt
+  kind_new names k p = tt
 
   kinds_new : (names : Names) (ks : List Kind) → HaveNew (map (verification_type names) ks) → All (IsKind g.code) ks
   kinds_new names [] p k d lt = absurd (omega (arith, lt))
@@ -206,25 +199,12 @@ module _ (g : Ground) where
   top_begins : (names : Names) (ks : List Kind) → full.BeginsWithTop (map (verification_type names) ks) → BeginsWithTop ks
   top_begins names [] b = b
   top_begins names (kinds.Top ∷ ks) b = refl
-  top_begins names (kinds.Int ∷ ks) b = absurd b
-  top_begins names (kinds.Float ∷ ks) b = absurd b
-  top_begins names (kinds.Double ∷ ks) b = absurd b
-  top_begins names (kinds.Long ∷ ks) b = absurd b
-  top_begins names (kinds.Null ∷ ks) b = absurd b
-  top_begins names (kinds.UninitThis ∷ ks) b = absurd b
-  top_begins names (kinds.Object n ∷ ks) b = absurd b
-  top_begins names (kinds.Uninit at ∷ ks) b = absurd b
+  top_begins names (k ∷ ks) b = absurd b
 
   pair_kind : (names : Names) (k : Kind) → kind_slots k ≡ 2 → is_pair (verification_type names k) ≡ true
   pair_kind names kinds.Double e = refl
   pair_kind names kinds.Long e = refl
-  pair_kind names kinds.Top e = absurd (omega (arith, e))
-  pair_kind names kinds.Int e = absurd (omega (arith, e))
-  pair_kind names kinds.Float e = absurd (omega (arith, e))
-  pair_kind names kinds.Null e = absurd (omega (arith, e))
-  pair_kind names kinds.UninitThis e = absurd (omega (arith, e))
-  pair_kind names (kinds.Object n) e = absurd (omega (arith, e))
-  pair_kind names (kinds.Uninit at) e = absurd (omega (arith, e))
+  pair_kind names k e = absurd (omega (arith, e))
 
   kinds_paired : (names : Names) (ks : List Kind) → full.ArePaired (map (verification_type names) ks) → ArePaired ks
   kinds_paired names [] p = tt
@@ -236,14 +216,7 @@ module _ (g : Ground) where
     where
       one : (k : Kind) → kind_slots k ≡ width (verification_type names k)
       one kinds.Top = refl
-      one kinds.Int = refl
-      one kinds.Float = refl
-      one kinds.Double = refl
-      one kinds.Long = refl
-      one kinds.Null = refl
-      one kinds.UninitThis = refl
-      one (kinds.Object n) = refl
-      one (kinds.Uninit at) = refl
+      one k = refl
 
   -- ---- a frame
 

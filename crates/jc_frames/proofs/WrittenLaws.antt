@@ -14,7 +14,7 @@ use Rattle.jc_methods.specs.Opcode as opcode
 use Rattle.jc_methods.specs.declared.kind.Kind.{Kind}
 use Rattle.jc_methods.specs.declared.kind.Kind.TheVariants as kinds
 use Rattle.jc_methods.specs.FrameOrder.{RiseFrom}
-use Rattle.jc_methods.specs.VerificationTypes.{Names, VerificationType, TypeStateAt, top, int, float, double, long, null, uninit_this, object, uninit, class_names, verification_type, type_state_at, is_pair, slots, width, IsNumberedState, AreNumberedFrames}
+use Rattle.jc_methods.specs.VerificationTypes.{Names, VerificationType, TypeStateAt, object, uninit, class_names, verification_type, type_state_at, is_pair, slots, width, IsNumberedState, AreNumberedFrames}
 use Rattle.jc_methods.specs.Starts.{insn_number}
 use Rattle.jc_methods.specs.WellMade as made
 use Rattle.jc_pool.specs.Lookup.{class_name_of}
@@ -55,13 +55,7 @@ module _ (names : Names) where
   pair_slots : (k : Kind) → is_pair (verification_type names k) ≡ true → made.kind_slots k ≡ 2
   pair_slots kinds.Double e = refl
   pair_slots kinds.Long e = refl
-  pair_slots kinds.Top e = absurd cc
-  pair_slots kinds.Int e = absurd cc
-  pair_slots kinds.Float e = absurd cc
-  pair_slots kinds.Null e = absurd cc
-  pair_slots kinds.UninitThis e = absurd cc
-  pair_slots (kinds.Object n) e = absurd cc
-  pair_slots (kinds.Uninit at) e = absurd cc
+  pair_slots k e = absurd cc
 
   paired : (ks : List Kind) → made.ArePaired ks → ArePaired (map (verification_type names) ks)
   paired [] p = tt
@@ -73,14 +67,7 @@ module _ (names : Names) where
     where
       one : (k : Kind) → width (verification_type names k) ≡ made.kind_slots k
       one kinds.Top = refl
-      one kinds.Int = refl
-      one kinds.Float = refl
-      one kinds.Double = refl
-      one kinds.Long = refl
-      one kinds.Null = refl
-      one kinds.UninitThis = refl
-      one (kinds.Object n) = refl
-      one (kinds.Uninit at) = refl
+      one k = refl
 
 -- ---- where everything stands
 
@@ -99,14 +86,7 @@ module _ (g : Ground) (starts : List ℕ) (p : Places) (count : length starts �
 
   made_there : (names : Names) (k : Kind) → made.IsKind g.code k → MadeThere (verification_type names k)
   made_there names (kinds.Uninit at) is = (starts_at at (let lt = slice_get_within g.code at (insn.OfClass opcode.new is.0) is.1 in omega (arith, lt, count)), ap is_new is.1)
-  made_there names kinds.Top is = tt
-  made_there names kinds.Int is = tt
-  made_there names kinds.Float is = tt
-  made_there names kinds.Double is = tt
-  made_there names kinds.Long is = tt
-  made_there names kinds.Null is = tt
-  made_there names kinds.UninitThis is = tt
-  made_there names (kinds.Object n) is = tt
+  made_there names k is = tt
 
   made_all : (names : Names) (ks : List Kind) → All (made.IsKind g.code) ks → AllByRecursion MadeThere (map (verification_type names) ks)
   made_all names ks all = each_of_all MadeThere (verification_type names) ks (λ k d lt. made_there names (get_or ks k d) (all k d lt))
@@ -124,13 +104,7 @@ module _ (g : Ground) (starts : List ℕ) (p : Places) (count : length starts �
   have_places [] s m = tt
   have_places (object name ∷ hs) s m = (place_of name s.0, have_places hs s.1 m.1)
   have_places (uninit at ∷ hs) s m = (m.0, have_places hs s m.1)
-  have_places (top ∷ hs) s m = (tt, have_places hs s m.1)
-  have_places (int ∷ hs) s m = (tt, have_places hs s m.1)
-  have_places (float ∷ hs) s m = (tt, have_places hs s m.1)
-  have_places (double ∷ hs) s m = (tt, have_places hs s m.1)
-  have_places (long ∷ hs) s m = (tt, have_places hs s m.1)
-  have_places (null ∷ hs) s m = (tt, have_places hs s m.1)
-  have_places (uninit_this ∷ hs) s m = (tt, have_places hs s m.1)
+  have_places (h ∷ hs) s m = (tt, have_places hs s m.1)
 
   -- ---- frames
 
@@ -187,25 +161,11 @@ written_back g starts names old p entry frames can over takes are =
 
 kind_placed : (code : List Insn) (insns : ℕ) → length code ≤ insns → (k : Kind) → made.IsKind code k → IsPlaced insns k
 kind_placed code insns le (kinds.Uninit at) is = let lt = slice_get_within code at (insn.OfClass opcode.new is.0) is.1 in omega (arith, lt, le)
-kind_placed code insns le kinds.Top is = tt
-kind_placed code insns le kinds.Int is = tt
-kind_placed code insns le kinds.Float is = tt
-kind_placed code insns le kinds.Double is = tt
-kind_placed code insns le kinds.Long is = tt
-kind_placed code insns le kinds.Null is = tt
-kind_placed code insns le kinds.UninitThis is = tt
-kind_placed code insns le (kinds.Object n) is = tt
+kind_placed code insns le k is = tt
 
 some_slot : (k : Kind) → 1 ≤ made.kind_slots k
 some_slot kinds.Top = omega arith
-some_slot kinds.Int = omega arith
-some_slot kinds.Float = omega arith
-some_slot kinds.Double = omega arith
-some_slot kinds.Long = omega arith
-some_slot kinds.Null = omega arith
-some_slot kinds.UninitThis = omega arith
-some_slot (kinds.Object n) = omega arith
-some_slot (kinds.Uninit at) = omega arith
+some_slot k = omega arith
 
 slot_each : (ks : List Kind) → length ks ≤ sum_by made.kind_slots ks
 slot_each [] = omega arith

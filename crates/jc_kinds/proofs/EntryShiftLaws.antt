@@ -3,9 +3,9 @@ use Rattle.std.proofs.Common.{◌≡◌, inl, inr, ℕ, zero, suc, ◌+◌, ◌-
 use Rattle.std.proofs.lemmas.List.{map-append}
 use Rattle.std.specs.Prelude.{codes, bytes_eq}
 use Rattle.std.specs.List.{AllByRecursion}
-use Rattle.jc_bytes.specs.Descriptor.{FieldType, Byte, Char, Double, Float, Int, Long, Short, Boolean, Object, Array}
+use Rattle.jc_bytes.specs.Descriptor.{FieldType, Byte}
 use Rattle.jc_methods.specs.DescriptorTypes.{method_type_in}
-use Rattle.jc_methods.specs.VerificationTypes.{VerificationType, top, int, float, double, long, null, uninit_this, object, uninit, is_pair}
+use Rattle.jc_methods.specs.VerificationTypes.{VerificationType, top, null, uninit_this, object, is_pair}
 use Rattle.jc_methods.specs.EntryState.{spread_one, spread, in_locals, held_of, is_static, arguments}
 use Rattle.jc_methods.proofs.EntryLaws.{argument_slots}
 use Rattle.jc_kinds_after.specs.Step.{clear_before, put_local}
@@ -20,24 +20,11 @@ module _ (image : ℕ → ℕ) where
   null_renamed : (h : VerificationType) → IsNullOrObject h → IsNullOrObject (renamed image h)
   null_renamed null p = tt
   null_renamed (object name) p = tt
-  null_renamed top p = absurd p
-  null_renamed int p = absurd p
-  null_renamed float p = absurd p
-  null_renamed double p = absurd p
-  null_renamed long p = absurd p
-  null_renamed uninit_this p = absurd p
-  null_renamed (uninit at) p = absurd p
+  null_renamed h p = absurd p
 
   object_renamed : (h : VerificationType) → IsObject h → IsObject (renamed image h)
   object_renamed (object name) p = tt
-  object_renamed null p = absurd p
-  object_renamed top p = absurd p
-  object_renamed int p = absurd p
-  object_renamed float p = absurd p
-  object_renamed double p = absurd p
-  object_renamed long p = absurd p
-  object_renamed uninit_this p = absurd p
-  object_renamed (uninit at) p = absurd p
+  object_renamed h p = absurd p
 
   fits_renamed : (a b : VerificationType) → Fits a b → Fits (renamed image a) (renamed image b)
   fits_renamed a b (inl e) = inl (ap (renamed image) e)
@@ -90,15 +77,7 @@ Still image h = renamed image h ≡ h
 module _ (image : ℕ → ℕ) where
   type_still : (type : FieldType) → Still image (held_of type)
   type_still Byte = refl
-  type_still Char = refl
-  type_still Double = refl
-  type_still Float = refl
-  type_still Int = refl
-  type_still Long = refl
-  type_still Short = refl
-  type_still Boolean = refl
-  type_still (Object name) = refl
-  type_still (Array component) = refl
+  type_still type = refl
 
   types_still : (types : List FieldType) → AllByRecursion (Still image) (map held_of types)
   types_still [] = tt

@@ -12,91 +12,36 @@ no e = absurd (true≢false (sym e))
 
 int_is : (a : VerificationType) → is_int a ≡ true → a ≡ int
 int_is int e = refl
-int_is top e = no e
-int_is float e = no e
-int_is double e = no e
-int_is long e = no e
-int_is null e = no e
-int_is uninit_this e = no e
-int_is (object n) e = no e
-int_is (uninit i) e = no e
+int_is a e = no e
 
 float_is : (a : VerificationType) → is_float a ≡ true → a ≡ float
 float_is float e = refl
-float_is top e = no e
-float_is int e = no e
-float_is double e = no e
-float_is long e = no e
-float_is null e = no e
-float_is uninit_this e = no e
-float_is (object n) e = no e
-float_is (uninit i) e = no e
+float_is a e = no e
 
 double_is : (a : VerificationType) → is_double a ≡ true → a ≡ double
 double_is double e = refl
-double_is top e = no e
-double_is int e = no e
-double_is float e = no e
-double_is long e = no e
-double_is null e = no e
-double_is uninit_this e = no e
-double_is (object n) e = no e
-double_is (uninit i) e = no e
+double_is a e = no e
 
 long_is : (a : VerificationType) → is_long a ≡ true → a ≡ long
 long_is long e = refl
-long_is top e = no e
-long_is int e = no e
-long_is float e = no e
-long_is double e = no e
-long_is null e = no e
-long_is uninit_this e = no e
-long_is (object n) e = no e
-long_is (uninit i) e = no e
+long_is a e = no e
 
 null_is : (a : VerificationType) → is_null a ≡ true → a ≡ null
 null_is null e = refl
-null_is top e = no e
-null_is int e = no e
-null_is float e = no e
-null_is double e = no e
-null_is long e = no e
-null_is uninit_this e = no e
-null_is (object n) e = no e
-null_is (uninit i) e = no e
+null_is a e = no e
 
 this_is : (a : VerificationType) → is_uninit_this a ≡ true → a ≡ uninit_this
 this_is uninit_this e = refl
-this_is top e = no e
-this_is int e = no e
-this_is float e = no e
-this_is double e = no e
-this_is long e = no e
-this_is null e = no e
-this_is (object n) e = no e
-this_is (uninit i) e = no e
+this_is a e = no e
 
 reference_is : (a : VerificationType) → is_reference a ≡ true → IsNullOrObject a
 reference_is null e = tt
 reference_is (object n) e = tt
-reference_is top e = no e
-reference_is int e = no e
-reference_is float e = no e
-reference_is double e = no e
-reference_is long e = no e
-reference_is uninit_this e = no e
-reference_is (uninit i) e = no e
+reference_is a e = no e
 
 uninit_is : (at : ℕ) (a : VerificationType) → is_uninit_at at a ≡ true → a ≡ uninit at
 uninit_is at (uninit i) e = ap uninit (eqb-true i at e)
-uninit_is at top e = no e
-uninit_is at int e = no e
-uninit_is at float e = no e
-uninit_is at double e = no e
-uninit_is at long e = no e
-uninit_is at null e = no e
-uninit_is at uninit_this e = no e
-uninit_is at (object n) e = no e
+uninit_is at a e = no e
 
 fits_to : (a b : VerificationType) → fits a b ≡ true → Fits a b
 fits_to a top e = inl refl
@@ -110,42 +55,15 @@ fits_to a (object name) e = inr (inr (reference_is a e, tt))
 fits_to a (uninit at) e = inr (inl (uninit_is at a e))
 
 pub fits_itself : (a : VerificationType) → fits a a ≡ true
-fits_itself top = refl
-fits_itself int = refl
-fits_itself float = refl
-fits_itself double = refl
-fits_itself long = refl
-fits_itself null = refl
-fits_itself uninit_this = refl
-fits_itself (object name) = refl
 fits_itself (uninit at) = eq-eqb at at refl
+fits_itself a = refl
 
 object_fits : (a b : VerificationType) → IsNullOrObject a → IsObject b → fits a b ≡ true
 object_fits null (object name) p q = refl
 object_fits (object n) (object name) p q = refl
-object_fits null top p q = refl
-object_fits null int p q = absurd q
-object_fits null float p q = absurd q
-object_fits null double p q = absurd q
-object_fits null long p q = absurd q
-object_fits null null p q = absurd q
-object_fits null uninit_this p q = absurd q
-object_fits null (uninit i) p q = absurd q
-object_fits (object n) top p q = refl
-object_fits (object n) int p q = absurd q
-object_fits (object n) float p q = absurd q
-object_fits (object n) double p q = absurd q
-object_fits (object n) long p q = absurd q
-object_fits (object n) null p q = absurd q
-object_fits (object n) uninit_this p q = absurd q
-object_fits (object n) (uninit i) p q = absurd q
-object_fits top b p q = absurd p
-object_fits int b p q = absurd p
-object_fits float b p q = absurd p
-object_fits double b p q = absurd p
-object_fits long b p q = absurd p
-object_fits uninit_this b p q = absurd p
-object_fits (uninit i) b p q = absurd p
+object_fits null b p q = absurd q
+object_fits (object n) b p q = absurd q
+object_fits a b p q = absurd p
 
 fits_back : (a b : VerificationType) → Fits a b → fits a b ≡ true
 fits_back a b (inl e) = ap (fits a) e

@@ -58,14 +58,7 @@ caught_object b h = by (nat_eq h.class 0) _ _
 
 takes_fits : (names : Names) (name : List ℕ) (k : Kind) → fits (object name) (verification_type names k) ≡ takes_object k
 takes_fits names name kinds.Top = refl
-takes_fits names name kinds.Int = refl
-takes_fits names name kinds.Float = refl
-takes_fits names name kinds.Double = refl
-takes_fits names name kinds.Long = refl
-takes_fits names name kinds.Null = refl
-takes_fits names name kinds.UninitThis = refl
-takes_fits names name (kinds.Object n) = refl
-takes_fits names name (kinds.Uninit at) = refl
+takes_fits names name k = refl
 
 catches_fits : (names : Names) (name : List ℕ) (stack : List Kind) → fit_each (object name ∷ []) (map (verification_type names) stack) ≡ catches stack
 catches_fits names name [] = refl

@@ -31,25 +31,11 @@ fit_done ks ws i le same = let le' : length ws ≤ i = omega (arith, le, same) i
 -- a test that takes all objects alike
 alike : (names : Names) (test : VerificationType → Bool) → ((a b : List ℕ) → test (object a) ≡ test (object b)) → (k : Kind) → test (verification_type [] k) ≡ test (verification_type names k)
 alike names test same (kinds.Object n) = same (get_or [] n []) (get_or names n [])
-alike names test same kinds.Top = refl
-alike names test same kinds.Int = refl
-alike names test same kinds.Float = refl
-alike names test same kinds.Double = refl
-alike names test same kinds.Long = refl
-alike names test same kinds.Null = refl
-alike names test same kinds.UninitThis = refl
-alike names test same (kinds.Uninit at) = refl
+alike names test same b = refl
 
 objects_alike : (w : Kind) (a b : List ℕ) → fits (object a) (verification_type [] w) ≡ fits (object b) (verification_type [] w)
 objects_alike kinds.Top a b = refl
-objects_alike kinds.Int a b = refl
-objects_alike kinds.Float a b = refl
-objects_alike kinds.Double a b = refl
-objects_alike kinds.Long a b = refl
-objects_alike kinds.Null a b = refl
-objects_alike kinds.UninitThis a b = refl
-objects_alike (kinds.Object n) a b = refl
-objects_alike (kinds.Uninit at) a b = refl
+objects_alike w a b = refl
 
 wants_alike : (names : Names) (h : VerificationType) (w : Kind) → fits h (verification_type [] w) ≡ fits h (verification_type names w)
 wants_alike names h w = alike names (fits h) (λ a b. refl) w

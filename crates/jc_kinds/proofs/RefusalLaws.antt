@@ -19,19 +19,7 @@ reasons : (names : Names) (b : Body) (kind : RefusalKind) (place : ℕ) → IsKi
     → ((kind ≡ kinds.FrameMissing) × FirstMissing b place) ⊎ ((kind ≡ kinds.FrameClash) × FirstClash names b place)
 reasons names b kinds.FrameMissing place r = inl (refl, r)
 reasons names b kinds.FrameClash place r = inr (refl, r)
-reasons names b kinds.NotAClass place r = absurd r
-reasons names b kinds.Version place r = absurd r
-reasons names b kinds.AlreadyInstrumented place r = absurd r
-reasons names b kinds.InterfaceBody place r = absurd r
-reasons names b kinds.Subroutine place r = absurd r
-reasons names b kinds.BadCode place r = absurd r
-reasons names b kinds.StraddlingLocal place r = absurd r
-reasons names b kinds.TooManyProbes place r = absurd r
-reasons names b kinds.PoolFull place r = absurd r
-reasons names b kinds.MembersFull place r = absurd r
-reasons names b kinds.LocalsFull place r = absurd r
-reasons names b kinds.StackFull place r = absurd r
-reasons names b kinds.CodeTooLarge place r = absurd r
+reasons names b kind place r = absurd r
 
 same_refusal : (b : Body) (r : Refusal) (kind : RefusalKind) (place : ℕ) → r.method ≡ Some b.method → r.kind ≡ kind → r.place ≡ place → r ≡ refusal_of b kind place
 same_refusal b r kind place m k p = λ i. record { kind = k i; method = m i; place = p i }

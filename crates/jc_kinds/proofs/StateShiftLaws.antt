@@ -78,15 +78,9 @@ frame_state first code locals stack (g ∷ frames) f zero are lt e = subst (λ (
 frame_state first code locals stack (g ∷ frames) f (suc k) are lt e = frame_state (g.at + 1) code locals stack frames f k are.3 (omega (arith, lt)) e
 
 held_single : (names : Names) (k : Kind) → (kind_slots k ≡ 2 → ⊥) → is_pair (verification_type names k) ≡ false
-held_single names kinds.Top one = refl
-held_single names kinds.Int one = refl
-held_single names kinds.Float one = refl
 held_single names kinds.Double one = absurd (one refl)
 held_single names kinds.Long one = absurd (one refl)
-held_single names kinds.Null one = refl
-held_single names kinds.UninitThis one = refl
-held_single names (kinds.Object n) one = refl
-held_single names (kinds.Uninit at) one = refl
+held_single names k one = refl
 
 -- ---- all states
 
