@@ -28,6 +28,7 @@ use Rattle.jc_body.proofs.CodedLaws.{one_coded, no_items, no_code, not_malformed
 use Rattle.jc_body.proofs.TablesLaws.{one_tables}
 use Rattle.jc_body.proofs.ArgumentLaws.{one_take}
 use Rattle.jc_body.proofs.UsesLaws.{one_uses}
+use Rattle.jc_body.proofs.MadeLaws.{made_of, is_made}
 
 -- ---- reasons
 
@@ -116,36 +117,14 @@ module _ (names : Names) (distinct : IsDistinct bytes_eq names) (c : ClassFile) 
       let owner = same_Some _ _ (sym p.owner ∙ q.owner) in
       let name = same_Some _ _ (sym p.name ∙ q.name) in
       let desc = same_Some _ _ (sym p.desc ∙ q.desc) in
-      let flags = p.flags ∙ sym q.flags in
       let slots = one_take method.flags b.desc a.arg_slots b.arg_slots (subst (λ (d : List ℕ). TakeSlots method.flags d a.arg_slots) desc p.arg_slots) q.arg_slots in
-      let max_stack = p.max_stack ∙ sym q.max_stack in
-      let max_locals = p.max_locals ∙ sym q.max_locals in
-      let code = p.code ∙ sym q.code in
-      let handlers = p.handlers ∙ sym q.handlers in
-      let lines = p.lines ∙ sym q.lines in
-      let vars = p.vars ∙ sym q.vars in
-      let kind_vars = p.kind_vars ∙ sym q.kind_vars in
       let listed = one_list c.pool b.owner method coded (map (type_state_at names) a.frames) (map (type_state_at names) b.frames)
       (subst (λ (o : List ℕ). HasFrames c.pool o method coded (map (type_state_at names) a.frames)) owner p.frames) q.frames in
       let frames = one_numbering names distinct a.frames b.frames p.numbers q.numbers listed in
       let uses = one_uses c.pool (places_used coded.insns coded.items.rows) a.uses b.uses p.uses q.uses in
-      λ i. record {
-        method = numbers i;
-        owner = owner i;
-        name = name i;
-        desc = desc i;
-        flags = flags i;
-        arg_slots = slots i;
-        max_stack = max_stack i;
-        max_locals = max_locals i;
-        code = code i;
-        handlers = handlers i;
-        lines = lines i;
-        vars = vars i;
-        kind_vars = kind_vars i;
-        frames = frames i;
-        uses = uses i;
-      }
+      is_made names c number method coded tables a p
+      ∙ (λ i. made_of method coded tables (numbers i) (owner i) (name i) (desc i) (slots i) (frames i) (uses i))
+      ∙ sym (is_made names c number method coded tables b q)
 
   one_is_body : (method : Member) (a b : Body) → IsBody names c number method a → IsBody names c number method b → a ≡ b
   one_is_body method a b p q =

@@ -14,7 +14,6 @@ use Rattle.jc_class.specs.ClassFormat.{HasText, HasClass, HasMethodDescriptor}
 use Rattle.jc_class.specs.Writable.{IsClassFile, IsMember}
 use Rattle.jc_class.specs.declared.class_file.ClassFile.{ClassFile}
 use Rattle.jc_class.specs.declared.class_file.Member.{Member}
-use Rattle.jc_methods.specs.Starts.{insn_number}
 use Rattle.jc_methods.proofs.EntryStateLaws.{some_slots}
 use Rattle.jc_insn.specs.Spells.{Spells, IsRefused}
 use Rattle.jc_insn.proofs.DecodedInsnLaws.{are_starts}
@@ -28,7 +27,7 @@ use Rattle.jc_body.specs.Coded.{HasCode, HasItems, IsCoded, code_bodies}
 use Rattle.jc_body.specs.Faults.{NoSingleCode, HasSubroutine, faults, insn_faults, row_faults, table_faults}
 use Rattle.jc_bytes.specs.Least.{IsNowhere}
 use Rattle.jc_body.specs.First.{Fault, IsFirstFault, AreNowhere}
-use Rattle.jc_body.specs.BodyOf.{BodyOf, Bodiless, IsReason, FaultOf, handler_of, lines_of, vars_of, places_used}
+use Rattle.jc_body.specs.BodyOf.{BodyOf, Bodiless, IsReason, FaultOf, places_used}
 use Rattle.jc_body.specs.StackMap.{BeginsWith, HasFrames, HasFramesOrFault}
 use Rattle.jc_body.proofs.FramesByNamesLaws.{some_numbering}
 use Rattle.jc_body.proofs.StackMapLaws.{each_map}
@@ -37,6 +36,7 @@ use Rattle.jc_body.proofs.ReasonLaws.{all_decided, refused_reason, unsingle_reas
 use Rattle.jc_body.proofs.FormLaws.{code_text_or_none}
 use Rattle.jc_body.proofs.TablesLaws.{tables_or_none}
 use Rattle.jc_body.proofs.UsesLaws.{some_uses}
+use Rattle.jc_body.proofs.MadeLaws.{made_of}
 
 at_number : {X : Type 0} (P : X → Type 0) (xs : List X) (number : ℕ) → number < length xs → AllByRecursion P xs → (x : X) × (slice_get xs number ≡ Some x) × P x
 at_number P [] number less each = absurd (omega (arith, less))
@@ -65,23 +65,7 @@ module _ (c : ClassFile) (number : ℕ) (method : Member) (at : slice_get c.meth
       let numbering = some_numbering frames in
       let uses = some_uses c.pool (places_used coded.insns coded.items.rows) in
       let slots = some_slots method.flags is.desc.0 is.desc.2 in
-      let body : Body = record {
-        method = number;
-        owner = owner.0;
-        name = is.name.0;
-        desc = is.desc.0;
-        flags = method.flags;
-        arg_slots = slots.0;
-        max_stack = coded.items.max_stack;
-        max_locals = coded.items.max_locals;
-        code = coded.insns;
-        handlers = map (handler_of (insn_number coded.starts)) coded.items.rows;
-        lines = lines_of (insn_number coded.starts) (length coded.insns) tables.lines;
-        vars = vars_of (insn_number coded.starts) (length coded.insns) (length coded.items.code) coded.items.max_locals tables.vars;
-        kind_vars = vars_of (insn_number coded.starts) (length coded.insns) (length coded.items.code) coded.items.max_locals tables.kind_vars;
-        frames = numbering.1;
-        uses = uses.0;
-      } in
+      let body = made_of method coded tables number owner.0 is.name.0 is.desc.0 slots.0 numbering.1 uses.0 in
       inr (inl (
         numbering.0,
         body,

@@ -16,6 +16,7 @@ pub mod EntryLaws
 pub mod AnswerLaws
 pub mod ReasonLaws
 pub mod EachMethodLaws
+pub mod MadeLaws
 pub mod WellMadeLaws
 pub mod SizeLaws
 pub mod ReadingLaws

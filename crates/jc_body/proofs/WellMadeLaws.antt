@@ -25,7 +25,7 @@ use Rattle.jc_insn.proofs.InsnCountLaws.{code_size}
 use Rattle.jc_body.specs.declared.coded.Coded.{Coded}
 use Rattle.jc_body.specs.declared.items.Row.{Row}
 use Rattle.jc_body.specs.declared.items.Tables.{Tables}
-use Rattle.jc_body.specs.BodyOf.{handler_of, lines_of, vars_of, places_used, AreUsesOf, HasParts, IsBody, IsBodyOfAnySize}
+use Rattle.jc_body.specs.BodyOf.{handler_of, places_used, AreUsesOf, HasParts, IsBody, IsBodyOfAnySize}
 use Rattle.jc_body.specs.Coded.{IsCoded}
 use Rattle.jc_body.specs.Faults.{OfCode, InsnAt, IsAstray, IsRow, IsClassOrNone, ArgumentsOutside, TooWide, faults, faults_of_any_size}
 use Rattle.jc_bytes.specs.Least.{IsNowhere}
@@ -45,6 +45,7 @@ use Rattle.jc_bytes.proofs.ListLaws.{put_last}
 use Rattle.jc_body.proofs.PlacesLaws.{row_or_not, rows_handled, lines_kept, vars_kept}
 use Rattle.jc_body.proofs.StandingLaws.{right_entry_or_not, suits_what, locals_or_not, leads_or_not}
 use Rattle.jc_body.proofs.UsesLaws.{has_use, insn_place_used, row_place_used}
+use Rattle.jc_body.proofs.MadeLaws.{made, is_made}
 
 -- ---- no fault is anywhere
 
@@ -184,45 +185,6 @@ frames_well names c method coded owner frames starts has = by frames has.frames_
         table.2
 
 -- ---- the whole
-
--- the body, by what was read of the method
-abbrev made : Member → Coded → Tables → Body → Body
-made method coded tables b = record {
-  method = b.method;
-  owner = b.owner;
-  name = b.name;
-  desc = b.desc;
-  flags = method.flags;
-  arg_slots = b.arg_slots;
-  max_stack = coded.items.max_stack;
-  max_locals = coded.items.max_locals;
-  code = coded.insns;
-  handlers = map (handler_of (insn_number coded.starts)) coded.items.rows;
-  lines = lines_of (insn_number coded.starts) (length coded.insns) tables.lines;
-  vars = vars_of (insn_number coded.starts) (length coded.insns) (length coded.items.code) coded.items.max_locals tables.vars;
-  kind_vars = vars_of (insn_number coded.starts) (length coded.insns) (length coded.items.code) coded.items.max_locals tables.kind_vars;
-  frames = b.frames;
-  uses = b.uses;
-}
-
-is_made : (names : Names) (c : ClassFile) (number : ℕ) (method : Member) (coded : Coded) (tables : Tables) (b : Body) → HasParts names c number method coded tables b → b ≡ made method coded tables b
-is_made names c number method coded tables b p = λ i. record {
-  method = b.method;
-  owner = b.owner;
-  name = b.name;
-  desc = b.desc;
-  flags = p.flags i;
-  arg_slots = b.arg_slots;
-  max_stack = p.max_stack i;
-  max_locals = p.max_locals i;
-  code = p.code i;
-  handlers = p.handlers i;
-  lines = p.lines i;
-  vars = p.vars i;
-  kind_vars = p.kind_vars i;
-  frames = b.frames;
-  uses = b.uses;
-}
 
 made_well : (names : Names) (c : ClassFile) (number : ℕ) (method : Member) (coded : Coded) (tables : Tables) (b : Body) → IsCoded c.pool method coded
     → AreStarts (length coded.insns) (length coded.items.code) coded.starts → IsFree c method coded
