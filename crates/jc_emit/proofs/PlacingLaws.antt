@@ -3,6 +3,7 @@ use Rattle.std.proofs.Common.{◌≡◌, ⊎_elim, ℕ, zero, suc, ◌+◌, ◌*
 use Rattle.std.specs.Prelude.{slice_index_or}
 use Rattle.std.specs.List.{sum_by}
 use Rattle.std.proofs.lemmas.Bool.{cases_lt}
+use Rattle.std.proofs.lemmas.Grind.{get_or_default_zero}
 use Rattle.std.proofs.lemmas.Option.{slice_get-get_or, same_Some}
 use Rattle.std.proofs.lemmas.List.{get_or_past, length-map}
 use Rattle.std.proofs.lemmas.List.Sums.{sum_by-cons, sum_by_more, sum_by-take-le}
@@ -169,6 +170,15 @@ pub record ArePlaced (b : Body) (first n here : ℕ) (leads lands images : List 
 pub insn_here : (code : List Insn) (at : ℕ) (d x : Insn) → at < length code → x ≡ get_or code at d → x ≡ insn_at code at
 insn_here code at d x lt is =
     is ∙ same_Some (get_or code at d) (insn_at code at) (sym (slice_get-get_or code at d lt) ∙ slice_get-get_or code at (insns.Simple 0) lt)
+
+-- an instruction that is read off a list of the code
+pub insn_seen : (code seen : List Insn) (at : ℕ) (x : Insn) → at < length code → seen ≡ code → x ≡ get_or seen at x → x ≡ insn_at code at
+insn_seen code seen at x lt are is = insn_here code at x x lt (is ∙ ap (λ (l : List Insn). get_or l at x) are)
+
+-- a place that is read off a table
+pub place_seen : (place : ℕ → ℕ) (count : ℕ) (places : List ℕ) (at x : ℕ) → IsTable place count places → at < count → x ≡ get_or places at x → x ≡ place at
+place_seen place count places at x table lt is =
+    is ∙ get_or_default_zero places at x (omega (arith, lt, table.size)) ∙ table.each at (omega (arith, lt))
 
 module _ (b : Body) (first : ℕ) where
   -- one more instruction

@@ -40,6 +40,11 @@ module _ (b : Body) (first : ℕ) (p : Plan) (is : p ≡ plan_of b first) where
       ∙ get_or_from_slice_get (plan_of b first).out i (out_probes b first i (insn_at b.code i)) d
       (out_read b first i (insn_at b.code i) (slice_get-get_or b.code i (insns.Simple 0) lt))
 
+  -- the probes that are read off a list of those of each instruction
+  pub outs_seen : (seen : List (List (Option ℕ))) (i : ℕ) (d ids : List (Option ℕ)) → i < length b.code → seen ≡ p.out → d ≡ get_or seen i d → ids ≡ d
+      → ids ≡ out_probes b first i (insn_at b.code i)
+  outs_seen seen i d ids lt are is same = same ∙ is ∙ ap (λ (l : List (List (Option ℕ))). get_or l i d) are ∙ outs_here i d lt
+
 module _ (b : Body) (first i : ℕ) where
   abbrev old : Insn
   old = insn_at b.code i

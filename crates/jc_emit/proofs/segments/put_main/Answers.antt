@@ -11,8 +11,8 @@ use Rattle.jc_emit.specs.Branching.{IsPushed, IsTableOf, late_in}
 use Rattle.jc_emit.specs.Items.{image, land_of, tests_part}
 use Rattle.jc_emit.specs.Sizes.{insn_at, early_probe, late_probe}
 use Rattle.jc_emit.specs.Writing.{Grows}
-use Rattle.jc_emit.proofs.PlanReadsLaws.{length_outs, outs_here}
-use Rattle.jc_emit.proofs.PlacingLaws.{insn_here, late_read}
+use Rattle.jc_emit.proofs.PlanReadsLaws.{length_outs, outs_seen}
+use Rattle.jc_emit.proofs.PlacingLaws.{insn_seen, late_read}
 use Rattle.jc_emit.proofs.SegmentLaws.{table_is, led_agrees, leads_at, outs_pushed, main_by}
 use Rattle.jc_emit.proofs.segments.put_main.Goals as goal
 
@@ -32,11 +32,7 @@ put_test-requires-clause-pushed c =
     let plan = c.requires.given.planned in
     let b = c.args.body.now in
     let at = c.args.at in
-    let ids : c.as_slice.result.now ≡ out_probes b plan.0 at (insn_at b.code at) =
-    c.as_slice.ensures
-    ∙ c.index-deref-at-in-Branches.is
-    ∙ ap (λ (l : List (List (Option ℕ))). get_or l at c.index-deref-at-in-Branches.result) c.deref-in-Branches.ensures
-    ∙ outs_here b plan.0 c.args.plan.now plan.1 at c.index-deref-at-in-Branches.result c.requires.at in
+    let ids = outs_seen b plan.0 c.args.plan.now plan.1 _ at c.index-deref-at-in-Branches.result c.as_slice.result.now c.requires.at c.deref-in-Branches.ensures c.index-deref-at-in-Branches.is c.as_slice.ensures in
     subst IsPushed (sym (c.late_id-late.ensures ∙ ap (λ (l : List (Option ℕ)). get_or l 1 None) ids))
     (outs_pushed b plan.0 c.args.plan.now plan.1 c.requires.given.next at (insn_at b.code at) 1)
 
@@ -53,9 +49,7 @@ returns-in_ok-put_image-in-GoesOn-clause-code c = λ first plan.
     let v = b.arg_slots in
     let old = c.args.written.now in
     let new = c.put_image.new.self in
-    let insn : c.index-deref-at.result ≡ insn_at b.code at =
-    insn_here b.code at c.index-deref-at.result c.index-deref-at.result c.requires.at
-    (c.index-deref-at.is ∙ ap (λ (l : List Insn). get_or l at c.index-deref-at.result) c.deref.ensures) in
+    let insn = insn_seen b.code _ at c.index-deref-at.result c.requires.at c.deref.ensures c.index-deref-at.is in
     let flow : flow_of (insn_at b.code at) ≡ flows.GoesOn = ap flow_of (sym insn) ∙ sym c.flow.ensures ∙ c.in-GoesOn.is in
     let moved = c.in_ok-moved-in-GoesOn.ensures ∙ ap (with_slot v) insn in
     main_by v b first at old new flows.GoesOn flow
@@ -68,16 +62,10 @@ returns-in_ok-put_test-in-Branches-clause-code c = λ first plan.
     let v = b.arg_slots in
     let old = c.args.written.now in
     let new = c.put_test.new.written in
-    let insn : c.index-deref-at.result ≡ insn_at b.code at =
-    insn_here b.code at c.index-deref-at.result c.index-deref-at.result c.requires.at
-    (c.index-deref-at.is ∙ ap (λ (l : List Insn). get_or l at c.index-deref-at.result) c.deref.ensures) in
+    let insn = insn_seen b.code _ at c.index-deref-at.result c.requires.at c.deref.ensures c.index-deref-at.is in
     let flow : flow_of (insn_at b.code at) ≡ flows.Branches = ap flow_of (sym insn) ∙ sym c.flow.ensures ∙ c.in-Branches.is in
     let outs = out_probes b first at (insn_at b.code at) in
-    let ids : c.as_slice.result.now ≡ outs =
-    c.as_slice.ensures
-    ∙ c.index-deref-at-in-Branches.is
-    ∙ ap (λ (l : List (List (Option ℕ))). get_or l at c.index-deref-at-in-Branches.result) c.deref-in-Branches.ensures
-    ∙ outs_here b first c.args.plan.now plan at c.index-deref-at-in-Branches.result c.requires.at in
+    let ids = outs_seen b first c.args.plan.now plan _ at c.index-deref-at-in-Branches.result c.as_slice.result.now c.requires.at c.deref-in-Branches.ensures c.index-deref-at-in-Branches.is c.as_slice.ensures in
     let late : c.late_id-late.result ≡ late_probe b first at =
     c.late_id-late.ensures ∙ ap (λ (l : List (Option ℕ)). get_or l 1 None) ids ∙ ap (λ f. late_in f outs) (sym flow) ∙ late_read b first at in
     main_by v b first at old new flows.Branches flow
@@ -94,9 +82,7 @@ returns-in_ok-put_image-in-Jumps-clause-code c = λ first plan.
     let lands = c.deref-in-Jumps.result.now in
     let land = land_of b first false in
     let are = c.requires.given.placed first plan in
-    let insn : c.index-deref-at.result ≡ insn_at b.code at =
-    insn_here b.code at c.index-deref-at.result c.index-deref-at.result c.requires.at
-    (c.index-deref-at.is ∙ ap (λ (l : List Insn). get_or l at c.index-deref-at.result) c.deref.ensures) in
+    let insn = insn_seen b.code _ at c.index-deref-at.result c.requires.at c.deref.ensures c.index-deref-at.is in
     let flow : flow_of (insn_at b.code at) ≡ flows.Jumps = ap flow_of (sym insn) ∙ sym c.flow.ensures ∙ c.in-Jumps.is in
     let tells : IsTableOf land lands =
     subst (IsTableOf land) (sym c.deref-in-Jumps.ensures.value) (table_is land (length b.code) c.args.places.now.lands.items are.lands) in
@@ -114,9 +100,7 @@ returns-in_ok-put_image-in-Returns-clause-code c = λ first plan.
     let v = b.arg_slots in
     let old = c.args.written.now in
     let new = c.put_image-in-Returns.new.self in
-    let insn : c.index-deref-at.result ≡ insn_at b.code at =
-    insn_here b.code at c.index-deref-at.result c.index-deref-at.result c.requires.at
-    (c.index-deref-at.is ∙ ap (λ (l : List Insn). get_or l at c.index-deref-at.result) c.deref.ensures) in
+    let insn = insn_seen b.code _ at c.index-deref-at.result c.requires.at c.deref.ensures c.index-deref-at.is in
     let grows : Grows v old new (image (insn_at b.code at) at (early_probe b first at) ∷ []) =
     subst (λ (i : Insn). Grows v old new (image i at (early_probe b first at) ∷ [])) (c.in_ok-try_clone-in-Returns.ensures ∙ insn)
     (c.in_ok-put_image-in-Returns.ensures v (early_probe b first at)) in

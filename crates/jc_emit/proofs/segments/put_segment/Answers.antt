@@ -1,15 +1,14 @@
 use Rattle.std.proofs.Common.{◌≡◌, ℕ, ◌++◌, false, Option, None, List, length, get_or, sym, ap, ap₂, ◌∙◌, subst, arith}
 use Rattle.jc_methods.specs.Flow.{flow_of}
-use Rattle.jc_methods.specs.declared.insn.Insn.{Insn}
 use Rattle.jc_methods.specs.declared.insn.Flow.{Flow}
 use Rattle.jc_methods.proofs.PlacedInsnLaws.{few_insns}
-use Rattle.jc_plan.specs.Plan.{lead_probe, out_probes}
+use Rattle.jc_plan.specs.Plan.{lead_probe}
 use Rattle.jc_emit.specs.Branching.{IsPushed, early_in}
 use Rattle.jc_emit.specs.Items.{lead_part, early_part, image_part}
 use Rattle.jc_emit.specs.Sizes.{insn_at, early_probe}
 use Rattle.jc_emit.specs.Writing.{Grows}
-use Rattle.jc_emit.proofs.PlanReadsLaws.{length_leads, length_outs, lead_here, outs_here}
-use Rattle.jc_emit.proofs.PlacingLaws.{insn_here, early_read}
+use Rattle.jc_emit.proofs.PlanReadsLaws.{length_leads, length_outs, lead_here, outs_seen}
+use Rattle.jc_emit.proofs.PlacingLaws.{insn_seen, early_read}
 use Rattle.jc_emit.proofs.SegmentLaws.{lead_pushed, outs_pushed, early_pushed}
 use Rattle.jc_emit.proofs.WritingLaws.{grows_append}
 use Rattle.jc_emit.proofs.segments.put_segment.Goals as goal
@@ -44,11 +43,7 @@ put_front-requires-2 c =
     let plan = c.requires.given.planned in
     let b = c.args.body.now in
     let at = c.args.at in
-    let ids : c.as_slice.result.now ≡ out_probes b plan.0 at (insn_at b.code at) =
-    c.as_slice.ensures
-    ∙ c.index-deref-at-2.is
-    ∙ ap (λ (l : List (List (Option ℕ))). get_or l at c.index-deref-at-2.result) c.deref-3.ensures
-    ∙ outs_here b plan.0 c.args.plan.now plan.1 at c.index-deref-at-2.result c.requires.at in
+    let ids = outs_seen b plan.0 c.args.plan.now plan.1 _ at c.index-deref-at-2.result c.as_slice.result.now c.requires.at c.deref-3.ensures c.index-deref-at-2.is c.as_slice.ensures in
     subst IsPushed (sym c.early_id-early.ensures)
     (early_pushed c.flow.result c.as_slice.result.now
     (λ k. subst (λ (l : List (Option ℕ)). IsPushed (get_or l k None)) (sym ids) (outs_pushed b plan.0 c.args.plan.now plan.1 c.requires.given.next at (insn_at b.code at) k)))
@@ -62,14 +57,8 @@ returns-clause-code c = λ first plan.
     let led = c.put_front.new.self in
     let front = c.put_front-2.new.self in
     let new = c.put_main.new.written in
-    let ids : c.as_slice.result.now ≡ out_probes b first at (insn_at b.code at) =
-    c.as_slice.ensures
-    ∙ c.index-deref-at-2.is
-    ∙ ap (λ (l : List (List (Option ℕ))). get_or l at c.index-deref-at-2.result) c.deref-3.ensures
-    ∙ outs_here b first c.args.plan.now plan at c.index-deref-at-2.result c.requires.at in
-    let insn : c.index-deref-at.result ≡ insn_at b.code at =
-    insn_here b.code at c.index-deref-at.result c.index-deref-at.result c.requires.at
-    (c.index-deref-at.is ∙ ap (λ (l : List Insn). get_or l at c.index-deref-at.result) c.deref-2.ensures) in
+    let ids = outs_seen b first c.args.plan.now plan _ at c.index-deref-at-2.result c.as_slice.result.now c.requires.at c.deref-3.ensures c.index-deref-at-2.is c.as_slice.ensures in
+    let insn = insn_seen b.code _ at c.index-deref-at.result c.requires.at c.deref-2.ensures c.index-deref-at.is in
     let lead : get_or c.deref.result.now at None ≡ lead_probe b first at =
     ap (λ (l : List (Option ℕ)). get_or l at None) c.deref.ensures ∙ lead_here b first c.args.plan.now plan at None c.requires.at in
     let early : c.early_id-early.result ≡ early_probe b first at =

@@ -1,6 +1,5 @@
 use Rattle.std.proofs.Common.{◌≡◌, ◌<◌, ℕ, ◌+◌, [], ◌∷◌, false, Option, None, List, length, get_or, sym, ap, ◌∙◌, subst, arith}
 use Rattle.std.specs.Prelude.{All, Contains, slice_index}
-use Rattle.std.proofs.lemmas.Grind.{get_or_default_zero}
 use Rattle.jc_bytes.specs.PlainLists.{pieces}
 use Rattle.jc_bytes.specs.FirstSeen.{first_seen}
 use Rattle.jc_methods.specs.Flow.{targets_of}
@@ -8,15 +7,14 @@ use Rattle.jc_methods.specs.Insn.{with_places}
 use Rattle.jc_methods.specs.InsnUse.{LeadsWithin}
 use Rattle.jc_methods.specs.declared.insn.Insn.{Insn}
 use Rattle.jc_methods.proofs.PlacedInsnLaws.{few_insns}
-use Rattle.jc_plan.specs.Plan.{out_probes}
 use Rattle.jc_plan.specs.Probed.{probe_of}
 use Rattle.jc_emit.specs.Branching.{IsPushed, IsTableOf, arm_place_in, arm_part_in}
 use Rattle.jc_emit.specs.Items.{image, arm_parts, land_of, image_of}
 use Rattle.jc_emit.specs.Sizes.{insn_at, arms_at}
 use Rattle.jc_emit.specs.TwinCode.{arm_place}
 use Rattle.jc_emit.specs.Writing.{Grows}
-use Rattle.jc_emit.proofs.PlanReadsLaws.{length_outs, outs_here}
-use Rattle.jc_emit.proofs.PlacingLaws.{insn_here, few_outs, image_small}
+use Rattle.jc_emit.proofs.PlanReadsLaws.{length_outs, outs_seen}
+use Rattle.jc_emit.proofs.PlacingLaws.{insn_seen, place_seen, few_outs, image_small}
 use Rattle.jc_emit.proofs.SegmentLaws.{table_is, leads_at, targets_at, outs_pushed, switch_ids, switch_image, switch_parts}
 use Rattle.jc_emit.proofs.WritingLaws.{grows_append}
 use Rattle.jc_emit.proofs.segments.put_switch.Goals as goal
@@ -32,8 +30,7 @@ overflow_add-index c =
     let b = c.args.body.now in
     let at = c.args.at in
     let images = (c.requires.given.placed plan.0 plan.1).images in
-    let lt : at < length c.args.places.now.images.items = omega (arith, c.requires.at, images.size) in
-    let here = c.index.ensures ∙ get_or_default_zero c.args.places.now.images.items at c.index.result.now lt ∙ images.each at (omega (arith, c.requires.at)) in
+    let here = place_seen (image_of b plan.0 false) (length b.code) _ at c.index.result.now images c.requires.at c.index.ensures in
     omega (arith, here, image_small b plan.0 c.requires.given.made.code at (omega (arith, c.requires.at)))
 
 pub set_arms-requires-clause-within : goal.set_arms-requires-clause-within
@@ -41,11 +38,8 @@ set_arms-requires-clause-within c =
     let plan = c.requires.given.planned in
     let b = c.args.body.now in
     let at = c.args.at in
-    let insn : c.index-deref-at.result ≡ insn_at b.code at =
-    insn_here b.code at c.index-deref-at.result c.index-deref-at.result c.requires.at
-    (c.index-deref-at.is ∙ ap (λ (l : List Insn). get_or l at c.index-deref-at.result) c.deref.ensures) in
-    let targets : c.deref-4.result.now ≡ first_seen (targets_of (insn_at b.code at)) =
-    c.deref-4.ensures ∙ c.in_ok-targets.ensures ∙ ap (λ (i : Insn). first_seen (targets_of i)) insn in
+    let insn = insn_seen b.code _ at c.index-deref-at.result c.requires.at c.deref.ensures c.index-deref-at.is in
+    let targets = c.deref-4.ensures ∙ c.in_ok-targets.ensures ∙ ap (λ (i : Insn). first_seen (targets_of i)) insn in
     let lands = (c.requires.given.placed plan.0 plan.1).lands in
     let size : length c.deref-3.result.now ≡ length b.code + 1 = ap length c.deref-3.ensures.value ∙ lands.size in
     subst (All (λ to. to < length c.deref-3.result.now)) (sym targets) (targets_at b at c.requires.at c.requires.given.made (length c.deref-3.result.now) size)
@@ -55,16 +49,9 @@ set_arms-requires-clause-ids c =
     let plan = c.requires.given.planned in
     let b = c.args.body.now in
     let at = c.args.at in
-    let insn : c.index-deref-at.result ≡ insn_at b.code at =
-    insn_here b.code at c.index-deref-at.result c.index-deref-at.result c.requires.at
-    (c.index-deref-at.is ∙ ap (λ (l : List Insn). get_or l at c.index-deref-at.result) c.deref.ensures) in
-    let targets : c.deref-4.result.now ≡ first_seen (targets_of (insn_at b.code at)) =
-    c.deref-4.ensures ∙ c.in_ok-targets.ensures ∙ ap (λ (i : Insn). first_seen (targets_of i)) insn in
-    let ids : c.as_slice-ids.result.now ≡ out_probes b plan.0 at (insn_at b.code at) =
-    c.as_slice-ids.ensures
-    ∙ c.index-deref-at-2.is
-    ∙ ap (λ (l : List (List (Option ℕ))). get_or l at c.index-deref-at-2.result) c.deref-2.ensures
-    ∙ outs_here b plan.0 c.args.plan.now plan.1 at c.index-deref-at-2.result c.requires.at in
+    let insn = insn_seen b.code _ at c.index-deref-at.result c.requires.at c.deref.ensures c.index-deref-at.is in
+    let targets = c.deref-4.ensures ∙ c.in_ok-targets.ensures ∙ ap (λ (i : Insn). first_seen (targets_of i)) insn in
+    let ids = outs_seen b plan.0 c.args.plan.now plan.1 _ at c.index-deref-at-2.result c.as_slice-ids.result.now c.requires.at c.deref-2.ensures c.index-deref-at-2.is c.as_slice-ids.ensures in
     ap length ids ∙ switch_ids b plan.0 at c.requires.switch ∙ ap length (sym targets)
 
 pub set_arms-requires-clause-few : goal.set_arms-requires-clause-few
@@ -72,11 +59,7 @@ set_arms-requires-clause-few c =
     let plan = c.requires.given.planned in
     let b = c.args.body.now in
     let at = c.args.at in
-    let ids : c.as_slice-ids.result.now ≡ out_probes b plan.0 at (insn_at b.code at) =
-    c.as_slice-ids.ensures
-    ∙ c.index-deref-at-2.is
-    ∙ ap (λ (l : List (List (Option ℕ))). get_or l at c.index-deref-at-2.result) c.deref-2.ensures
-    ∙ outs_here b plan.0 c.args.plan.now plan.1 at c.index-deref-at-2.result c.requires.at in
+    let ids = outs_seen b plan.0 c.args.plan.now plan.1 _ at c.index-deref-at-2.result c.as_slice-ids.result.now c.requires.at c.deref-2.ensures c.index-deref-at-2.is c.as_slice-ids.ensures in
     omega (arith, ap length ids, few_outs b plan.0 c.requires.given.made.code at c.requires.at)
 
 pub set_arms-requires-clause-small : goal.set_arms-requires-clause-small
@@ -85,17 +68,14 @@ set_arms-requires-clause-small c =
     let b = c.args.body.now in
     let at = c.args.at in
     let images = (c.requires.given.placed plan.0 plan.1).images in
-    let lt : at < length c.args.places.now.images.items = omega (arith, c.requires.at, images.size) in
-    let here = c.index.ensures ∙ get_or_default_zero c.args.places.now.images.items at c.index.result.now lt ∙ images.each at (omega (arith, c.requires.at)) in
+    let here = place_seen (image_of b plan.0 false) (length b.code) _ at c.index.result.now images c.requires.at c.index.ensures in
     omega (arith, here, image_small b plan.0 c.requires.given.made.code at (omega (arith, c.requires.at)))
 
 pub led-requires : goal.led-requires
 led-requires c =
     let b = c.args.body.now in
     let at = c.args.at in
-    let insn : c.index-deref-at.result ≡ insn_at b.code at =
-    insn_here b.code at c.index-deref-at.result c.index-deref-at.result c.requires.at
-    (c.index-deref-at.is ∙ ap (λ (l : List Insn). get_or l at c.index-deref-at.result) c.deref.ensures) in
+    let insn = insn_seen b.code _ at c.index-deref-at.result c.requires.at c.deref.ensures c.index-deref-at.is in
     let size = c.set_arms.ensures.size ∙ c.requires.table in
     subst (LeadsWithin (length c.set_arms.new.table)) (sym insn) (leads_at b at c.requires.at c.requires.given.made (length c.set_arms.new.table) size)
 
@@ -107,11 +87,8 @@ put_arms-requires-clause-within c =
     let plan = c.requires.given.planned in
     let b = c.args.body.now in
     let at = c.args.at in
-    let insn : c.index-deref-at.result ≡ insn_at b.code at =
-    insn_here b.code at c.index-deref-at.result c.index-deref-at.result c.requires.at
-    (c.index-deref-at.is ∙ ap (λ (l : List Insn). get_or l at c.index-deref-at.result) c.deref.ensures) in
-    let targets : c.deref-6.result.now ≡ first_seen (targets_of (insn_at b.code at)) =
-    c.deref-6.ensures ∙ c.in_ok-targets.ensures ∙ ap (λ (i : Insn). first_seen (targets_of i)) insn in
+    let insn = insn_seen b.code _ at c.index-deref-at.result c.requires.at c.deref.ensures c.index-deref-at.is in
+    let targets = c.deref-6.ensures ∙ c.in_ok-targets.ensures ∙ ap (λ (i : Insn). first_seen (targets_of i)) insn in
     let lands = (c.requires.given.placed plan.0 plan.1).lands in
     let size : length c.deref-5.result.now ≡ length b.code + 1 = ap length c.deref-5.ensures.value ∙ lands.size in
     subst (All (λ to. to < length c.deref-5.result.now)) (sym targets) (targets_at b at c.requires.at c.requires.given.made (length c.deref-5.result.now) size)
@@ -121,16 +98,9 @@ put_arms-requires-clause-ids c =
     let plan = c.requires.given.planned in
     let b = c.args.body.now in
     let at = c.args.at in
-    let insn : c.index-deref-at.result ≡ insn_at b.code at =
-    insn_here b.code at c.index-deref-at.result c.index-deref-at.result c.requires.at
-    (c.index-deref-at.is ∙ ap (λ (l : List Insn). get_or l at c.index-deref-at.result) c.deref.ensures) in
-    let targets : c.deref-6.result.now ≡ first_seen (targets_of (insn_at b.code at)) =
-    c.deref-6.ensures ∙ c.in_ok-targets.ensures ∙ ap (λ (i : Insn). first_seen (targets_of i)) insn in
-    let ids : c.as_slice-ids.result.now ≡ out_probes b plan.0 at (insn_at b.code at) =
-    c.as_slice-ids.ensures
-    ∙ c.index-deref-at-2.is
-    ∙ ap (λ (l : List (List (Option ℕ))). get_or l at c.index-deref-at-2.result) c.deref-2.ensures
-    ∙ outs_here b plan.0 c.args.plan.now plan.1 at c.index-deref-at-2.result c.requires.at in
+    let insn = insn_seen b.code _ at c.index-deref-at.result c.requires.at c.deref.ensures c.index-deref-at.is in
+    let targets = c.deref-6.ensures ∙ c.in_ok-targets.ensures ∙ ap (λ (i : Insn). first_seen (targets_of i)) insn in
+    let ids = outs_seen b plan.0 c.args.plan.now plan.1 _ at c.index-deref-at-2.result c.as_slice-ids.result.now c.requires.at c.deref-2.ensures c.index-deref-at-2.is c.as_slice-ids.ensures in
     ap length ids ∙ switch_ids b plan.0 at c.requires.switch ∙ ap length (sym targets)
 
 pub put_arms-requires-clause-pushed : goal.put_arms-requires-clause-pushed
@@ -138,11 +108,7 @@ put_arms-requires-clause-pushed c =
     let plan = c.requires.given.planned in
     let b = c.args.body.now in
     let at = c.args.at in
-    let ids : c.as_slice-ids.result.now ≡ out_probes b plan.0 at (insn_at b.code at) =
-    c.as_slice-ids.ensures
-    ∙ c.index-deref-at-2.is
-    ∙ ap (λ (l : List (List (Option ℕ))). get_or l at c.index-deref-at-2.result) c.deref-2.ensures
-    ∙ outs_here b plan.0 c.args.plan.now plan.1 at c.index-deref-at-2.result c.requires.at in
+    let ids = outs_seen b plan.0 c.args.plan.now plan.1 _ at c.index-deref-at-2.result c.as_slice-ids.result.now c.requires.at c.deref-2.ensures c.index-deref-at-2.is c.as_slice-ids.ensures in
     λ number.
     subst (λ (l : List (Option ℕ)). IsPushed (get_or l number None)) (sym ids)
     (outs_pushed b plan.0 c.args.plan.now plan.1 c.requires.given.next at (insn_at b.code at) number)
@@ -160,27 +126,17 @@ returns-clause-code c = λ first plan.
     let here = c.index.result.now + 1 in
     let land = land_of b first false in
     let are = c.requires.given.placed first plan in
-    let insn : c.index-deref-at.result ≡ insn_at b.code at =
-    insn_here b.code at c.index-deref-at.result c.index-deref-at.result c.requires.at
-    (c.index-deref-at.is ∙ ap (λ (l : List Insn). get_or l at c.index-deref-at.result) c.deref.ensures) in
-    let targets : c.deref-4.result.now ≡ first_seen (targets_of (insn_at b.code at)) =
-    c.deref-4.ensures ∙ c.in_ok-targets.ensures ∙ ap (λ (i : Insn). first_seen (targets_of i)) insn in
-    let targets_again : c.deref-6.result.now ≡ first_seen (targets_of (insn_at b.code at)) =
-    c.deref-6.ensures ∙ c.in_ok-targets.ensures ∙ ap (λ (i : Insn). first_seen (targets_of i)) insn in
-    let ids : c.as_slice-ids.result.now ≡ out_probes b first at (insn_at b.code at) =
-    c.as_slice-ids.ensures
-    ∙ c.index-deref-at-2.is
-    ∙ ap (λ (l : List (List (Option ℕ))). get_or l at c.index-deref-at-2.result) c.deref-2.ensures
-    ∙ outs_here b first c.args.plan.now plan at c.index-deref-at-2.result c.requires.at in
+    let insn = insn_seen b.code _ at c.index-deref-at.result c.requires.at c.deref.ensures c.index-deref-at.is in
+    let targets = c.deref-4.ensures ∙ c.in_ok-targets.ensures ∙ ap (λ (i : Insn). first_seen (targets_of i)) insn in
+    let targets_again = c.deref-6.ensures ∙ c.in_ok-targets.ensures ∙ ap (λ (i : Insn). first_seen (targets_of i)) insn in
+    let ids = outs_seen b first c.args.plan.now plan _ at c.index-deref-at-2.result c.as_slice-ids.result.now c.requires.at c.deref-2.ensures c.index-deref-at-2.is c.as_slice-ids.ensures in
     let tells : IsTableOf land lands =
     subst (IsTableOf land) (sym c.deref-3.ensures.value) (table_is land (length b.code) c.args.places.now.lands.items are.lands) in
     let tells_again : IsTableOf land c.deref-5.result.now =
     subst (IsTableOf land) (sym c.deref-5.ensures.value) (table_is land (length b.code) c.args.places.now.lands.items are.lands) in
     let within = leads_at b at c.requires.at c.requires.given.made (length lands) (ap length c.deref-3.ensures.value ∙ are.lands.size) in
-    let lt : at < length c.args.places.now.images.items = omega (arith, c.requires.at, are.images.size) in
     let place : here ≡ image_of b first false at + 1 =
-    ap (λ k. k + 1)
-    (c.index.ensures ∙ get_or_default_zero c.args.places.now.images.items at c.index.result.now lt ∙ are.images.each at (omega (arith, c.requires.at))) in
+    ap (λ k. k + 1) (place_seen (image_of b first false) (length b.code) _ at c.index.result.now are.images c.requires.at c.index.ensures) in
     let each : (to : ℕ) → Contains (first_seen (targets_of (insn_at b.code at))) to
     → get_or table to 0 ≡ arm_place_in (slice_index lands) here (first_seen (targets_of (insn_at b.code at))) c.as_slice-ids.result.now to =
     subst (λ (ts : List ℕ). (to : ℕ) → Contains ts to → get_or table to 0 ≡ arm_place_in (slice_index lands) here ts c.as_slice-ids.result.now to) targets

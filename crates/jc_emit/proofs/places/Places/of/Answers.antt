@@ -1,13 +1,12 @@
 use Rattle.std.proofs.Common.{rules, ◌≡◌, ◌<◌, ◌≤◌, ℕ, false, Option, None, List, length, get_or, ap, ap₂, ◌∙◌, arith}
 use Rattle.jc_methods.specs.Flow.{flow_of}
-use Rattle.jc_methods.specs.declared.insn.Insn.{Insn}
 use Rattle.jc_methods.specs.declared.insn.Flow.{Flow}
 use Rattle.jc_methods.proofs.PlacedInsnLaws.{few_insns}
-use Rattle.jc_plan.specs.Plan.{lead_probe, out_probes}
+use Rattle.jc_plan.specs.Plan.{lead_probe}
 use Rattle.jc_emit.specs.Branching.{early_in, behind_in}
 use Rattle.jc_emit.specs.Sizes.{insn_at, probe_size, early_probe, behind_size}
-use Rattle.jc_emit.proofs.PlanReadsLaws.{length_leads, length_outs, lead_here, outs_here}
-use Rattle.jc_emit.proofs.PlacingLaws.{insn_here, early_read, behind_read, few_outs, lead_small, placed_more, placed_all, small_places}
+use Rattle.jc_emit.proofs.PlanReadsLaws.{length_leads, length_outs, lead_here, outs_seen}
+use Rattle.jc_emit.proofs.PlacingLaws.{insn_seen, early_read, behind_read, few_outs, lead_small, placed_more, placed_all, small_places}
 use Rattle.jc_emit.proofs.places.Places.of.Goals as goal
 
 pub overflow_add-len : goal.overflow_add-len
@@ -64,11 +63,7 @@ behind_size-requires c =
     let plan = c.requires.plan in
     let at = c.placing.at in
     let lt : at < length b.code = omega (arith, ap length c.deref-insn-items.ensures) in
-    let ids : c.as_slice-ids.result.now ≡ out_probes b plan.0 at (insn_at b.code at) =
-    c.as_slice-ids.ensures
-    ∙ c.index-deref-at.is
-    ∙ ap (λ (l : List (List (Option ℕ))). get_or l at c.index-deref-at.result) c.deref.ensures
-    ∙ outs_here b plan.0 c.args.plan.now plan.1 at c.index-deref-at.result lt in
+    let ids = outs_seen b plan.0 c.args.plan.now plan.1 _ at c.index-deref-at.result c.as_slice-ids.result.now lt c.deref.ensures c.index-deref-at.is c.as_slice-ids.ensures in
     omega (arith, ap length ids, few_outs b plan.0 c.requires.made.code at lt)
 
 pub overflow_add-here-in-placing : goal.overflow_add-here-in-placing
@@ -78,11 +73,7 @@ overflow_add-here-in-placing c =
     let at = c.placing.at in
     let so_far = c.placing.invariant plan.0 plan.1 in
     let lt : at < length b.code = omega (arith, ap length c.deref-insn-items.ensures) in
-    let ids : c.as_slice-ids.result.now ≡ out_probes b plan.0 at (insn_at b.code at) =
-    c.as_slice-ids.ensures
-    ∙ c.index-deref-at.is
-    ∙ ap (λ (l : List (List (Option ℕ))). get_or l at c.index-deref-at.result) c.deref.ensures
-    ∙ outs_here b plan.0 c.args.plan.now plan.1 at c.index-deref-at.result lt in
+    let ids = outs_seen b plan.0 c.args.plan.now plan.1 _ at c.index-deref-at.result c.as_slice-ids.result.now lt c.deref.ensures c.index-deref-at.is c.as_slice-ids.ensures in
     omega (
       arith,
       so_far.here_is,
@@ -99,14 +90,8 @@ placing-preserved c = λ first plan.
     let b = c.args.body.now in
     let at = c.placing.at in
     let lt : at < length b.code = omega (arith, ap length c.deref-insn-items.ensures) in
-    let ids : c.as_slice-ids.result.now ≡ out_probes b first at (insn_at b.code at) =
-    c.as_slice-ids.ensures
-    ∙ c.index-deref-at.is
-    ∙ ap (λ (l : List (List (Option ℕ))). get_or l at c.index-deref-at.result) c.deref.ensures
-    ∙ outs_here b first c.args.plan.now plan at c.index-deref-at.result lt in
-    let insn : c.insn-item.result ≡ insn_at b.code at =
-    insn_here b.code at c.insn-item.result c.insn-item.result lt
-    (c.insn-item.is ∙ ap (λ (l : List Insn). get_or l at c.insn-item.result) c.deref-insn-items.ensures) in
+    let ids = outs_seen b first c.args.plan.now plan _ at c.index-deref-at.result c.as_slice-ids.result.now lt c.deref.ensures c.index-deref-at.is c.as_slice-ids.ensures in
+    let insn = insn_seen b.code _ at c.insn-item.result lt c.deref-insn-items.ensures c.insn-item.is in
     let flow : c.flow-flow.result ≡ flow_of (insn_at b.code at) = c.flow-flow.ensures ∙ ap flow_of insn in
     let lead : get_or c.deref-in-placing.result.now at None ≡ lead_probe b first at =
     ap (λ (l : List (Option ℕ)). get_or l at None) c.deref-in-placing.ensures ∙ lead_here b first c.args.plan.now plan at None lt in
