@@ -20,21 +20,12 @@ push_some form = omega arith
 
 -- an instruction takes a byte at least
 pub some_size : (at : ℕ) (wide : Bool) (insn : Insn) → 1 ≤ size_of at wide insn
-some_size at wide (insns.Simple op) = omega arith
 some_size at wide (insns.Push op value) = push_some (form_of op)
 some_size at wide (insns.Local op slot) = some_of (nat_lt slot 4) 1 _ (omega arith) (some_of (nat_lt slot 256) 2 4 (omega arith) (omega arith))
 some_size at wide (insns.Inc slot by) = some_of (is_narrow_inc slot by) 3 6 (omega arith) (omega arith)
 some_size at wide (insns.Constant place) = some_of (nat_lt place 256) 2 3 (omega arith) (omega arith)
-some_size at wide (insns.Constant2 place) = omega arith
-some_size at wide (insns.Member op place) = omega arith
-some_size at wide (insns.Interface place count) = omega arith
-some_size at wide (insns.Dynamic place) = omega arith
-some_size at wide (insns.OfClass op place) = omega arith
-some_size at wide (insns.NewArray elem) = omega arith
-some_size at wide (insns.Multi place dims) = omega arith
 some_size at wide (insns.Jump op to) = some_of wide _ 3 (some_of (nat_eq op opcode.goto) 5 8 (omega arith) (omega arith)) (omega arith)
-some_size at wide (insns.Table low default arms) = omega arith
-some_size at wide (insns.Lookup default arms) = omega arith
+some_size at wide insn = omega arith
 
 pub count_starts : (wide : Bool) (at : ℕ) (code : List Insn) (starts : List ℕ) → StartAt wide at code starts → length starts ≡ length code + 1
 count_starts wide at [] starts s = ap length s

@@ -18,6 +18,7 @@ use Rattle.jc_methods.specs.Flow.{targets_of, inverse_of, is_conditional_branch,
 use Rattle.jc_methods.specs.Starts.{insn_number}
 use Rattle.jc_methods.specs.Widened.{widths_by, wide_place, widened_by, widened_from, widened}
 use Rattle.jc_methods.proofs.WidenedLaws.{first_place}
+use Rattle.jc_methods.proofs.ByFlowLaws.{insn_by}
 use Rattle.jc_methods.proofs.PlacedInsnLaws.{flow_placed, simple_is_no_test}
 use Rattle.jc_insn.specs.declared.item.CodeItem.TheVariants as items
 use Rattle.jc_insn.specs.Items.{IsItem, target_of, operands}
@@ -38,13 +39,12 @@ use Rattle.jc_insn.proofs.LaidOutLaws.{IsLaidOut, EachFits, each_fits, small_sta
 
 -- a conditional jump takes eight bytes
 test_size : (at : ℕ) (insn : Insn) → flow_of insn ≡ flows.Branches → size_of at true insn ≡ 8
-test_size at (insns.Simple op) e = absurd (simple_is_no_test op e)
 test_size at (insns.Jump op to) e = by (nat_eq op opcode.goto) e
   where
     by : (b : Bool) → cond b flows.Jumps flows.Branches ≡ flows.Branches → ◌≡◌ {A = ℕ} (cond b 5 8) 8
     by true e = absurd cc
     by false e = refl
-test_size at insn e = absurd cc
+test_size at insn e = absurd (insn_by insn e)
 
 -- what is no conditional jump begins once, and is one instruction
 one_start : (at : ℕ) (flow : Flow) → (flow ≡ flows.Branches → ⊥) → wide_starts_by at flow ≡ at ∷ []
