@@ -21,6 +21,7 @@ use Rattle.jc_emit.proofs.StepLaws.{state, takes_only}
 use Rattle.jc_methods.specs.declared.form.Form.TheVariants as forms
 use Rattle.jc_methods.specs.declared.insn.Insn.TheVariants as insns
 use Rattle.jc_methods.specs.declared.insn.Flow.TheVariants as flows
+use Rattle.jc_methods.proofs.ByFlowLaws.{insn_by}
 use Rattle.jc_bytes.proofs.EachLaws.{AllFrom, all_from}
 use Rattle.jc_kinds_after.specs.declared.want.Want.TheVariants as wants
 
@@ -153,32 +154,8 @@ unfolding forms_at table
 left_is names g uses returns (insns.Jump op to) s t good (inl e) h =
     let k = test_takes op (test_op op to good e) in
     taken names g k.wanted (operands_by op) s t k.count (ap (λ fs. apply g (moves fs) (type_state names s)) (sym k.forms_are) ∙ h)
-left_is names g uses returns (insns.Jump op to) s t good (inr e) h = absurd (no_switch (nat_eq op 167) e)
-  where
-    no_switch : (b : Bool) → cond b flows.Jumps flows.Branches ≡ flows.Switches → ⊥
-    no_switch true e = cc
-    no_switch false e = cc
+left_is names g uses returns (insns.Jump op to) s t good (inr e) h = absurd (insn_by (insns.Jump op to) e)
 left_is names g uses returns (insns.Table low default arms) s t good e h = taken names g (wants.Int ∷ []) 1 s t refl h
 left_is names g uses returns (insns.Lookup default arms) s t good e h = taken names g (wants.Int ∷ []) 1 s t refl h
-left_is names g uses returns (insns.Simple op) s t good e h = absurd (no_simple e)
-  where
-    by : (a b : Bool)
-        → cond a flows.Returns (cond b flows.Throws flows.GoesOn) ≡ flows.Branches ⊎ cond a flows.Returns (cond b flows.Throws flows.GoesOn) ≡ flows.Switches
-        → ⊥
-    by true b e = ⊎_elim (λ x. cc) (λ x. cc) e
-    by false true e = ⊎_elim (λ x. cc) (λ x. cc) e
-    by false false e = ⊎_elim (λ x. cc) (λ x. cc) e
-
-    no_simple : flow_of (insns.Simple op) ≡ flows.Branches ⊎ flow_of (insns.Simple op) ≡ flows.Switches → ⊥
-    no_simple e = by (nat_le 172 op && nat_le op 177) (nat_eq op 191) e
-left_is names g uses returns (insns.Push op value) s t good e h = absurd (⊎_elim (λ x. cc) (λ x. cc) e)
-left_is names g uses returns (insns.Local op slot) s t good e h = absurd (⊎_elim (λ x. cc) (λ x. cc) e)
-left_is names g uses returns (insns.Inc slot by) s t good e h = absurd (⊎_elim (λ x. cc) (λ x. cc) e)
-left_is names g uses returns (insns.Constant place) s t good e h = absurd (⊎_elim (λ x. cc) (λ x. cc) e)
-left_is names g uses returns (insns.Constant2 place) s t good e h = absurd (⊎_elim (λ x. cc) (λ x. cc) e)
-left_is names g uses returns (insns.Member op place) s t good e h = absurd (⊎_elim (λ x. cc) (λ x. cc) e)
-left_is names g uses returns (insns.Interface place count) s t good e h = absurd (⊎_elim (λ x. cc) (λ x. cc) e)
-left_is names g uses returns (insns.Dynamic place) s t good e h = absurd (⊎_elim (λ x. cc) (λ x. cc) e)
-left_is names g uses returns (insns.OfClass op place) s t good e h = absurd (⊎_elim (λ x. cc) (λ x. cc) e)
-left_is names g uses returns (insns.NewArray elem) s t good e h = absurd (⊎_elim (λ x. cc) (λ x. cc) e)
-left_is names g uses returns (insns.Multi place dims) s t good e h = absurd (⊎_elim (λ x. cc) (λ x. cc) e)
+left_is names g uses returns insn s t good (inl e) h = absurd (insn_by insn e)
+left_is names g uses returns insn s t good (inr e) h = absurd (insn_by insn e)

@@ -30,51 +30,14 @@ use Rattle.jc_emit.proofs.OthersLaws.{Arms, arm_way, Agrees, agrees_here, agrees
 use Rattle.jc_emit.proofs.InverseLaws.{twice_inverse}
 use Rattle.jc_methods.specs.declared.insn.Insn.TheVariants as insns
 use Rattle.jc_methods.specs.declared.insn.Flow.TheVariants as flows
-use Rattle.jc_methods.proofs.PlacedInsnLaws.{simple_is_no_test}
+use Rattle.jc_methods.proofs.ByFlowLaws.{IsJumpOf, insn_by, jump_is, jump_placed}
 use Rattle.jc_bytes.proofs.BooleanLaws.{none_in, which_in, first_in, later_in}
 use Rattle.jc_bytes.proofs.ListLaws.{each_in}
 
 -- ---- conditional jumps
 
-pub record IsJumpOf (insn : Insn) : Type 0 where
-  pub op : ℕ
-  pub to : ℕ
-  pub is : insn ≡ insns.Jump op to
-
 pub test_is : (insn : Insn) → flow_of insn ≡ flows.Branches → IsJumpOf insn
-test_is (insns.Jump op to) e = record { op = op; to = to; is = refl }
-test_is (insns.Simple op) e = absurd (simple_is_no_test op e)
-test_is (insns.Table low default arms) e = cc
-test_is (insns.Lookup default arms) e = cc
-test_is (insns.Push op value) e = cc
-test_is (insns.Local op slot) e = cc
-test_is (insns.Inc slot by) e = cc
-test_is (insns.Constant place) e = cc
-test_is (insns.Constant2 place) e = cc
-test_is (insns.Member op place) e = cc
-test_is (insns.Interface place count) e = cc
-test_is (insns.Dynamic place) e = cc
-test_is (insns.OfClass op place) e = cc
-test_is (insns.NewArray elem) e = cc
-test_is (insns.Multi place dims) e = cc
-
-pub one_place : (insn : Insn) (f : ℕ → ℕ) → (targets_of insn ≡ jump_target insn ∷ [])
-    → flow_of insn ≡ flows.Jumps ⊎ flow_of insn ≡ flows.Branches → with_places f insn ≡ with_places (λ to. f (jump_target insn)) insn
-one_place (insns.Jump op to) f t e = refl
-one_place (insns.Table low default arms) f t e = ⊎_elim (λ h. cc) (λ h. cc) e
-one_place (insns.Lookup default arms) f t e = ⊎_elim (λ h. cc) (λ h. cc) e
-one_place (insns.Simple op) f t e = refl
-one_place (insns.Push op value) f t e = refl
-one_place (insns.Local op slot) f t e = refl
-one_place (insns.Inc slot by) f t e = refl
-one_place (insns.Constant place) f t e = refl
-one_place (insns.Constant2 place) f t e = refl
-one_place (insns.Member op place) f t e = refl
-one_place (insns.Interface place count) f t e = refl
-one_place (insns.Dynamic place) f t e = refl
-one_place (insns.OfClass op place) f t e = refl
-one_place (insns.NewArray elem) f t e = refl
-one_place (insns.Multi place dims) f t e = refl
+test_is insn e = jump_is insn (insn_by insn e)
 
 pub placed_target : (insn : Insn) (f : ℕ → ℕ) → flow_of insn ≡ flows.Branches → jump_target (with_places f insn) ≡ f (jump_target insn)
 placed_target insn f e = let j = test_is insn e in subst (λ x. jump_target (with_places f x) ≡ f (jump_target x)) (sym j.is) refl
@@ -387,7 +350,7 @@ module _ (b : Body) (first : ℕ) (wide : Bool) (is_code : IsCode b.code) where
       let alike : Alike i (with_places land (old i)) =
       record {
         target = land to;
-        same = one_place (old i) land (tests_target (old i) e) (inr e);
+        same = jump_placed land (old i) (insn_by (old i) e);
         jumped = subst (In (land to) to) (sym (late_is i None e none)) (land_lands to within);
         fell = next.stands;
       } in
@@ -450,7 +413,7 @@ module _ (b : Body) (first : ℕ) (wide : Bool) (is_code : IsCode b.code) where
       let alike : Jumps i (with_places land (old i)) =
       record {
         target = land to;
-        same = one_place (old i) land (jumps_target (old i) e) (inl e);
+        same = jump_placed land (old i) (insn_by (old i) e);
         jumped = land_lands to (target_within i lt (jumps_target (old i) e));
       } in
       (image_fine (q_of i) i _ (early_probe b first i) flows.Jumps lt e (ap (early_by (probe_of b first) i (old i)) e) alike, tt)

@@ -1,12 +1,12 @@
 -- The twin that the function gives has the probe of each probed edge, and nothing else.
-use Rattle.std.proofs.Common.{◌≡◌, ◌⊎◌, inl, inr, ⊎_elim, ℕ, zero, suc, ◌+◌, ◌<◌, Bool, true, false, cond, ◌&&◌, ◌||◌, nat_eq, List, [], ◌∷◌, ◌++◌, map, length, Option, Some, None, refl, sym, ap, ◌∙◌, subst, arith, add-one, zero-add}
+use Rattle.std.proofs.Common.{◌≡◌, ◌⊎◌, inl, inr, ⊎_elim, ℕ, zero, suc, ◌+◌, ◌<◌, Bool, true, false, ◌&&◌, ◌||◌, nat_eq, List, [], ◌∷◌, ◌++◌, map, length, Option, Some, None, refl, sym, ap, ◌∙◌, subst, arith, add-one, zero-add}
 use Rattle.std.specs.Prelude.{slice_get, Contains}
 use Rattle.std.proofs.lemmas.Bool.{cases_lt, and_parts, eq-eqb, ne_eqb, cond-true, cond-false}
 use Rattle.std.proofs.lemmas.Option.{slice_get-get_or, slice_get_within}
 use Rattle.std.proofs.lemmas.List.{length-map}
 use Rattle.jc_bytes.specs.PlainLists.{map_from}
 use Rattle.jc_bytes.specs.FirstSeen.{first_seen, IsDistinct}
-use Rattle.jc_methods.specs.Flow.{flow_of, targets_of, is_return, jump_target, falls_at, goes_on, is_fallen_into}
+use Rattle.jc_methods.specs.Flow.{flow_of, targets_of, jump_target, falls_at, goes_on, is_fallen_into}
 use Rattle.jc_methods.specs.Insn.{with_places}
 use Rattle.jc_methods.specs.WellMade.{IsCode}
 use Rattle.jc_methods.specs.declared.insn.Insn.{Insn}
@@ -32,7 +32,7 @@ use Rattle.jc_emit.proofs.EndsLaws.{lead_none}
 use Rattle.jc_emit.proofs.ToldLaws.{item_stands, main_at, places_told, jumps_told, switches_told}
 use Rattle.jc_methods.specs.declared.insn.Insn.TheVariants as insns
 use Rattle.jc_methods.specs.declared.insn.Flow.TheVariants as flows
-use Rattle.jc_methods.proofs.PlacedInsnLaws.{simple_is_no_test}
+use Rattle.jc_methods.proofs.ByFlowLaws.{insn_by, jump_targets}
 use Rattle.jc_bytes.proofs.BooleanLaws.{none_in, which_in, first_in, later_in}
 
 pub none_some : (id : ℕ) → None ≡ Some id → ⊥
@@ -44,44 +44,11 @@ if_some false a id e = absurd (none_some id e)
 
 -- ---- what jumps
 
-not_jumps_by : (t u : Bool) → cond t flows.Returns (cond u flows.Throws flows.GoesOn) ≡ flows.Jumps → ⊥
-not_jumps_by true u e = cc
-not_jumps_by false true e = cc
-not_jumps_by false false e = cc
-
 pub tests_target : (insn : Insn) → flow_of insn ≡ flows.Branches → targets_of insn ≡ jump_target insn ∷ []
-tests_target (insns.Jump op to) e = refl
-tests_target (insns.Simple op) e = absurd (simple_is_no_test op e)
-tests_target (insns.Table low default arms) e = cc
-tests_target (insns.Lookup default arms) e = cc
-tests_target (insns.Push op value) e = cc
-tests_target (insns.Local op slot) e = cc
-tests_target (insns.Inc slot by) e = cc
-tests_target (insns.Constant place) e = cc
-tests_target (insns.Constant2 place) e = cc
-tests_target (insns.Member op place) e = cc
-tests_target (insns.Interface place count) e = cc
-tests_target (insns.Dynamic place) e = cc
-tests_target (insns.OfClass op place) e = cc
-tests_target (insns.NewArray elem) e = cc
-tests_target (insns.Multi place dims) e = cc
+tests_target insn e = jump_targets insn (insn_by insn e)
 
 pub jumps_target : (insn : Insn) → flow_of insn ≡ flows.Jumps → targets_of insn ≡ jump_target insn ∷ []
-jumps_target (insns.Jump op to) e = refl
-jumps_target (insns.Simple op) e = absurd (not_jumps_by (is_return op) (nat_eq op 191) e)
-jumps_target (insns.Table low default arms) e = cc
-jumps_target (insns.Lookup default arms) e = cc
-jumps_target (insns.Push op value) e = cc
-jumps_target (insns.Local op slot) e = cc
-jumps_target (insns.Inc slot by) e = cc
-jumps_target (insns.Constant place) e = cc
-jumps_target (insns.Constant2 place) e = cc
-jumps_target (insns.Member op place) e = cc
-jumps_target (insns.Interface place count) e = cc
-jumps_target (insns.Dynamic place) e = cc
-jumps_target (insns.OfClass op place) e = cc
-jumps_target (insns.NewArray elem) e = cc
-jumps_target (insns.Multi place dims) e = cc
+jumps_target insn e = jump_targets insn (insn_by insn e)
 
 -- ---- the arms of a switch
 

@@ -1,17 +1,18 @@
 -- Instructions of which the places in the code or the local variables are replaced.
-use Rattle.std.proofs.Common.{◌≡◌, ◌⊎◌, ⊎_elim, ℕ, ◌+◌, ◌<◌, Bool, true, false, cond, if◌then◌else◌, nat_eq, nat_le, List, [], ◌∷◌, map, refl, sym, ap, ◌∙◌, subst, arith, pos}
+use Rattle.std.proofs.Common.{◌≡◌, ◌⊎◌, inl, inr, ⊎_elim, ℕ, ◌+◌, ◌<◌, cond, nat_eq, nat_le, [], ◌∷◌, map, refl, sym, ap, ◌∙◌, subst, arith, pos}
 use Rattle.std.specs.Prelude.{Contains}
 use Rattle.std.proofs.lemmas.Bool.{cond-false, cond_both, lt-leb, ne_eqb, and_left, leb-true}
 use Rattle.jc_methods.specs.Flow.{flow_of, flow_of_simple, is_return, targets_of, jump_target, FallsThrough}
-use Rattle.jc_methods.specs.Insn.{with_places, arm_with_place}
+use Rattle.jc_methods.specs.Insn.{with_places}
 use Rattle.jc_methods.specs.Widened.{goto, inverted}
 use Rattle.jc_methods.specs.declared.insn.Insn.{Insn}
 use Rattle.jc_methods.specs.declared.insn.Insn.TheVariants as insns
-use Rattle.jc_methods.specs.declared.insn.Arm.{Arm}
 use Rattle.jc_methods.specs.declared.insn.Flow.{Flow}
 use Rattle.jc_methods.specs.declared.insn.Flow.TheVariants as flows
 use Rattle.jc_bytes.proofs.BooleanLaws.{which_in, none_in}
-use Rattle.jc_methods.proofs.PlacedInsnLaws.{flow_placed}
+use Rattle.jc_methods.proofs.ByFlowLaws.{insn_by, nowhere_targets, nowhere_placed}
+use Rattle.jc_methods.proofs.PlacedInsnLaws.{flow_placed, targets_placed}
+use Rattle.jc_methods.proofs.SlotsLaws.{flow_slots}
 use Rattle.jc_kinds_after.specs.Shift.{with_slot}
 use Rattle.jc_emit.specs.Marks.{push}
 use Rattle.jc_emit.proofs.OthersLaws.{tests_target}
@@ -37,142 +38,25 @@ places_push P n =
     (λ many. cond_both (nat_le n 127) (insns.Push 16 (pos n)) (insns.Push 17 (pos n)) (λ x. with_places P x ≡ x) (λ h. refl) (λ h. refl))
 
 pub flow_shifted : (v : ℕ) (insn : Insn) → flow_of (with_slot v insn) ≡ flow_of insn
-flow_shifted v (insns.Simple op) = refl
-flow_shifted v (insns.Push op value) = refl
-flow_shifted v (insns.Local op slot) = refl
-flow_shifted v (insns.Inc slot by) = refl
-flow_shifted v (insns.Constant place) = refl
-flow_shifted v (insns.Constant2 place) = refl
-flow_shifted v (insns.Member op place) = refl
-flow_shifted v (insns.Interface place count) = refl
-flow_shifted v (insns.Dynamic place) = refl
-flow_shifted v (insns.OfClass op place) = refl
-flow_shifted v (insns.NewArray elem) = refl
-flow_shifted v (insns.Multi place dims) = refl
-flow_shifted v (insns.Jump op to) = refl
-flow_shifted v (insns.Table low default arms) = refl
-flow_shifted v (insns.Lookup default arms) = refl
-
-pub not_on_by : (t : Bool) → cond t flows.Jumps flows.Branches ≡ flows.GoesOn → ⊥
-not_on_by true e = cc
-not_on_by false e = cc
+flow_shifted v insn = flow_slots _ insn
 
 -- an instruction that goes on leads nowhere else
 pub places_on : (f : ℕ → ℕ) (insn : Insn) → flow_of insn ≡ flows.GoesOn → with_places f insn ≡ insn
-places_on f (insns.Simple op) e = refl
-places_on f (insns.Push op value) e = refl
-places_on f (insns.Local op slot) e = refl
-places_on f (insns.Inc slot by) e = refl
-places_on f (insns.Constant place) e = refl
-places_on f (insns.Constant2 place) e = refl
-places_on f (insns.Member op place) e = refl
-places_on f (insns.Interface place count) e = refl
-places_on f (insns.Dynamic place) e = refl
-places_on f (insns.OfClass op place) e = refl
-places_on f (insns.NewArray elem) e = refl
-places_on f (insns.Multi place dims) e = refl
-places_on f (insns.Jump op to) e = absurd (not_on_by (nat_eq op 167) e)
-places_on f (insns.Table low default arms) e = cc
-places_on f (insns.Lookup default arms) e = cc
+places_on f insn e = nowhere_placed f insn (insn_by insn e)
 
 -- a return or athrow too
 pub places_out : (f : ℕ → ℕ) (insn : Insn) → (flow_of insn ≡ flows.Returns) ⊎ (flow_of insn ≡ flows.Throws) → with_places f insn ≡ insn
-places_out f (insns.Simple op) e = refl
-places_out f (insns.Push op value) e = refl
-places_out f (insns.Local op slot) e = refl
-places_out f (insns.Inc slot by) e = refl
-places_out f (insns.Constant place) e = refl
-places_out f (insns.Constant2 place) e = refl
-places_out f (insns.Member op place) e = refl
-places_out f (insns.Interface place count) e = refl
-places_out f (insns.Dynamic place) e = refl
-places_out f (insns.OfClass op place) e = refl
-places_out f (insns.NewArray elem) e = refl
-places_out f (insns.Multi place dims) e = refl
-places_out f (insns.Jump op to) e = ⊎_elim (λ h. absurd (not_returns (nat_eq op 167) h)) (λ h. absurd (not_throws (nat_eq op 167) h)) e
-  where
-    not_returns : (t : Bool) → cond t flows.Jumps flows.Branches ≡ flows.Returns → ⊥
-    not_returns true e = cc
-    not_returns false e = cc
-
-    not_throws : (t : Bool) → cond t flows.Jumps flows.Branches ≡ flows.Throws → ⊥
-    not_throws true e = cc
-    not_throws false e = cc
-places_out f (insns.Table low default arms) e = ⊎_elim (λ h. cc) (λ h. cc) e
-places_out f (insns.Lookup default arms) e = ⊎_elim (λ h. cc) (λ h. cc) e
-
-pub numbers_twice : (g f : ℕ → ℕ) (xs : List ℕ) → map g (map f xs) ≡ map (λ x. g (f x)) xs
-numbers_twice g f [] = refl
-numbers_twice g f (x ∷ xs) = λ k. g (f x) ∷ numbers_twice g f xs k
-
-pub arms_twice : (g f : ℕ → ℕ) (xs : List Arm) → map (arm_with_place g) (map (arm_with_place f) xs) ≡ map (arm_with_place (λ x. g (f x))) xs
-arms_twice g f [] = refl
-arms_twice g f (a ∷ xs) = λ k. arm_with_place (λ x. g (f x)) a ∷ arms_twice g f xs k
-
-pub places_twice : (g f : ℕ → ℕ) (insn : Insn) → with_places g (with_places f insn) ≡ with_places (λ x. g (f x)) insn
-places_twice g f (insns.Simple op) = refl
-places_twice g f (insns.Push op value) = refl
-places_twice g f (insns.Local op slot) = refl
-places_twice g f (insns.Inc slot by) = refl
-places_twice g f (insns.Constant place) = refl
-places_twice g f (insns.Constant2 place) = refl
-places_twice g f (insns.Member op place) = refl
-places_twice g f (insns.Interface place count) = refl
-places_twice g f (insns.Dynamic place) = refl
-places_twice g f (insns.OfClass op place) = refl
-places_twice g f (insns.NewArray elem) = refl
-places_twice g f (insns.Multi place dims) = refl
-places_twice g f (insns.Jump op to) = refl
-places_twice g f (insns.Table low default arms) = ap (insns.Table low (g (f default))) (numbers_twice g f arms)
-places_twice g f (insns.Lookup default arms) = ap (insns.Lookup (g (f default))) (arms_twice g f arms)
+places_out f insn (inl e) = nowhere_placed f insn (insn_by insn e)
+places_out f insn (inr e) = nowhere_placed f insn (insn_by insn e)
 
 -- ---- targets
-
-pub arms_placed : (f : ℕ → ℕ) (arms : List Arm) → map (λ (a : Arm). a.to) (map (arm_with_place f) arms) ≡ map f (map (λ (a : Arm). a.to) arms)
-arms_placed f [] = refl
-arms_placed f (a ∷ arms) = ap (λ (l : List ℕ). f a.to ∷ l) (arms_placed f arms)
-
-pub targets_placed : (f : ℕ → ℕ) (insn : Insn) → targets_of (with_places f insn) ≡ map f (targets_of insn)
-targets_placed f (insns.Lookup default arms) = ap (λ (l : List ℕ). f default ∷ l) (arms_placed f arms)
-targets_placed f (insns.Table low default arms) = refl
-targets_placed f (insns.Jump op to) = refl
-targets_placed f (insns.Simple op) = refl
-targets_placed f (insns.Push op value) = refl
-targets_placed f (insns.Local op slot) = refl
-targets_placed f (insns.Inc slot by) = refl
-targets_placed f (insns.Constant place) = refl
-targets_placed f (insns.Constant2 place) = refl
-targets_placed f (insns.Member op place) = refl
-targets_placed f (insns.Interface place count) = refl
-targets_placed f (insns.Dynamic place) = refl
-targets_placed f (insns.OfClass op place) = refl
-targets_placed f (insns.NewArray elem) = refl
-targets_placed f (insns.Multi place dims) = refl
 
 -- what goes on, returns or throws has no target
 pub no_targets : (insn : Insn) → (flow_of insn ≡ flows.GoesOn) ⊎ ((flow_of insn ≡ flows.Returns) ⊎ (flow_of insn ≡ flows.Throws))
     → targets_of insn ≡ []
-no_targets (insns.Jump op to) e = absurd (by (nat_eq op 167) e)
-  where
-    by : (t : Bool)
-        → ((if t then flows.Jumps else flows.Branches) ≡ flows.GoesOn) ⊎ (((if t then flows.Jumps else flows.Branches) ≡ flows.Returns) ⊎ ((if t then flows.Jumps else flows.Branches) ≡ flows.Throws))
-        → ⊥
-    by true e = ⊎_elim (λ x. cc) (λ x. ⊎_elim (λ y. cc) (λ y. cc) x) e
-    by false e = ⊎_elim (λ x. cc) (λ x. ⊎_elim (λ y. cc) (λ y. cc) x) e
-no_targets (insns.Table low default arms) e = absurd (⊎_elim (λ x. cc) (λ x. ⊎_elim (λ y. cc) (λ y. cc) x) e)
-no_targets (insns.Lookup default arms) e = absurd (⊎_elim (λ x. cc) (λ x. ⊎_elim (λ y. cc) (λ y. cc) x) e)
-no_targets (insns.Simple op) e = refl
-no_targets (insns.Push op value) e = refl
-no_targets (insns.Local op slot) e = refl
-no_targets (insns.Inc slot by) e = refl
-no_targets (insns.Constant place) e = refl
-no_targets (insns.Constant2 place) e = refl
-no_targets (insns.Member op place) e = refl
-no_targets (insns.Interface place count) e = refl
-no_targets (insns.Dynamic place) e = refl
-no_targets (insns.OfClass op place) e = refl
-no_targets (insns.NewArray elem) e = refl
-no_targets (insns.Multi place dims) e = refl
+no_targets insn (inl e) = nowhere_targets insn (insn_by insn e)
+no_targets insn (inr (inl e)) = nowhere_targets insn (insn_by insn e)
+no_targets insn (inr (inr e)) = nowhere_targets insn (insn_by insn e)
 
 pub jump_placed : {flow : Flow} (insn : Insn) (f : ℕ → ℕ) → flow_of insn ≡ flow → flow_of (with_places f insn) ≡ flow
 jump_placed insn f e = flow_placed f insn ∙ e

@@ -11,6 +11,7 @@ use Rattle.jc_methods.specs.declared.body.Body.{Body}
 use Rattle.jc_methods.specs.declared.body.FrameAt.{FrameAt}
 use Rattle.jc_methods.specs.VerificationTypes.{Names, TypeState, type_state, slots}
 use Rattle.jc_methods.specs.EntryState.{entry_of}
+use Rattle.jc_methods.proofs.SlotsLaws.{flow_slots}
 use Rattle.jc_kinds_after.specs.After.{after_of}
 use Rattle.jc_kinds.specs.States.{frames_of, frame_at, state_of, after_at}
 use Rattle.jc_kinds.specs.Fits.{FitState}
@@ -34,28 +35,13 @@ use Rattle.jc_emit.proofs.LocalLaws.{test_is, early_image}
 use Rattle.jc_emit.proofs.TwinPremisesLaws.{Premises, stands, asked_frame, frame_asked, old_at}
 use Rattle.jc_emit.proofs.TwinPlacesLaws.{state_b, no_frame, narrow, behind, tests_size, asked_front}
 use Rattle.jc_emit.proofs.TwinStatesLaws.{first_state, with_one, fit_length, frame_state_is, next_state, there_fit, after_b, A, after_at_b, image_after, S_low, A_low, S_long, next_is, probe_runs, after_1, state_1, E_array}
-use Rattle.jc_methods.specs.declared.insn.Insn.TheVariants as insns
 use Rattle.jc_methods.specs.declared.insn.Flow.TheVariants as flows
 use Rattle.jc_emit.specs.Sizes as sizes
 
 -- ---- flows of images
 
 pub slot_flow : (v : ℕ) (insn : Insn) → flow_of insn ≡ flows.GoesOn → flow_of (with_slot v insn) ≡ flows.GoesOn
-slot_flow v (insns.Local op slot) e = refl
-slot_flow v (insns.Inc slot by) e = refl
-slot_flow v (insns.Simple op) e = e
-slot_flow v (insns.Push op value) e = refl
-slot_flow v (insns.Constant place) e = refl
-slot_flow v (insns.Constant2 place) e = refl
-slot_flow v (insns.Member op place) e = refl
-slot_flow v (insns.Interface place count) e = refl
-slot_flow v (insns.Dynamic place) e = refl
-slot_flow v (insns.OfClass op place) e = refl
-slot_flow v (insns.NewArray elem) e = refl
-slot_flow v (insns.Multi place dims) e = refl
-slot_flow v (insns.Jump op to) e = e
-slot_flow v (insns.Table low default arms) e = e
-slot_flow v (insns.Lookup default arms) e = e
+slot_flow v insn e = flow_slots _ insn ∙ e
 
 pub placed_flow : (insn : Insn) (f : ℕ → ℕ) → flow_of insn ≡ flows.Branches → flow_of (with_places f insn) ≡ flows.Branches
 placed_flow insn f e =

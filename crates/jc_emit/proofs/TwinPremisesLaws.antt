@@ -2,16 +2,15 @@
 use Rattle.std.proofs.Common.{◌≡◌, ⊎_elim, ℕ, suc, ◌+◌, ◌-◌, ◌<◌, ◌≤◌, Bool, true, false, List, [], ◌∷◌, ◌++◌, length, map, Option, Some, None, refl, sym, ap, ◌∙◌, subst, arith, nat_eq, if◌then◌else◌}
 use Rattle.std.specs.Prelude.{slice_get, option_map, Contains}
 use Rattle.std.proofs.lemmas.Bool.{cases_lt, eq-eqb, ne_eqb, eqb-true}
-use Rattle.std.proofs.lemmas.List.{map-id, length-map}
+use Rattle.std.proofs.lemmas.List.{length-map}
 use Rattle.std.proofs.lemmas.Option.{slice_get-map, slice_get-get_or, slice_get_past, slice_get_within, get_or_from_slice_get, none-some}
 use Rattle.jc_methods.specs.Flow.{flow_of, inverse_of, jump_target}
-use Rattle.jc_methods.specs.Insn.{with_places, arm_with_place, IsWellFormed}
+use Rattle.jc_methods.specs.Insn.{with_places, IsWellFormed}
 use Rattle.jc_methods.specs.InsnForm.{form_of}
 use Rattle.jc_methods.specs.InsnUse.{pool_place, Suits}
 use Rattle.jc_methods.specs.WellMade.{IsWellMadeOfAnySize, HasUse, what_used, AreFramesFrom}
 use Rattle.jc_methods.specs.Widened.{inverted as inverse_jump}
 use Rattle.jc_methods.specs.declared.insn.Insn.{Insn}
-use Rattle.jc_methods.specs.declared.insn.Arm.{Arm}
 use Rattle.jc_methods.specs.declared.insn.Flow.{Flow}
 use Rattle.jc_methods.specs.declared.kind.State.{State}
 use Rattle.jc_methods.specs.declared.body.Body.{Body}
@@ -46,6 +45,8 @@ use Rattle.jc_emit.proofs.ConditionalBranchLaws.{test_op}
 use Rattle.jc_methods.specs.declared.form.Form.TheVariants as forms
 use Rattle.jc_methods.specs.declared.insn.Insn.TheVariants as insns
 use Rattle.jc_methods.specs.declared.insn.Flow.TheVariants as flows
+use Rattle.jc_methods.proofs.PlacedInsnLaws.{places_same}
+use Rattle.jc_methods.proofs.SlotsLaws.{no_slots}
 use Rattle.jc_kinds_after.specs.After as after
 use Rattle.jc_emit.specs.Marks as marks
 
@@ -95,44 +96,9 @@ premises names new_names states first b b' well checked are free t =
 
 -- ---- instructions
 
-arm_same : (arms : List Arm) → map (arm_with_place (λ (x : ℕ). x)) arms ≡ arms
-arm_same [] = refl
-arm_same (a ∷ arms) = ap (λ l. a ∷ l) (arm_same arms)
-
-with_same : (insn : Insn) → with_places (λ (x : ℕ). x) insn ≡ insn
-with_same (insns.Jump op to) = refl
-with_same (insns.Table low default arms) = ap (insns.Table low default) (map-id arms)
-with_same (insns.Lookup default arms) = ap (insns.Lookup default) (arm_same arms)
-with_same (insns.Simple op) = refl
-with_same (insns.Push op value) = refl
-with_same (insns.Local op slot) = refl
-with_same (insns.Inc slot by) = refl
-with_same (insns.Constant place) = refl
-with_same (insns.Constant2 place) = refl
-with_same (insns.Member op place) = refl
-with_same (insns.Interface place count) = refl
-with_same (insns.Dynamic place) = refl
-with_same (insns.OfClass op place) = refl
-with_same (insns.NewArray elem) = refl
-with_same (insns.Multi place dims) = refl
-
 -- only instructions that go on have local variables
 no_locals : (v : ℕ) (insn : Insn) → (flow_of insn ≡ flows.GoesOn → ⊥) → with_slot v insn ≡ insn
-no_locals v (insns.Local op slot) h = absurd (h refl)
-no_locals v (insns.Inc slot by) h = absurd (h refl)
-no_locals v (insns.Simple op) h = refl
-no_locals v (insns.Push op value) h = refl
-no_locals v (insns.Constant place) h = refl
-no_locals v (insns.Constant2 place) h = refl
-no_locals v (insns.Member op place) h = refl
-no_locals v (insns.Interface place count) h = refl
-no_locals v (insns.Dynamic place) h = refl
-no_locals v (insns.OfClass op place) h = refl
-no_locals v (insns.NewArray elem) h = refl
-no_locals v (insns.Multi place dims) h = refl
-no_locals v (insns.Jump op to) h = refl
-no_locals v (insns.Table low default arms) h = refl
-no_locals v (insns.Lookup default arms) h = refl
+no_locals v insn h = no_slots _ insn h
 
 goes_not : (insn : Insn) (flow : Flow) → flow_of insn ≡ flow → (flow ≡ flows.GoesOn → ⊥) → flow_of insn ≡ flows.GoesOn → ⊥
 goes_not insn flow e h g = h (sym e ∙ g)
@@ -236,7 +202,7 @@ module _ (names new_names : Names) (states : List State) (first : ℕ) (wide : B
 
   same_image : (i : ℕ) (early : Option ℕ) → (flow_of (old i) ≡ flows.GoesOn → ⊥) → slice_get items (q_of i) ≡ Some (image (old i) i early)
       → Image i (old i)
-  same_image i early h at = (old i, stands (q_of i) _ at, led (λ x. x) (sym (with_same (with_slot v (old i)) ∙ no_locals v (old i) h)))
+  same_image i early h at = (old i, stands (q_of i) _ at, led (λ x. x) (sym (places_same (with_slot v (old i)) ∙ no_locals v (old i) h)))
 
   no_test : flows.Branches ≡ flows.GoesOn → ⊥
   no_test e = cc
@@ -281,7 +247,7 @@ module _ (names new_names : Names) (states : List State) (first : ℕ) (wide : B
 
   image_is : (i : ℕ) → i < length b.code → (flow : Flow) → flow_of (old i) ≡ flow
       → HasAt items (q_of i) (image_part b first wide i (old i) flow) → Image i (old i)
-  image_is i lt flows.GoesOn e h = (with_slot v (old i), stands (q_of i) _ h.0, led (λ x. x) (sym (with_same (with_slot v (old i)))))
+  image_is i lt flows.GoesOn e h = (with_slot v (old i), stands (q_of i) _ h.0, led (λ x. x) (sym (places_same (with_slot v (old i)))))
   image_is i lt flows.Branches e h = test_image i lt e (late_probe b first i) refl
   image_is i lt flows.Jumps e h = plain_image i land (early_probe b first i) (goes_not (old i) flows.Jumps e (λ x. cc)) h.0
   image_is i lt flows.Switches e h =

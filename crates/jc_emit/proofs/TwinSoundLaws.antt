@@ -27,7 +27,8 @@ use Rattle.jc_plan.specs.Probed.{probe_of}
 use Rattle.jc_plan.specs.Plan.{lead_probe}
 use Rattle.jc_bytes.proofs.FirstSeenLaws.{first_seen_listed}
 use Rattle.jc_bytes.proofs.ListLaws.{each_in}
-use Rattle.jc_emit.proofs.PlacedLaws.{no_fall_goto, never, only, inverse_targets, placed_targets, targets_placed, no_targets, goto_stops, switch_stops}
+use Rattle.jc_emit.proofs.PlacedLaws.{no_fall_goto, never, only, inverse_targets, placed_targets, no_targets, goto_stops, switch_stops}
+use Rattle.jc_methods.proofs.PlacedInsnLaws.{targets_placed}
 use Rattle.jc_emit.proofs.StateLaws.{slots-renamed}
 use Rattle.jc_emit.specs.Sizes.{early_probe, late_probe, arms_at, probe_size, hop_size, arm_sizes, wide_by}
 use Rattle.jc_emit.specs.TwinCode.{to_of, here_or, arm_place}

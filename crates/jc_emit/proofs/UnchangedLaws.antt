@@ -1,17 +1,16 @@
 -- An unchanged body goes on where it should: each instruction is its own image.
-use Rattle.std.proofs.Common.{◌≡◌, inl, inr, ⊎_elim, ℕ, zero, suc, ◌+◌, ◌<◌, true, List, [], ◌∷◌, map, length, Option, Some, None, refl, sym, ap, ◌∙◌, subst, arith, zero-add}
+use Rattle.std.proofs.Common.{◌≡◌, inl, inr, ⊎_elim, ℕ, zero, suc, ◌+◌, ◌<◌, true, List, [], ◌∷◌, length, Option, Some, None, refl, sym, ap, ◌∙◌, subst, arith, zero-add}
 use Rattle.std.specs.Prelude.{slice_get, Contains}
 use Rattle.std.specs.List.{AllByRecursion}
 use Rattle.std.proofs.lemmas.Bool.{cases_lt}
-use Rattle.std.proofs.lemmas.List.{map-id}
 use Rattle.std.proofs.lemmas.Option.{slice_get-get_or, slice_get_within}
 use Rattle.jc_bytes.specs.PlainLists.{map_from}
 use Rattle.jc_bytes.specs.FirstSeen.{first_seen}
 use Rattle.jc_methods.specs.Flow.{flow_of, targets_of, FallsThrough, jump_target}
-use Rattle.jc_methods.specs.Insn.{with_places, arm_with_place}
 use Rattle.jc_methods.specs.WellMade.{IsCode, IsHandler}
+use Rattle.jc_methods.proofs.ByFlowLaws.{insn_by, jump_placed}
+use Rattle.jc_methods.proofs.PlacedInsnLaws.{places_same}
 use Rattle.jc_methods.specs.declared.insn.Insn.{Insn}
-use Rattle.jc_methods.specs.declared.insn.Arm.{Arm}
 use Rattle.jc_methods.specs.declared.insn.Flow.{Flow}
 use Rattle.jc_methods.specs.declared.body.Handler.{Handler}
 use Rattle.jc_plan.specs.Edges.{branches_by}
@@ -23,31 +22,8 @@ use Rattle.jc_emit.specs.TwinCode.{to_of}
 use Rattle.jc_emit.specs.Items.{Item, image, at_of, own_of}
 use Rattle.jc_emit.specs.Local.{Lands, Ok, OkImage, AllOk, OkRow, Holds, TestsAlike, no_ids, unchanged_items}
 use Rattle.jc_emit.proofs.OthersLaws.{tests_target, jumps_target, arm_listed}
-use Rattle.jc_emit.proofs.LocalLaws.{one_place}
 use Rattle.jc_methods.specs.declared.insn.Insn.TheVariants as insns
 use Rattle.jc_methods.specs.declared.insn.Flow.TheVariants as flows
-
-arms_same : (arms : List Arm) → map (arm_with_place (λ to. to)) arms ≡ arms
-arms_same [] = refl
-arms_same (a ∷ arms) = λ k. a ∷ arms_same arms k
-
--- each place stays
-places_same : (insn : Insn) → with_places (λ to. to) insn ≡ insn
-places_same (insns.Jump op to) = refl
-places_same (insns.Table low default arms) = ap (insns.Table low default) (map-id arms)
-places_same (insns.Lookup default arms) = ap (insns.Lookup default) (arms_same arms)
-places_same (insns.Simple op) = refl
-places_same (insns.Push op value) = refl
-places_same (insns.Local op slot) = refl
-places_same (insns.Inc slot by) = refl
-places_same (insns.Constant place) = refl
-places_same (insns.Constant2 place) = refl
-places_same (insns.Member op place) = refl
-places_same (insns.Interface place count) = refl
-places_same (insns.Dynamic place) = refl
-places_same (insns.OfClass op place) = refl
-places_same (insns.NewArray elem) = refl
-places_same (insns.Multi place dims) = refl
 
 abbrev item : ℕ → Insn → Item
 item i insn = image insn i None
@@ -121,14 +97,14 @@ module _ (code : List Insn) (is_code : IsCode code) where
       let to = jump_target (old i) in
       let alike : TestsAlike code None no_ids items i i (old i) (old i) = record {
         target = to;
-        same = sym (places_same (old i)) ∙ one_place (old i) (λ to. to) (tests_target (old i) e) (inr e);
+        same = sym (places_same (old i)) ∙ jump_placed (λ to. to) (old i) (insn_by (old i) e);
         jumped = lands to (target_within i lt (tests_target (old i) e));
         fell = (lands (i + 1) (next_within i lt (inr e))).stands;
       } in
       inl alike
   image_by i flows.Jumps lt e =
       let to = jump_target (old i) in
-      record { target = to; same = sym (places_same (old i)) ∙ one_place (old i) (λ to. to) (jumps_target (old i) e) (inl e); jumped = lands to (target_within i lt (jumps_target (old i) e)) }
+      record { target = to; same = sym (places_same (old i)) ∙ jump_placed (λ to. to) (old i) (insn_by (old i) e); jumped = lands to (target_within i lt (jumps_target (old i) e)) }
   image_by i flows.Switches lt e = record {
     place = λ to. to;
     same = sym (places_same (old i));

@@ -13,7 +13,7 @@ use Rattle.jc_plan.specs.declared.branch.Branch.{Branch}
 use Rattle.jc_plan.specs.Probed.{probe_of}
 use Rattle.jc_plan.specs.Plan.{lead_probe}
 use Rattle.jc_kinds_after.specs.Shift.{with_slot}
-use Rattle.jc_emit.proofs.PlacedLaws.{flow_push, places_push, flow_shifted, places_on, places_out, places_twice}
+use Rattle.jc_emit.proofs.PlacedLaws.{flow_push, places_push, flow_shifted, places_on, places_out}
 use Rattle.jc_emit.specs.Sizes.{insn_at, early_probe, late_probe, arms_at, probe_size, hop_size, arm_sizes, behind_size}
 use Rattle.jc_emit.specs.Marks.{aload, iconst_1, bastore, push}
 use Rattle.jc_methods.specs.Widened.{goto, inverted, widths_by, wide_place, widened_by, widened_from, widened}
@@ -26,7 +26,7 @@ use Rattle.jc_emit.proofs.LocalLaws.{test_is}
 use Rattle.jc_emit.proofs.InverseLaws.{inverse_tests_too}
 use Rattle.jc_methods.specs.declared.insn.Insn.TheVariants as insns
 use Rattle.jc_methods.specs.declared.insn.Flow.TheVariants as flows
-use Rattle.jc_methods.proofs.PlacedInsnLaws.{flow_placed}
+use Rattle.jc_methods.proofs.PlacedInsnLaws.{flow_placed, places_twice}
 use Rattle.jc_methods.proofs.WidenedLaws.{first_place}
 
 -- ---- lists

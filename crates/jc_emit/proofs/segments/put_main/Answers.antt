@@ -32,7 +32,8 @@ put_test-requires-clause-pushed c =
     let plan = c.requires.given.planned in
     let b = c.args.body.now in
     let at = c.args.at in
-    let ids = outs_seen b plan.0 c.args.plan.now plan.1 _ at c.index-deref-at-in-Branches.result c.as_slice.result.now c.requires.at c.deref-in-Branches.ensures c.index-deref-at-in-Branches.is c.as_slice.ensures in
+    let ids = outs_seen b plan.0 c.args.plan.now plan.1 _ at c.index-deref-at-in-Branches.result c.as_slice.result.now c.requires.at
+    c.deref-in-Branches.ensures c.index-deref-at-in-Branches.is c.as_slice.ensures in
     subst IsPushed (sym (c.late_id-late.ensures ∙ ap (λ (l : List (Option ℕ)). get_or l 1 None) ids))
     (outs_pushed b plan.0 c.args.plan.now plan.1 c.requires.given.next at (insn_at b.code at) 1)
 
@@ -65,7 +66,8 @@ returns-in_ok-put_test-in-Branches-clause-code c = λ first plan.
     let insn = insn_seen b.code _ at c.index-deref-at.result c.requires.at c.deref.ensures c.index-deref-at.is in
     let flow : flow_of (insn_at b.code at) ≡ flows.Branches = ap flow_of (sym insn) ∙ sym c.flow.ensures ∙ c.in-Branches.is in
     let outs = out_probes b first at (insn_at b.code at) in
-    let ids = outs_seen b first c.args.plan.now plan _ at c.index-deref-at-in-Branches.result c.as_slice.result.now c.requires.at c.deref-in-Branches.ensures c.index-deref-at-in-Branches.is c.as_slice.ensures in
+    let ids = outs_seen b first c.args.plan.now plan _ at c.index-deref-at-in-Branches.result c.as_slice.result.now c.requires.at
+    c.deref-in-Branches.ensures c.index-deref-at-in-Branches.is c.as_slice.ensures in
     let late : c.late_id-late.result ≡ late_probe b first at =
     c.late_id-late.ensures ∙ ap (λ (l : List (Option ℕ)). get_or l 1 None) ids ∙ ap (λ f. late_in f outs) (sym flow) ∙ late_read b first at in
     main_by v b first at old new flows.Branches flow
