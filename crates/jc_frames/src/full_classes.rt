@@ -20,7 +20,7 @@ const LONGEST_TEXT: usize = 65_535;
 ///
 /// `Memory` where memory was refused, or where the name has more than 65,535 bytes, which no entry can hold.
 /// `PoolFull` as `Pool::add_class` says it. Then nothing has changed.
-pub fn place_of_class(alloc: Global, name: &[u8], pool: &mut Pool) -> Result<u16, Fail<PoolFull>>
+fn place_of_class(alloc: Global, name: &[u8], pool: &mut Pool) -> Result<u16, Fail<PoolFull>>
     ensures ok { IfOk result (HasClass pool.old name.now pool.new) }
     ensures fits { OnOk result (length pool.new ≤ 65535) }
     ensures full { RefusesFull (HasClass pool.old name.now) result }

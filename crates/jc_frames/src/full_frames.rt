@@ -9,7 +9,7 @@ ghost use Rattle.jc_frames.specs.FullFrames.{Places, full_text, full_texts, tabl
 ghost use Rattle.jc_frames.specs.FullTable.{AreFirstPlaces, ArePlacesIn, AreShort, CanBeWritten, FitsFull, HasPlace, IsPlaced};
 ghost use Rattle.jc_frames.specs.FullTable.{OffsetsRise, RefusesClasses, TakesClasses, named_by, named_by_all};
 
-use crate::full_classes::{place_of_class, take_classes};
+use crate::full_classes::take_classes;
 use crate::running::kinds_in_locals;
 use jc_bytes::{Fail, Memory, Names, put_bytes, put_short, put_u8};
 use jc_methods::{FrameAt, Kind};
@@ -23,24 +23,22 @@ const FULL_FRAME: u8 = 255;
 /// The first place of a class that the pool has, by the number of its name. Each is looked up once, since its name
 /// may be long.
 fn class_place(
-    alloc: Global,
     number: u32,
     names: &Names,
     known: &mut HashMap<u32, u16>,
-    pool: &mut Pool,
+    pool: &Pool,
 ) -> Result<u16, Memory>
     requires number { number < length names.now }
-    requires stands { HasPlace pool.old (slice_index_or names.now number []) }
-    requires known { AreFirstPlaces pool.old names.now known.old }
-    ensures place { IfOk result (IsFirst (class_name_of pool.old) (slice_index_or names.now number [])) }
-    ensures known { OnOk result (AreFirstPlaces pool.old names.now known.new) }
-    ensures kept { pool.new ≡ pool.old }
+    requires stands { HasPlace pool.now (slice_index_or names.now number []) }
+    requires known { AreFirstPlaces pool.now names.now known.old }
+    ensures place { IfOk result (IsFirst (class_name_of pool.now) (slice_index_or names.now number [])) }
+    ensures known { OnOk result (AreFirstPlaces pool.now names.now known.new) }
 {
     if let Some(place) = known.get(&number) {
         return Ok(*place);
     }
-    let Ok(place) = place_of_class(alloc, names.text(number), pool) else {
-        return Err(Memory);
+    let Some(place) = pool.find_class(names.text(number)) else {
+        unreachable!();
     };
     known.insert(number, place)?;
     Ok(place)
@@ -48,23 +46,21 @@ fn class_place(
 
 /// Puts a verification type at the end: its tag, and the place or the offset that it names.
 fn put_kind(
-    alloc: Global,
     kind: Kind,
     starts: &[u32],
     names: &Names,
     known: &mut HashMap<u32, u16>,
-    pool: &mut Pool,
+    pool: &Pool,
     into: &mut Vec<u8>,
 ) -> Result<(), Memory>
     requires number { IsNumbered (length names.now) kind }
     requires place { IsPlaced (length starts.now) kind }
     requires short { AreShort starts.now }
-    requires stands { AllByRecursion (HasPlace pool.old) (class_name (verification_type names.now kind)) }
-    requires known { AreFirstPlaces pool.old names.now known.old }
-    ensures text { (p : Places) → ArePlacesIn pool.old starts.now p
+    requires stands { AllByRecursion (HasPlace pool.now) (class_name (verification_type names.now kind)) }
+    requires known { AreFirstPlaces pool.now names.now known.old }
+    ensures text { (p : Places) → ArePlacesIn pool.now starts.now p
         → OnOk result (into.new.items ≡ into.old.items ++ type_text p (verification_type names.now kind)) }
-    ensures known { OnOk result (AreFirstPlaces pool.old names.now known.new) }
-    ensures kept { pool.new ≡ pool.old }
+    ensures known { OnOk result (AreFirstPlaces pool.now names.now known.new) }
 {
     match kind {
         Kind::Top => put_u8(into, 0),
@@ -75,7 +71,7 @@ fn put_kind(
         Kind::Null => put_u8(into, 5),
         Kind::UninitThis => put_u8(into, 6),
         Kind::Object(number) => {
-            let place = class_place(alloc, number, names, known, pool)?;
+            let place = class_place(number, names, known, pool)?;
             put_u8(into, 7)?;
             put_short(into, place)
         }
@@ -88,53 +84,49 @@ fn put_kind(
 
 /// Puts verification types at the end, one behind the other.
 fn put_listed_kinds(
-    alloc: Global,
     kinds: &[Kind],
     starts: &[u32],
     names: &Names,
     known: &mut HashMap<u32, u16>,
-    pool: &mut Pool,
+    pool: &Pool,
     into: &mut Vec<u8>,
 ) -> Result<(), Memory>
     requires numbers { All (IsNumbered (length names.now)) kinds.now }
     requires places { All (IsPlaced (length starts.now)) kinds.now }
     requires short { AreShort starts.now }
-    requires stand { AllByRecursion (HasPlace pool.old) (class_names (map (verification_type names.now) kinds.now)) }
-    requires known { AreFirstPlaces pool.old names.now known.old }
-    ensures text { (p : Places) → ArePlacesIn pool.old starts.now p
+    requires stand { AllByRecursion (HasPlace pool.now) (class_names (map (verification_type names.now) kinds.now)) }
+    requires known { AreFirstPlaces pool.now names.now known.old }
+    ensures text { (p : Places) → ArePlacesIn pool.now starts.now p
         → OnOk result (into.new.items ≡ into.old.items ++ flat_map (type_text p) (map (verification_type names.now) kinds.now)) }
-    ensures known { OnOk result (AreFirstPlaces pool.old names.now known.new) }
-    ensures kept { pool.new ≡ pool.old }
+    ensures known { OnOk result (AreFirstPlaces pool.now names.now known.new) }
 {
     'writing: for kind in kinds {
-        put_kind(alloc, *kind, starts, names, known, pool, into)?;
+        put_kind(*kind, starts, names, known, pool, into)?;
     }
     Ok(())
 }
 
 /// Puts the number of verification types at the end, and the types.
 fn put_kinds(
-    alloc: Global,
     kinds: &[Kind],
     starts: &[u32],
     names: &Names,
     known: &mut HashMap<u32, u16>,
-    pool: &mut Pool,
+    pool: &Pool,
     into: &mut Vec<u8>,
 ) -> Result<(), Memory>
     requires few { length kinds.now ≤ 65535 }
     requires numbers { All (IsNumbered (length names.now)) kinds.now }
     requires places { All (IsPlaced (length starts.now)) kinds.now }
     requires short { AreShort starts.now }
-    requires stand { AllByRecursion (HasPlace pool.old) (class_names (map (verification_type names.now) kinds.now)) }
-    requires known { AreFirstPlaces pool.old names.now known.old }
-    ensures text { (p : Places) → ArePlacesIn pool.old starts.now p
+    requires stand { AllByRecursion (HasPlace pool.now) (class_names (map (verification_type names.now) kinds.now)) }
+    requires known { AreFirstPlaces pool.now names.now known.old }
+    ensures text { (p : Places) → ArePlacesIn pool.now starts.now p
         → OnOk result (into.new.items ≡ into.old.items ++ types_text p (map (verification_type names.now) kinds.now)) }
-    ensures known { OnOk result (AreFirstPlaces pool.old names.now known.new) }
-    ensures kept { pool.new ≡ pool.old }
+    ensures known { OnOk result (AreFirstPlaces pool.now names.now known.new) }
 {
     put_short(into, kinds.len() as u16)?;
-    put_listed_kinds(alloc, kinds, starts, names, known, pool, into)
+    put_listed_kinds(kinds, starts, names, known, pool, into)
 }
 
 /// Puts a full frame at the end, whose delta counts from a base: the values in local variables without the `Top`s at
@@ -146,25 +138,24 @@ fn put_frame(
     starts: &[u32],
     names: &Names,
     known: &mut HashMap<u32, u16>,
-    pool: &mut Pool,
+    pool: &Pool,
     into: &mut Vec<u8>,
 ) -> Result<(), Memory>
     requires fits { FitsFull (length starts.now) (length names.now) frame.now }
     requires short { AreShort starts.now }
     requires base { base ≤ slice_index starts.now frame.now.at }
-    requires stand { AllByRecursion (HasPlace pool.old) (named_by (type_state_at names.now frame.now)) }
-    requires known { AreFirstPlaces pool.old names.now known.old }
-    ensures text { (p : Places) → ArePlacesIn pool.old starts.now p
+    requires stand { AllByRecursion (HasPlace pool.now) (named_by (type_state_at names.now frame.now)) }
+    requires known { AreFirstPlaces pool.now names.now known.old }
+    ensures text { (p : Places) → ArePlacesIn pool.now starts.now p
         → OnOk result (into.new.items ≡ into.old.items ++ full_text p base (type_state_at names.now frame.now)) }
-    ensures known { OnOk result (AreFirstPlaces pool.old names.now known.new) }
-    ensures kept { pool.new ≡ pool.old }
+    ensures known { OnOk result (AreFirstPlaces pool.now names.now known.new) }
 {
     let delta = starts[frame.at as usize] - base;
     put_u8(into, FULL_FRAME)?;
     put_short(into, delta as u16)?;
     let locals = kinds_in_locals(alloc, &frame.state.locals)?;
-    put_kinds(alloc, &locals, starts, names, known, pool, into)?;
-    put_kinds(alloc, &frame.state.stack, starts, names, known, pool, into)
+    put_kinds(&locals, starts, names, known, pool, into)?;
+    put_kinds(&frame.state.stack, starts, names, known, pool, into)
 }
 
 /// Puts full frames at the end, one behind the other.
@@ -173,16 +164,15 @@ fn put_frames(
     frames: &[FrameAt],
     starts: &[u32],
     names: &Names,
-    pool: &mut Pool,
+    pool: &Pool,
     into: &mut Vec<u8>,
 ) -> Result<(), Memory>
     requires each { AllByRecursion (FitsFull (length starts.now) (length names.now)) frames.now }
     requires short { AreShort starts.now }
     requires rising { OffsetsRise starts.now 0 frames.now }
-    requires stand { AllByRecursion (HasPlace pool.old) (named_by_all (map (type_state_at names.now) frames.now)) }
-    ensures text { (p : Places) → ArePlacesIn pool.old starts.now p
+    requires stand { AllByRecursion (HasPlace pool.now) (named_by_all (map (type_state_at names.now) frames.now)) }
+    ensures { (p : Places) → ArePlacesIn pool.now starts.now p
         → OnOk result (into.new.items ≡ into.old.items ++ full_texts p 0 (map (type_state_at names.now) frames.now)) }
-    ensures kept { pool.new ≡ pool.old }
 {
     let mut known = HashMap::new(alloc);
     let mut base = 0;
@@ -199,14 +189,13 @@ fn put_table(
     frames: &[FrameAt],
     starts: &[u32],
     names: &Names,
-    pool: &mut Pool,
+    pool: &Pool,
     into: &mut Vec<u8>,
 ) -> Result<(), Memory>
     requires written { CanBeWritten starts.now (length names.now) frames.now }
-    requires stand { AllByRecursion (HasPlace pool.old) (named_by_all (map (type_state_at names.now) frames.now)) }
-    ensures text { (p : Places) → ArePlacesIn pool.old starts.now p
+    requires stand { AllByRecursion (HasPlace pool.now) (named_by_all (map (type_state_at names.now) frames.now)) }
+    ensures { (p : Places) → ArePlacesIn pool.now starts.now p
         → OnOk result (into.new.items ≡ into.old.items ++ table_text p (map (type_state_at names.now) frames.now)) }
-    ensures kept { pool.new ≡ pool.old }
 {
     put_short(into, frames.len() as u16)?;
     put_frames(alloc, frames, starts, names, pool, into)
@@ -214,10 +203,36 @@ fn put_table(
 
 /// Writes a StackMapTable at the end, without the name and the length of the attribute (JVM Specification 4.7.4): the
 /// number of frames, and for each frame, in their order, a full frame, with the values in local variables up to the
-/// last one that isn't `Top`. Each class that a frame names is put into the pool where it isn't there, in the order
-/// of the values, those of the local variables first, and is written by its first place.
+/// last one that isn't `Top`. The classes that the frames name stand in the pool, and each is written by its first
+/// place.
 ///
 /// `starts` has the offset of each instruction.
+///
+/// # Errors
+///
+/// `Memory` where memory was refused. Then nothing has been written.
+pub fn write_taken(
+    alloc: Global,
+    frames: &[FrameAt],
+    starts: &[u32],
+    names: &Names,
+    pool: &Pool,
+    into: &mut Vec<u8>,
+) -> Result<(), Memory>
+    requires written { CanBeWritten starts.now (length names.now) frames.now }
+    requires stand { AllByRecursion (HasPlace pool.now) (named_by_all (map (type_state_at names.now) frames.now)) }
+    // The text of full frames, with the first place of each class.
+    ensures text { (p : Places) → ArePlacesIn pool.now starts.now p
+        → OnOk result (into.new.items ≡ into.old.items ++ table_text p (map (type_state_at names.now) frames.now)) }
+    ensures kept { OnErr result (into.new.items ≡ into.old.items) }
+{
+    let mut table = Vec::new(alloc);
+    put_table(alloc, frames, starts, names, pool, &mut table)?;
+    put_bytes(into, &table)
+}
+
+/// Puts each class that a frame names into the pool where it isn't there, in the order of the values, those of the
+/// local variables first, and then writes a StackMapTable at the end as [`write_taken`] does.
 ///
 /// # Errors
 ///
@@ -243,7 +258,5 @@ pub fn write_full(
     ensures extends { Extends pool.old pool.new }
 {
     take_classes(alloc, frames, names, pool)?;
-    let mut table = Vec::new(alloc);
-    put_table(alloc, frames, starts, names, pool, &mut table)?;
-    Ok(put_bytes(into, &table)?)
+    Ok(write_taken(alloc, frames, starts, names, pool, into)?)
 }

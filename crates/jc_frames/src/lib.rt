@@ -15,7 +15,7 @@ mod walk;
 
 pub use fault::frame_fault;
 pub use full_classes::take_classes;
-pub use full_frames::write_full;
+pub use full_frames::{write_full, write_taken};
 pub use items::{FrameForm, FrameItem, TypeForm, TypeItem};
 pub use jc_methods::entry_state;
 pub use laws::{

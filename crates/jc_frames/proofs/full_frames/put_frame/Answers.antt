@@ -4,10 +4,9 @@ use Rattle.std.specs.List.{AllByRecursion}
 use Rattle.jc_bytes.specs.BigNumbers.{short}
 use Rattle.jc_methods.specs.declared.kind.Kind.{Kind}
 use Rattle.jc_methods.specs.VerificationTypes.{VerificationType, class_names, verification_type, type_state_at, IsNumbered}
-use Rattle.jc_pool.specs.Pool.{PoolValue}
 use Rattle.jc_frames.specs.Frames.{values_in}
 use Rattle.jc_frames.specs.FullFrames.{full_text, types_text}
-use Rattle.jc_frames.specs.FullTable.{AreFirstPlaces, ArePlacesIn, HasPlace, IsPlaced}
+use Rattle.jc_frames.specs.FullTable.{HasPlace, IsPlaced}
 use Rattle.jc_frames.proofs.FullTextLaws.{both_parts, full_parts}
 use Rattle.jc_frames.proofs.ResultLaws.{ok_then}
 use Rattle.jc_frames.proofs.full_frames.put_frame.Goals as goal
@@ -62,14 +61,9 @@ pub put_kinds-requires-2-clause-stand : goal.put_kinds-requires-2-clause-stand
 put_kinds-requires-2-clause-stand c =
     let names = c.args.names.now in
     let state = c.args.frame.now.state in
-    let Stand : PoolValue → List Kind → Type 0 = λ pool l. AllByRecursion (HasPlace pool) (class_names (map (verification_type names) l)) in
-    subst (λ (l : List Kind). Stand c.put_kinds.new.pool l) (sym c.deref-3.ensures)
-    (subst (λ (pool : PoolValue). Stand pool state.stack) (sym c.in_ok-put_kinds.ensures.kept)
-    (both_parts (HasPlace c.args.pool.now) (class_names (values_in (map (verification_type names) state.locals))) (class_names (map (verification_type names) state.stack)) c.requires.stand).1)
-
-pub put_kinds-requires-2-clause-known : goal.put_kinds-requires-2-clause-known
-put_kinds-requires-2-clause-known c =
-    subst (λ (pool : PoolValue). AreFirstPlaces pool c.args.names.now c.put_kinds.new.known) (sym c.in_ok-put_kinds.ensures.kept) c.in_ok-put_kinds.ensures.known
+    subst (λ (l : List Kind). AllByRecursion (HasPlace c.args.pool.now) (class_names (map (verification_type names) l))) (sym c.deref-3.ensures)
+    (both_parts (HasPlace c.args.pool.now) (class_names (values_in (map (verification_type names) state.locals)))
+    (class_names (map (verification_type names) state.stack)) c.requires.stand).1
 
 pub returns-clause-text : goal.returns-clause-text
 returns-clause-text c p are =
@@ -89,12 +83,4 @@ returns-clause-text c p are =
     ok_then (Text c.deref-3.result.now) (new ≡ old ++ full_text p c.args.base (type_state_at names c.args.frame.now)) c.put_kinds-2.result
     (λ e. full_parts old a b m new (short (p.start c.args.frame.now.at - c.args.base)) (types_text p (values_in (map (verification_type names) state.locals)))
     (types_text p (map (verification_type names) state.stack)) c.in_ok-put_u8.ensures.ok delta locals (subst Text c.deref-3.ensures e))
-    (c.put_kinds-2.ensures.text p (subst (λ (pool : PoolValue). ArePlacesIn pool c.args.starts.now p) (sym c.in_ok-put_kinds.ensures.kept) are))
-
-pub returns-clause-known : goal.returns-clause-known
-returns-clause-known c =
-    ok_then (AreFirstPlaces c.put_kinds.new.pool c.args.names.now c.put_kinds-2.new.known) (AreFirstPlaces c.args.pool.now c.args.names.now c.put_kinds-2.new.known) c.put_kinds-2.result
-    (λ k. subst (λ (pool : PoolValue). AreFirstPlaces pool c.args.names.now c.put_kinds-2.new.known) c.in_ok-put_kinds.ensures.kept k) c.put_kinds-2.ensures.known
-
-pub returns-clause-kept : goal.returns-clause-kept
-returns-clause-kept c = c.put_kinds-2.ensures.kept ∙ c.in_ok-put_kinds.ensures.kept
+    (c.put_kinds-2.ensures.text p are)

@@ -7,9 +7,8 @@ use Rattle.jc_frames.proofs.full_frames.put_listed_kinds.Given as goal
 
 abbrev pub invariant-writing : goal.invariant-writing
 invariant-writing l = record {
-  text : (p : Places) → ArePlacesIn l.fn.pool l.starts p
+  text : (p : Places) → ArePlacesIn l.pool l.starts p
       → l.into.items ++ flat_map (type_text p) (map (verification_type l.names) (drop l.kind-index l.kinds)) ≡ l.fn.into.items ++ flat_map (type_text p) (map (verification_type l.names) l.kinds);
   stand : AllByRecursion (HasPlace l.pool) (class_names (map (verification_type l.names) (drop l.kind-index l.kinds)));
   known : AreFirstPlaces l.pool l.names l.known;
-  kept : l.pool ≡ l.fn.pool;
 }
