@@ -167,25 +167,7 @@ module _ (g : Ground) where
 
   new_is : (o : Option Insn) → is_new o ≡ true → (place : ℕ) × (o ≡ Some (insns.OfClass opcode.new place))
   new_is (Some (insns.OfClass op place)) e = (place, ap (λ (k : ℕ). Some (insns.OfClass k place)) (eqb-true op opcode.new e))
-  new_is None e = absurd (true≢false (sym e))
-  new_is (Some insn) e = by insn e
-    where
-      by : (insn : Insn) → is_new (Some insn) ≡ true → (place : ℕ) × (Some insn ≡ Some (insns.OfClass opcode.new place))
-      by (insns.OfClass op place) e = (place, ap (λ (k : ℕ). Some (insns.OfClass k place)) (eqb-true op opcode.new e))
-      by (insns.Simple op) e = absurd (true≢false (sym e))
-      by (insns.Push op value) e = absurd (true≢false (sym e))
-      by (insns.Local op slot) e = absurd (true≢false (sym e))
-      by (insns.Inc slot more) e = absurd (true≢false (sym e))
-      by (insns.Constant place) e = absurd (true≢false (sym e))
-      by (insns.Constant2 place) e = absurd (true≢false (sym e))
-      by (insns.Member op place) e = absurd (true≢false (sym e))
-      by (insns.Interface place count) e = absurd (true≢false (sym e))
-      by (insns.Dynamic place) e = absurd (true≢false (sym e))
-      by (insns.NewArray elem) e = absurd (true≢false (sym e))
-      by (insns.Multi place dims) e = absurd (true≢false (sym e))
-      by (insns.Jump op to) e = absurd (true≢false (sym e))
-      by (insns.Table low default arms) e = absurd (true≢false (sym e))
-      by (insns.Lookup default arms) e = absurd (true≢false (sym e))
+  new_is _ e = absurd (true≢false (sym e))
 
   kind_new : (names : Names) (k : Kind) → HasNew g (verification_type names k) → IsKind g.code k
   kind_new names (kinds.Uninit at) p = new_is (slice_get g.code at) p
