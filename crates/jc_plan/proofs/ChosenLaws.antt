@@ -6,14 +6,14 @@ use Rattle.std.proofs.lemmas.Bool.{eqb-true, eqb-false}
 use Rattle.std.proofs.lemmas.Option.{same_Some}
 use Rattle.jc_bytes.specs.PlainLists.{map_from}
 use Rattle.jc_bytes.specs.FirstSeen.{first_seen}
-use Rattle.jc_methods.specs.Flow.{is_return, flow_of, targets_of, jump_target}
-use Rattle.jc_methods.specs.Opcode as opcode
+use Rattle.jc_methods.specs.Flow.{flow_of, targets_of, jump_target}
 use Rattle.jc_methods.specs.declared.insn.Insn.{Insn}
 use Rattle.jc_methods.specs.declared.insn.Insn.TheVariants as insns
 use Rattle.jc_methods.specs.declared.insn.Arm.{Arm}
 use Rattle.jc_methods.specs.declared.insn.Flow.{Flow}
 use Rattle.jc_methods.specs.declared.insn.Flow.TheVariants as flows
 use Rattle.jc_methods.specs.declared.body.Body.{Body}
+use Rattle.jc_methods.proofs.ByFlowLaws.{insn_by}
 use Rattle.jc_bytes.proofs.FirstSeenLaws.{first_seen_all}
 use Rattle.jc_bytes.proofs.BooleanLaws.{none_in, first_in, later_in, which_in}
 use Rattle.jc_plan.specs.declared.branch.Branch.{Branch}
@@ -66,21 +66,7 @@ key_listed (insns.Table low default arms) flow k = by (int_lt k low)
     by true = first_in default arms
     by false = in_or_default arms (unsigned_abs (k -ℤ low)) default
 key_listed (insns.Lookup default arms) flow k = arm_listed default arms k
-key_listed (insns.Simple op) flow k = absurd (by (is_return op) (nat_eq op opcode.athrow) flow)
-  where
-    by : (a b : Bool) → cond a flows.Returns (cond b flows.Throws flows.GoesOn) ≡ flows.Switches → ⊥
-    by true b e = cc
-    by false true e = cc
-    by false false e = cc
-key_listed (insns.Jump op to) flow k = absurd (by (nat_eq op opcode.goto) flow)
-  where
-    by : (b : Bool) → cond b flows.Jumps flows.Branches ≡ flows.Switches → ⊥
-    by true e = cc
-    by false e = cc
-key_listed insn flow k = absurd (other flow)
-  where
-    other : flows.GoesOn ≡ flows.Switches → ⊥
-    other e = cc
+key_listed insn flow k = absurd (insn_by insn flow)
 
 -- the arm to a target has the target's place among the distinct ones
 arm_in : (i k : ℕ) (targets : List ℕ) (to : ℕ) → Contains targets to → Contains (map_from (arm i) k targets) (arm i (k + position_or_len (nat_eq to) targets) to)

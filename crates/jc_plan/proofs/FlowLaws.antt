@@ -8,16 +8,16 @@ use Rattle.std.proofs.lemmas.Map.Views.{Contains-from_any}
 use Rattle.std.proofs.lemmas.List.Sums.{sum_by-cons, get_or-le-sum_by}
 use Rattle.jc_bytes.specs.PlainLists.{map_from, join_from}
 use Rattle.jc_bytes.specs.FirstSeen.{first_seen, IsDistinct}
-use Rattle.jc_methods.specs.Flow.{flow_of, targets_of, is_return}
+use Rattle.jc_methods.specs.Flow.{flow_of, targets_of, jump_target}
 use Rattle.jc_methods.specs.Insn.{arm_count}
 use Rattle.jc_methods.specs.InsnUse.{LeadsWithin}
 use Rattle.jc_methods.specs.WellMade.{insns_and_arms}
-use Rattle.jc_methods.specs.Opcode as opcode
 use Rattle.jc_methods.specs.declared.insn.Arm.{Arm}
 use Rattle.jc_methods.specs.declared.insn.Insn.{Insn}
 use Rattle.jc_methods.specs.declared.insn.Insn.TheVariants as insns
 use Rattle.jc_methods.specs.declared.insn.Flow.{Flow}
 use Rattle.jc_methods.specs.declared.insn.Flow.TheVariants as flows
+use Rattle.jc_methods.proofs.ByFlowLaws.{IsBy, insn_by, jump_targets, nowhere_targets}
 use Rattle.jc_bytes.proofs.FirstSeenLaws.{first_seen_distinct, any_first_seen}
 use Rattle.jc_plan.specs.declared.branch.Branch.{Branch}
 use Rattle.jc_plan.specs.declared.branch.Way.{Way}
@@ -39,30 +39,15 @@ HasTargets flows.Returns targets = targets ≡ []
 HasTargets flows.Throws targets = targets ≡ []
 
 pub has_targets : (insn : Insn) → HasTargets (flow_of insn) (targets_of insn)
-has_targets (insns.Simple op) = by (is_return op) (nat_eq op opcode.athrow)
+has_targets insn = by (flow_of insn) (insn_by insn refl)
   where
-    by : (r t : Bool) → HasTargets (cond r flows.Returns (cond t flows.Throws flows.GoesOn)) []
-    by true t = refl
-    by false true = refl
-    by false false = refl
-has_targets (insns.Jump op to) = by (nat_eq op opcode.goto)
-  where
-    by : (g : Bool) → HasTargets (cond g flows.Jumps flows.Branches) (to ∷ [])
-    by true = (to, refl)
-    by false = (to, refl)
-has_targets (insns.Table low default arms) = tt
-has_targets (insns.Lookup default arms) = tt
-has_targets (insns.Push op value) = refl
-has_targets (insns.Local op slot) = refl
-has_targets (insns.Inc slot by) = refl
-has_targets (insns.Constant place) = refl
-has_targets (insns.Constant2 place) = refl
-has_targets (insns.Member op place) = refl
-has_targets (insns.Interface place count) = refl
-has_targets (insns.Dynamic place) = refl
-has_targets (insns.OfClass op place) = refl
-has_targets (insns.NewArray elem) = refl
-has_targets (insns.Multi place dims) = refl
+    by : (flow : Flow) → IsBy flow insn → HasTargets flow (targets_of insn)
+    by flows.Branches jump = (jump_target insn, jump_targets insn jump)
+    by flows.Jumps jump = (jump_target insn, jump_targets insn jump)
+    by flows.Switches switch = tt
+    by flows.GoesOn nowhere = nowhere_targets insn nowhere
+    by flows.Returns nowhere = nowhere_targets insn nowhere
+    by flows.Throws nowhere = nowhere_targets insn nowhere
 
 -- ---- where branches stand
 
