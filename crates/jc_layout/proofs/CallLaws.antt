@@ -48,20 +48,7 @@ call_item at place lt =
 
 call_back : (f : ℕ → ℕ) (place : ℕ) (x : Insn) → invokestatic place ≡ with_places f x → x ≡ invokestatic place
 call_back f place (insns.Member op p) e = sym e
-call_back f place (insns.Simple op) e = cc
-call_back f place (insns.Push op value) e = cc
-call_back f place (insns.Local op slot) e = cc
-call_back f place (insns.Inc slot by) e = cc
-call_back f place (insns.Constant p) e = cc
-call_back f place (insns.Constant2 p) e = cc
-call_back f place (insns.Interface p count) e = cc
-call_back f place (insns.Dynamic p) e = cc
-call_back f place (insns.OfClass op p) e = cc
-call_back f place (insns.NewArray elem) e = cc
-call_back f place (insns.Multi p dims) e = cc
-call_back f place (insns.Jump op to) e = cc
-call_back f place (insns.Table low default arms) e = cc
-call_back f place (insns.Lookup default arms) e = cc
+call_back f place x e = cc
 
 -- ---- another place in the first instruction
 

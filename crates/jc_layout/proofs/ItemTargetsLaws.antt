@@ -23,7 +23,8 @@ use Rattle.jc_emit.specs.Sizes.{insn_at}
 use Rattle.jc_emit.specs.TwinCode.{to_of}
 use Rattle.jc_emit.specs.Items.{Item, init_call, init_store, image, probe_array, probe_id, probe_one, probe_store, hop, insn_of, twin_items}
 use Rattle.jc_emit.specs.Local.{Stands, Lands, Ok, OkImage}
-use Rattle.jc_emit.proofs.PlacedLaws.{flow_push, flow_shifted, targets_placed, no_targets, inverse_targets, placed_targets}
+use Rattle.jc_emit.proofs.PlacedLaws.{flow_push, flow_shifted, no_targets, inverse_targets, placed_targets}
+use Rattle.jc_methods.proofs.PlacedInsnLaws.{targets_placed}
 use Rattle.jc_emit.proofs.OthersLaws.{jumps_target}
 
 -- ---- lists

@@ -40,37 +40,11 @@ near_from at to h = and_from (nat_lt to (at + 32768)) (nat_le at (to + 32768)) (
 
 jump_to : (at : ℕ) (insn : Insn) → is_near_jump at insn ≡ true → IsNearJump at insn
 jump_to at (insns.Jump op to) h = near_to at to h
-jump_to at (insns.Simple op) h = tt
-jump_to at (insns.Push op value) h = tt
-jump_to at (insns.Local op slot) h = tt
-jump_to at (insns.Inc slot by) h = tt
-jump_to at (insns.Constant place) h = tt
-jump_to at (insns.Constant2 place) h = tt
-jump_to at (insns.Member op place) h = tt
-jump_to at (insns.Interface place count) h = tt
-jump_to at (insns.Dynamic place) h = tt
-jump_to at (insns.OfClass op place) h = tt
-jump_to at (insns.NewArray elem) h = tt
-jump_to at (insns.Multi place dims) h = tt
-jump_to at (insns.Table low default arms) h = tt
-jump_to at (insns.Lookup default arms) h = tt
+jump_to at insn h = tt
 
 jump_from : (at : ℕ) (insn : Insn) → IsNearJump at insn → is_near_jump at insn ≡ true
 jump_from at (insns.Jump op to) h = near_from at to h
-jump_from at (insns.Simple op) h = refl
-jump_from at (insns.Push op value) h = refl
-jump_from at (insns.Local op slot) h = refl
-jump_from at (insns.Inc slot by) h = refl
-jump_from at (insns.Constant place) h = refl
-jump_from at (insns.Constant2 place) h = refl
-jump_from at (insns.Member op place) h = refl
-jump_from at (insns.Interface place count) h = refl
-jump_from at (insns.Dynamic place) h = refl
-jump_from at (insns.OfClass op place) h = refl
-jump_from at (insns.NewArray elem) h = refl
-jump_from at (insns.Multi place dims) h = refl
-jump_from at (insns.Table low default arms) h = refl
-jump_from at (insns.Lookup default arms) h = refl
+jump_from at insn h = refl
 
 all_to : (places : ℕ → ℕ) (code : List Insn) (starts : List ℕ) → all_near places code starts ≡ true → AllNear places code starts
 all_to places [] starts h = tt

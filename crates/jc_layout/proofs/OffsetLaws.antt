@@ -23,23 +23,14 @@ push_few form = omega arith
 
 -- an instruction takes 16 bytes at most, and a switch as many more for each arm
 pub size_bound : (at : ℕ) (wide : Bool) (insn : Insn) → size_of at wide insn ≤ 16 * (1 + arm_count insn)
-size_bound at wide (insns.Simple op) = omega arith
 size_bound at wide (insns.Push op value) = push_few (form_of op)
 size_bound at wide (insns.Local op slot) =
     cond_most (nat_lt slot 4) 1 _ 16 (omega arith) (cond_most (nat_lt slot 256) 2 4 16 (omega arith) (omega arith))
 size_bound at wide (insns.Inc slot by) = cond_most (is_narrow_inc slot by) 3 6 16 (omega arith) (omega arith)
 size_bound at wide (insns.Constant place) = cond_most (nat_lt place 256) 2 3 16 (omega arith) (omega arith)
-size_bound at wide (insns.Constant2 place) = omega arith
-size_bound at wide (insns.Member op place) = omega arith
-size_bound at wide (insns.Interface place count) = omega arith
-size_bound at wide (insns.Dynamic place) = omega arith
-size_bound at wide (insns.OfClass op place) = omega arith
-size_bound at wide (insns.NewArray elem) = omega arith
-size_bound at wide (insns.Multi place dims) = omega arith
 size_bound at wide (insns.Jump op to) =
     cond_most wide _ 3 16 (cond_most (nat_eq op opcode.goto) 5 8 16 (omega arith) (omega arith)) (omega arith)
-size_bound at wide (insns.Table low default arms) = omega arith
-size_bound at wide (insns.Lookup default arms) = omega arith
+size_bound at wide insn = omega arith
 
 -- ---- the offsets so far
 
