@@ -19,13 +19,6 @@ use Rattle.jc_emit.proofs.ToldLaws.{main_at}
 
 -- it goes on, and has no local variable
 pool_goes_on : (v place : ℕ) (insn : Insn) → pool_place insn ≡ Some place → (flow_of insn ≡ flows.GoesOn) × (with_slot v insn ≡ insn)
-pool_goes_on v place (insns.Constant p) e = (refl, refl)
-pool_goes_on v place (insns.Constant2 p) e = (refl, refl)
-pool_goes_on v place (insns.Member op p) e = (refl, refl)
-pool_goes_on v place (insns.Interface p count) e = (refl, refl)
-pool_goes_on v place (insns.Dynamic p) e = (refl, refl)
-pool_goes_on v place (insns.OfClass op p) e = (refl, refl)
-pool_goes_on v place (insns.Multi p dims) e = (refl, refl)
 pool_goes_on v place (insns.Local op slot) e = absurd (none-some place e)
 pool_goes_on v place (insns.Inc slot by) e = absurd (none-some place e)
 pool_goes_on v place (insns.Simple op) e = absurd (none-some place e)
@@ -34,6 +27,7 @@ pool_goes_on v place (insns.NewArray elem) e = absurd (none-some place e)
 pool_goes_on v place (insns.Jump op to) e = absurd (none-some place e)
 pool_goes_on v place (insns.Table low default arms) e = absurd (none-some place e)
 pool_goes_on v place (insns.Lookup default arms) e = absurd (none-some place e)
+pool_goes_on v place insn e = (refl, refl)
 
 module _ (b : Body) (first : ℕ) (wide : Bool) (call : ℕ) (is_code : IsCode b.code) where
   abbrev items : List Item

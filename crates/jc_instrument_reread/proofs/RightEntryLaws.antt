@@ -26,55 +26,16 @@ module _ (major : ℕ) (pool : PoolValue) where
   Right insn = HasRightEntry major pool insn
 
   slot_right : (v : ℕ) (insn : Insn) → Right insn → Right (with_slot v insn)
-  slot_right v (insns.Local op slot) h = tt
-  slot_right v (insns.Inc slot by) h = tt
-  slot_right v (insns.Simple op) h = h
-  slot_right v (insns.Push op value) h = h
-  slot_right v (insns.Constant place) h = h
-  slot_right v (insns.Constant2 place) h = h
-  slot_right v (insns.Member op place) h = h
-  slot_right v (insns.Interface place count) h = h
-  slot_right v (insns.Dynamic place) h = h
-  slot_right v (insns.OfClass op place) h = h
-  slot_right v (insns.NewArray elem) h = h
-  slot_right v (insns.Multi place dims) h = h
   slot_right v (insns.Jump op to) h = h
-  slot_right v (insns.Table low default arms) h = h
-  slot_right v (insns.Lookup default arms) h = h
+  slot_right v insn h = h
 
   placed_right : (f : ℕ → ℕ) (insn : Insn) → Right insn → Right (with_places f insn)
-  placed_right f (insns.Local op slot) h = h
-  placed_right f (insns.Inc slot by) h = h
-  placed_right f (insns.Simple op) h = h
-  placed_right f (insns.Push op value) h = h
-  placed_right f (insns.Constant place) h = h
-  placed_right f (insns.Constant2 place) h = h
-  placed_right f (insns.Member op place) h = h
-  placed_right f (insns.Interface place count) h = h
-  placed_right f (insns.Dynamic place) h = h
-  placed_right f (insns.OfClass op place) h = h
-  placed_right f (insns.NewArray elem) h = h
-  placed_right f (insns.Multi place dims) h = h
-  placed_right f (insns.Jump op to) h = tt
-  placed_right f (insns.Table low default arms) h = tt
-  placed_right f (insns.Lookup default arms) h = tt
+  placed_right f (insns.Jump op to) h = h
+  placed_right f insn h = h
 
   inverted_right : (to : ℕ) (insn : Insn) → Right insn → Right (inverted to insn)
-  inverted_right to (insns.Local op slot) h = h
-  inverted_right to (insns.Inc slot by) h = h
-  inverted_right to (insns.Simple op) h = h
-  inverted_right to (insns.Push op value) h = h
-  inverted_right to (insns.Constant place) h = h
-  inverted_right to (insns.Constant2 place) h = h
-  inverted_right to (insns.Member op place) h = h
-  inverted_right to (insns.Interface place count) h = h
-  inverted_right to (insns.Dynamic place) h = h
-  inverted_right to (insns.OfClass op place) h = h
-  inverted_right to (insns.NewArray elem) h = h
-  inverted_right to (insns.Multi place dims) h = h
-  inverted_right to (insns.Jump op other) h = tt
-  inverted_right to (insns.Table low default arms) h = h
-  inverted_right to (insns.Lookup default arms) h = h
+  inverted_right to (insns.Jump op other) h = h
+  inverted_right to insn h = h
 
   pub push_right : (n : ℕ) → Right (push n)
   push_right n =

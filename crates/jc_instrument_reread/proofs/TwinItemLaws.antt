@@ -1,5 +1,5 @@
 -- The instructions of a twin lead to instructions of it, and use its local variables.
-use Rattle.std.proofs.Common.{◌≡◌, ⊎_elim, ℕ, ◌+◌, ◌<◌, ◌≤◌, Bool, true, false, List, [], ◌∷◌, map, length, Some, None, refl, sym, subst, arith, All, nat_lt, nat_le, if◌then◌else◌, cond, pos}
+use Rattle.std.proofs.Common.{◌≡◌, ⊎_elim, ℕ, ◌+◌, ◌<◌, ◌≤◌, Bool, true, false, List, [], map, length, Some, None, refl, sym, subst, arith, All, nat_lt, nat_le, if◌then◌else◌, cond, pos}
 use Rattle.std.specs.Prelude.{slice_get}
 use Rattle.std.specs.List.{AllByRecursion}
 use Rattle.std.proofs.lemmas.Bool.{cond_both}
@@ -7,15 +7,16 @@ use Rattle.std.proofs.lemmas.Option.{slice_get_within}
 use Rattle.jc_bytes.proofs.EachLaws.{all_weaker}
 use Rattle.jc_bytes.proofs.ListLaws.{mapped_at}
 use Rattle.jc_methods.specs.Flow.{flow_of, FallsThrough}
-use Rattle.jc_methods.specs.Insn.{with_places}
-use Rattle.jc_methods.specs.InsnUse.{LeadsWithin, LocalsWithin, is_of_two_slots, locals_of}
+use Rattle.jc_methods.specs.InsnUse.{LeadsWithin, LocalsWithin, locals_of}
 use Rattle.jc_methods.specs.WellMade.{IsCode}
-use Rattle.jc_methods.specs.Widened.{inverted}
 use Rattle.jc_methods.specs.declared.insn.Insn.{Insn}
 use Rattle.jc_methods.specs.declared.insn.Insn.TheVariants as insns
 use Rattle.jc_methods.specs.declared.insn.Flow.{Flow}
 use Rattle.jc_methods.specs.declared.insn.Flow.TheVariants as flows
 use Rattle.jc_methods.specs.declared.body.Body.{Body}
+use Rattle.jc_methods.proofs.ByFlowLaws.{locals_inverted}
+use Rattle.jc_methods.proofs.PlacedInsnLaws.{locals_placed}
+use Rattle.jc_methods.proofs.SlotsLaws.{within_mapped}
 use Rattle.jc_plan.specs.Probed.{probe_of}
 use Rattle.jc_kinds_after.specs.Shift.{slot_of, with_slot}
 use Rattle.jc_emit.specs.Marks.{push}
@@ -38,60 +39,13 @@ slot_near v k = by (nat_lt k v)
     by false = omega arith
 
 slot_within : (v n : ℕ) (insn : Insn) → LocalsWithin n insn → LocalsWithin (n + 1) (with_slot v insn)
-slot_within v n (insns.Local op slot) h = by (is_of_two_slots op) h
+slot_within v n insn h = within_mapped n (n + 1) (slot_of v) insn (record { one = near; two = near_two }) h
   where
-    by : (t : Bool) → AllByRecursion (λ k. k < n) (if t then slot ∷ (slot + 1) ∷ [] else slot ∷ [])
-        → AllByRecursion (λ k. k < n + 1) (if t then slot_of v slot ∷ (slot_of v slot + 1) ∷ [] else slot_of v slot ∷ [])
-    by true h = let near = slot_near v slot in let two = h.1.0 in (omega (arith, near, two), (omega (arith, near, two), tt))
-    by false h = let near = slot_near v slot in let one = h.0 in (omega (arith, near, one), tt)
-slot_within v n (insns.Inc slot by) h = let near = slot_near v slot in let one = h.0 in (omega (arith, near, one), tt)
-slot_within v n (insns.Simple op) h = tt
-slot_within v n (insns.Push op value) h = tt
-slot_within v n (insns.Constant place) h = tt
-slot_within v n (insns.Constant2 place) h = tt
-slot_within v n (insns.Member op place) h = tt
-slot_within v n (insns.Interface place count) h = tt
-slot_within v n (insns.Dynamic place) h = tt
-slot_within v n (insns.OfClass op place) h = tt
-slot_within v n (insns.NewArray elem) h = tt
-slot_within v n (insns.Multi place dims) h = tt
-slot_within v n (insns.Jump op to) h = tt
-slot_within v n (insns.Table low default arms) h = tt
-slot_within v n (insns.Lookup default arms) h = tt
+    near : (slot : ℕ) → slot < n → slot_of v slot < n + 1
+    near slot lt = let most = slot_near v slot in omega (arith, most, lt)
 
-placed_locals : (f : ℕ → ℕ) (insn : Insn) → locals_of (with_places f insn) ≡ locals_of insn
-placed_locals f (insns.Local op slot) = refl
-placed_locals f (insns.Inc slot by) = refl
-placed_locals f (insns.Simple op) = refl
-placed_locals f (insns.Push op value) = refl
-placed_locals f (insns.Constant place) = refl
-placed_locals f (insns.Constant2 place) = refl
-placed_locals f (insns.Member op place) = refl
-placed_locals f (insns.Interface place count) = refl
-placed_locals f (insns.Dynamic place) = refl
-placed_locals f (insns.OfClass op place) = refl
-placed_locals f (insns.NewArray elem) = refl
-placed_locals f (insns.Multi place dims) = refl
-placed_locals f (insns.Jump op to) = refl
-placed_locals f (insns.Table low default arms) = refl
-placed_locals f (insns.Lookup default arms) = refl
-
-inverted_locals : (to : ℕ) (insn : Insn) → locals_of (inverted to insn) ≡ locals_of insn
-inverted_locals to (insns.Local op slot) = refl
-inverted_locals to (insns.Inc slot by) = refl
-inverted_locals to (insns.Simple op) = refl
-inverted_locals to (insns.Push op value) = refl
-inverted_locals to (insns.Constant place) = refl
-inverted_locals to (insns.Constant2 place) = refl
-inverted_locals to (insns.Member op place) = refl
-inverted_locals to (insns.Interface place count) = refl
-inverted_locals to (insns.Dynamic place) = refl
-inverted_locals to (insns.OfClass op place) = refl
-inverted_locals to (insns.NewArray elem) = refl
-inverted_locals to (insns.Multi place dims) = refl
-inverted_locals to (insns.Jump op other) = refl
-inverted_locals to (insns.Table low default arms) = refl
-inverted_locals to (insns.Lookup default arms) = refl
+    near_two : (slot : ℕ) → slot + 1 < n → slot_of v slot + 1 < n + 1
+    near_two slot lt = let most = slot_near v slot in omega (arith, most, lt)
 
 abbrev pub plain_push : ℕ → Insn
 plain_push n = cond (nat_le n 127) (insns.Push 16 (pos n)) (insns.Push 17 (pos n))
@@ -158,13 +112,13 @@ module _ (b : Body) (first : ℕ) (wide : Bool) (call : ℕ) (is_code : IsCode b
     image_locals q i insn flows.GoesOn lt h = subst (λ x. Among (locals_of x)) (sym h.0) (slot_within b.arg_slots b.max_locals (old i) (locals i (insns.Simple 0) lt))
     image_locals q i insn flows.Branches lt h =
         ⊎_elim
-        (λ alike. subst (λ x. Among (locals_of x)) (sym alike.same) (subst Among (sym (placed_locals (λ to. alike.target) (old i))) (old_locals i lt)))
-        (λ inverse. subst (λ x. Among (locals_of x)) (sym inverse.inverse) (subst Among (sym (inverted_locals inverse.target (old i))) (old_locals i lt)))
+        (λ alike. subst (λ x. Among (locals_of x)) (sym alike.same) (subst Among (sym (locals_placed (λ to. alike.target) (old i))) (old_locals i lt)))
+        (λ inverse. subst (λ x. Among (locals_of x)) (sym inverse.inverse) (subst Among (sym (locals_inverted inverse.target (old i))) (old_locals i lt)))
         h
     image_locals q i insn flows.Jumps lt h =
-        subst (λ x. Among (locals_of x)) (sym h.same) (subst Among (sym (placed_locals (λ to. h.target) (old i))) (old_locals i lt))
+        subst (λ x. Among (locals_of x)) (sym h.same) (subst Among (sym (locals_placed (λ to. h.target) (old i))) (old_locals i lt))
     image_locals q i insn flows.Switches lt h =
-        subst (λ x. Among (locals_of x)) (sym h.same) (subst Among (sym (placed_locals h.place (old i))) (old_locals i lt))
+        subst (λ x. Among (locals_of x)) (sym h.same) (subst Among (sym (locals_placed h.place (old i))) (old_locals i lt))
     image_locals q i insn flows.Returns lt h = subst (λ x. Among (locals_of x)) (sym h) (old_locals i lt)
     image_locals q i insn flows.Throws lt h = subst (λ x. Among (locals_of x)) (sym h) (old_locals i lt)
 
