@@ -61,20 +61,7 @@ least_below P decide (suc most) = by (least_below P decide most) (decide most)
 
 insn_or_not : (v : ℕ) (insn : Insn) → OrNot (Straddles v insn)
 insn_or_not v (insns.Local op slot) = both_or_not (is_of_two_slots op ≡ true) (slot + 1 ≡ v) (true_or_not (is_of_two_slots op)) (cases_eq (slot + 1) v)
-insn_or_not v (insns.Simple op) = inr (λ s. s)
-insn_or_not v (insns.Push op value) = inr (λ s. s)
-insn_or_not v (insns.Inc slot n) = inr (λ s. s)
-insn_or_not v (insns.Constant place) = inr (λ s. s)
-insn_or_not v (insns.Constant2 place) = inr (λ s. s)
-insn_or_not v (insns.Member op place) = inr (λ s. s)
-insn_or_not v (insns.Interface place count) = inr (λ s. s)
-insn_or_not v (insns.Dynamic place) = inr (λ s. s)
-insn_or_not v (insns.OfClass op place) = inr (λ s. s)
-insn_or_not v (insns.NewArray elem) = inr (λ s. s)
-insn_or_not v (insns.Multi place dims) = inr (λ s. s)
-insn_or_not v (insns.Jump op to) = inr (λ s. s)
-insn_or_not v (insns.Table low default arms) = inr (λ s. s)
-insn_or_not v (insns.Lookup default arms) = inr (λ s. s)
+insn_or_not v insn = inr (λ s. s)
 
 abbrev AtInsn : ℕ → Option Insn → Type 0
 AtInsn v o = (insn : Insn) × (o ≡ Some insn) × Straddles v insn
