@@ -182,19 +182,7 @@ insn_are at wide (insns.Lookup default arms) is small = (
 places_byte : (f : ℕ → ℕ) (insn : Insn) → HasByte insn → HasByte (with_places f insn)
 places_byte f (insns.Interface place count) small = small
 places_byte f (insns.Multi place dims) small = small
-places_byte f (insns.Jump op to) small = tt
-places_byte f (insns.Table low default arms) small = tt
-places_byte f (insns.Lookup default arms) small = tt
-places_byte f (insns.Simple op) small = tt
-places_byte f (insns.Push op value) small = tt
-places_byte f (insns.Local op slot) small = tt
-places_byte f (insns.Inc slot n) small = tt
-places_byte f (insns.Constant place) small = tt
-places_byte f (insns.Constant2 place) small = tt
-places_byte f (insns.Member op place) small = tt
-places_byte f (insns.Dynamic place) small = tt
-places_byte f (insns.OfClass op place) small = tt
-places_byte f (insns.NewArray elem) small = tt
+places_byte f insn small = tt
 
 code_are : (places : ℕ → ℕ) (wide : Bool) (code : List Insn) (starts : List ℕ) → AllByRecursion IsWellFormed code → AllByRecursion HasByte code
     → AreBytes (code_text places wide code starts)

@@ -210,21 +210,7 @@ module _ (names : Names) (b : Body) (made : IsWellMadeOfAnySize b) (texts : HasT
 
   new_text : (o : Option Insn) → IsText (new_class b.uses o)
   new_text (Some (insns.OfClass op place)) = class_text (what_used b.uses place) (texts.uses place)
-  new_text (Some (insns.Simple op)) = no_text
-  new_text (Some (insns.Push op value)) = no_text
-  new_text (Some (insns.Local op slot)) = no_text
-  new_text (Some (insns.Inc slot n)) = no_text
-  new_text (Some (insns.Constant place)) = no_text
-  new_text (Some (insns.Constant2 place)) = no_text
-  new_text (Some (insns.Member op place)) = no_text
-  new_text (Some (insns.Interface place count)) = no_text
-  new_text (Some (insns.Dynamic place)) = no_text
-  new_text (Some (insns.NewArray elem)) = no_text
-  new_text (Some (insns.Multi place dims)) = no_text
-  new_text (Some (insns.Jump op to)) = no_text
-  new_text (Some (insns.Table low default arms)) = no_text
-  new_text (Some (insns.Lookup default arms)) = no_text
-  new_text None = no_text
+  new_text _ = no_text
 
   ground_named : (i : ℕ) → GroundNamed (ground_of b i)
   ground_named i = record { owner = texts.owner; class_at = λ at. new_text (insn_at b at) }

@@ -27,7 +27,7 @@ use Rattle.jc_kinds_after.specs.Wants.{is_int, accepts, accepts_all}
 use Rattle.jc_kinds_after.specs.declared.want.Want.TheVariants as wants
 use Rattle.jc_kinds_after.proofs.KeepLaws.{then_some, else_some}
 use Rattle.jc_kinds_after.proofs.AfterLaws.{all_of}
-use Rattle.jc_kinds_after.proofs.DispatchLaws.{described_constant, described_wide}
+use Rattle.jc_kinds_after.proofs.DispatchLaws.{two_slots_described}
 use Rattle.jc_instrument_laws.proofs.ClassSpellingLaws.{bytes_both}
 use Rattle.jc_instrument_laws.proofs.PoolSpellingLaws.{IsText}
 
@@ -433,6 +433,14 @@ constant_named (whats.Field class name desc) t is = tt
 constant_named (whats.Method class name desc) t is = tt
 constant_named (whats.Call name desc) t is = tt
 
+one_slot_described : (what : What) → IsOneSlotConstant what → IsDescribed what
+one_slot_described (whats.Computed desc) is = is.0
+one_slot_described what is = tt
+
+wide_described : (what : What) → IsTwoSlotConstant what → IsDescribed what
+wide_described (whats.Computed desc) is = two_slots_described desc is
+wide_described what is = tt
+
 array_bytes : (name : List ℕ) → AreBytes name → AreBytes (array_of name)
 array_bytes name are = by (is_array_class name)
   where
@@ -508,9 +516,9 @@ module _ (uses : List Use) (returns : Option FieldType) (named : (place : ℕ) (
   insn_named (insns.Local op slot) used = if_named (nat_lt op opcode.istore) _ _ tt tt
   insn_named (insns.Inc slot n) used = tt
   insn_named (insns.Constant place) used =
-      by_use place IsOneSlotConstant constant_step (used place refl) (λ what t is. constant_named what t (described_constant what is))
+      by_use place IsOneSlotConstant constant_step (used place refl) (λ what t is. constant_named what t (one_slot_described what is))
   insn_named (insns.Constant2 place) used =
-      by_use place IsTwoSlotConstant constant_step (used place refl) (λ what t is. constant_named what t (described_wide what is))
+      by_use place IsTwoSlotConstant constant_step (used place refl) (λ what t is. constant_named what t (wide_described what is))
   insn_named (insns.Member op place) used = by_use place (IsMemberFor op) (member_step op) (used place refl) (member_named op)
   insn_named (insns.Interface place count) used = by_use place IsMethod interface_step (used place refl) interface_named
   insn_named (insns.Dynamic place) used = by_use place IsCall dynamic_step (used place refl) dynamic_named
