@@ -113,18 +113,5 @@ module _ (p : Program) (at : Location) where
 
   pub same_operation : (i : Insn) → operation_of (frameless p) (frameless_at at) i ≡ operation_of p at i
   unfolding operation_of
-  same_operation (insns.Simple op) = refl
-  same_operation (insns.Push op n) = refl
-  same_operation (insns.Local op slot) = refl
-  same_operation (insns.Inc slot by) = refl
-  same_operation (insns.Constant place) = refl
-  same_operation (insns.Constant2 place) = refl
   same_operation (insns.Member op place) = same_member op (what_at at place)
-  same_operation (insns.Interface place count) = refl
-  same_operation (insns.Dynamic place) = refl
-  same_operation (insns.OfClass op place) = refl
-  same_operation (insns.NewArray elem) = refl
-  same_operation (insns.Multi place dims) = refl
-  same_operation (insns.Jump op to) = refl
-  same_operation (insns.Table low default arms) = refl
-  same_operation (insns.Lookup default arms) = refl
+  same_operation i = refl
