@@ -226,20 +226,7 @@ module _ (p p' : Program) (sides : Entry → Side) (marks : Entry → Marks) (ar
   -- what stands at a call
   member_called : (r : Program) (at : Location) (insn : Insn) (e : Entry) → called_by r at insn ≡ Some e → (op : ℕ) × (place : ℕ) × (insn ≡ insns.Member op place)
   member_called r at (insns.Member op place) e h = (op, place, refl)
-  member_called r at (insns.Simple op) e h = absurd (none-some e h)
-  member_called r at (insns.Push op value) e h = absurd (none-some e h)
-  member_called r at (insns.Local op slot) e h = absurd (none-some e h)
-  member_called r at (insns.Inc slot by) e h = absurd (none-some e h)
-  member_called r at (insns.Constant place) e h = absurd (none-some e h)
-  member_called r at (insns.Constant2 place) e h = absurd (none-some e h)
-  member_called r at (insns.Interface place count) e h = absurd (none-some e h)
-  member_called r at (insns.Dynamic place) e h = absurd (none-some e h)
-  member_called r at (insns.OfClass op place) e h = absurd (none-some e h)
-  member_called r at (insns.NewArray elem) e h = absurd (none-some e h)
-  member_called r at (insns.Multi place dims) e h = absurd (none-some e h)
-  member_called r at (insns.Jump op to) e h = absurd (none-some e h)
-  member_called r at (insns.Table low default arms) e h = absurd (none-some e h)
-  member_called r at (insns.Lookup default arms) e h = absurd (none-some e h)
+  member_called r at insn e h = absurd (none-some e h)
 
   -- an item whose instruction names a member is an image or the call of the prelude
   data IsCalling (x : Item) : Type 0 where

@@ -12,6 +12,7 @@ use Rattle.jc_methods.specs.Flow.{flow_of, is_return, inverse_of}
 use Rattle.jc_methods.specs.Insn.{IsWellFormed}
 use Rattle.jc_methods.specs.InsnUse.{pool_place, is_of_two_slots}
 use Rattle.jc_methods.specs.Slots.{with_slots}
+use Rattle.jc_methods.proofs.SlotsLaws.{slots_same}
 use Rattle.jc_methods.specs.DescriptorTypes.{method_type_in}
 use Rattle.jc_methods.specs.ProbeMembers.{init_type}
 use Rattle.jc_methods.specs.declared.insn.Insn.{Insn}
@@ -41,21 +42,7 @@ use Rattle.jc_twin_simulation.proofs.BranchLaws.{target_branch}
 
 -- the image of an instruction that goes on
 moved_is : (slot : Option ℕ) (insn : Insn) → moved_insn slot insn ≡ with_slots (twin_slot slot) insn
-moved_is None (insns.Simple op) = refl
-moved_is None (insns.Push op value) = refl
-moved_is None (insns.Local op slot) = refl
-moved_is None (insns.Inc slot by) = refl
-moved_is None (insns.Constant place) = refl
-moved_is None (insns.Constant2 place) = refl
-moved_is None (insns.Member op place) = refl
-moved_is None (insns.Interface place count) = refl
-moved_is None (insns.Dynamic place) = refl
-moved_is None (insns.OfClass op place) = refl
-moved_is None (insns.NewArray elem) = refl
-moved_is None (insns.Multi place dims) = refl
-moved_is None (insns.Jump op to) = refl
-moved_is None (insns.Table low default arms) = refl
-moved_is None (insns.Lookup default arms) = refl
+moved_is None insn = sym (slots_same insn)
 moved_is (Some v) insn = refl
 
 if_same : {X : Type 0} (b : Bool) (x y x' y' : X) → x' ≡ x → y' ≡ y → (if b then x' else y') ≡ (if b then x else y)
