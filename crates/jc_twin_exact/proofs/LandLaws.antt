@@ -3,9 +3,10 @@ use Rattle.std.proofs.Common.{◌≡◌, ◌⊎◌, inl, inr, ℕ, ◌+◌, Bool
 use Rattle.std.specs.Prelude.{slice_get, Contains}
 use Rattle.std.proofs.lemmas.Option.{none-some, same_Some}
 use Rattle.jc_methods.specs.Opcode as opcode
-use Rattle.jc_methods.specs.Flow.{flow_of, is_return, jump_target, inverse_of}
+use Rattle.jc_methods.specs.Flow.{flow_of, jump_target, inverse_of}
 use Rattle.jc_methods.specs.Insn.{IsWellFormed, with_places}
-use Rattle.jc_methods.specs.Slots.{with_slots}
+use Rattle.jc_methods.proofs.ByFlowLaws.{insn_by}
+use Rattle.jc_methods.proofs.SlotsLaws.{flow_slots}
 use Rattle.jc_methods.specs.declared.insn.Insn.{Insn}
 use Rattle.jc_methods.specs.declared.insn.Insn.TheVariants as insns
 use Rattle.jc_methods.specs.declared.insn.Flow.{Flow}
@@ -30,31 +31,9 @@ use Rattle.jc_twin_exact.proofs.TurnedLaws.{next_onward, test_onward, goto_onwar
 
 -- ---- the image of an instruction that goes on
 
-slots_flow : (g : ℕ → ℕ) (insn : Insn) → flow_of (with_slots g insn) ≡ flow_of insn
-slots_flow g (insns.Simple op) = refl
-slots_flow g (insns.Push op value) = refl
-slots_flow g (insns.Local op slot) = refl
-slots_flow g (insns.Inc slot by) = refl
-slots_flow g (insns.Constant place) = refl
-slots_flow g (insns.Constant2 place) = refl
-slots_flow g (insns.Member op place) = refl
-slots_flow g (insns.Interface place count) = refl
-slots_flow g (insns.Dynamic place) = refl
-slots_flow g (insns.OfClass op place) = refl
-slots_flow g (insns.NewArray elem) = refl
-slots_flow g (insns.Multi place dims) = refl
-slots_flow g (insns.Jump op to) = refl
-slots_flow g (insns.Table low default arms) = refl
-slots_flow g (insns.Lookup default arms) = refl
-
 moved_flow : (slot : Option ℕ) (insn : Insn) → flow_of (moved_insn slot insn) ≡ flow_of insn
 moved_flow None insn = refl
-moved_flow (Some v) insn = slots_flow _ insn
-
-simple_no_jump : (a b : Bool) → (if a then flows.Returns else if b then flows.Throws else flows.GoesOn) ≡ flows.Jumps → ⊥
-simple_no_jump true b e = cc
-simple_no_jump false true e = cc
-simple_no_jump false false e = cc
+moved_flow (Some v) insn = flow_slots _ insn
 
 -- ---- branches by flow
 
@@ -135,16 +114,7 @@ module _ (t : Side) (q i : ℕ) where
       by (condition b) on c = absurd (none-some x c)
       by (key k) on c =
           ap (λ y. place (to_of y)) (sym (same_Some _ x c)) ∙ sym (match_arm d arms k place (λ to to'. to' ≡ place to) (λ to h. refl)) ∙ same_Some _ q3 on
-  key_place (insns.Simple op) place e st q3 on x c = absurd (none-some q3 (sym (none (flow_of (insns.Simple op)) e) ∙ on))
-    where
-      none : (flow : Flow) → flow ≡ flows.Switches → onward_by flow q (insns.Simple op) one_way ≡ None
-      none flow e = ap (λ w. onward_by w q (insns.Simple op) one_way) e
-  key_place (insns.Jump op to) place e st q3 on x c = absurd (apart (nat_eq op opcode.goto) e)
-    where
-      apart : (b : Bool) → (if b then flows.Jumps else flows.Branches) ≡ flows.Switches → ⊥
-      apart true e = cc
-      apart false e = cc
-  key_place insn place e st q3 on x c = cc
+  key_place insn place e st q3 on x c = absurd (insn_by insn e)
 
   -- ---- all images
 
@@ -162,8 +132,7 @@ module _ (t : Side) (q i : ℕ) where
             → Onto x None q3
         by true g e c = cc
         by false g e c = tests_onto op to new well g st x c q3 on ok
-    branches_onto (insns.Simple op) well e c ok = absurd (none-some x (sym (ap (λ w. chosen_by w i (insns.Simple op) one_way) e) ∙ c))
-    branches_onto insn well e c ok = cc
+    branches_onto insn well e c ok = absurd (insn_by insn e)
 
     jumps_onto : (insn : Insn) → flow_of insn ≡ flows.Jumps → chosen i insn (outcome_of insn st) ≡ Some x → (early : Option ℕ)
         → early ≡ t.ids (jump i (jump_target insn)) → JumpsAlike t.body.code t.slot t.ids t.items insn new → Onto x early q3
@@ -182,8 +151,7 @@ module _ (t : Side) (q i : ℕ) where
               no_early = s.no_early;
               due = inr (s.due_is, is ∙ ap t.ids (same_Some (jump i to) x c));
             }
-    jumps_onto (insns.Simple op) e c early is ok = absurd (simple_no_jump (is_return op) (nat_eq op opcode.athrow) e)
-    jumps_onto insn e c early is ok = cc
+    jumps_onto insn e c early is ok = absurd (insn_by insn e)
 
     plain_onto : flow_of insn ≡ flows.GoesOn → IsOk flows.GoesOn → Onto x None q3
     plain_onto e ok =

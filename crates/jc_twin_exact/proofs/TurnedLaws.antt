@@ -1,5 +1,5 @@
 -- One turn at an instruction: which branch it takes, and where that leads.
-use Rattle.std.proofs.Common.{◌≡◌, ◌⊎◌, inl, inr, ℕ, ℤ, ◌+◌, Bool, true, false, List, Option, Some, None, nat_eq, refl, sym, ap, ◌∙◌, subst, if◌then◌else◌}
+use Rattle.std.proofs.Common.{◌≡◌, ◌⊎◌, inl, inr, ℕ, ℤ, ◌+◌, true, false, List, Option, Some, None, nat_eq, refl, sym, ap, ◌∙◌, subst, if◌then◌else◌}
 use Rattle.std.specs.Prelude.{⊤, slice_get, option_and_then, Contains}
 use Rattle.std.proofs.lemmas.Option.{none-some, same_Some}
 use Rattle.jc_methods.specs.Opcode as opcode
@@ -10,6 +10,7 @@ use Rattle.jc_methods.specs.declared.insn.Flow.{Flow}
 use Rattle.jc_methods.specs.declared.insn.Flow.TheVariants as flows
 use Rattle.jc_methods.specs.declared.insn.Arm.{Arm}
 use Rattle.jc_methods.specs.declared.body.Body.{Body}
+use Rattle.jc_methods.proofs.ByFlowLaws.{insn_by}
 use Rattle.jc_programs.specs.declared.program.Program.{Program}
 use Rattle.jc_programs.specs.declared.program.Linked.{Linked}
 use Rattle.jc_programs.specs.declared.program.ProbeInit.{ProbeInit}
@@ -67,24 +68,10 @@ sequence_listed b i insn here e = chosen_listed b i insn one_way (sequence i) he
 
 pub next_onward : (insn : Insn) (i : ℕ) (st : List Value) → flow_of insn ≡ flows.GoesOn → onward i insn (outcome_of insn st) ≡ Some (i + 1)
 next_onward (insns.Simple op) i st e = ap (λ w. onward_by w i (insns.Simple op) one_way) e
-next_onward (insns.Push op value) i st e = refl
-next_onward (insns.Local op slot) i st e = refl
-next_onward (insns.Inc slot by) i st e = refl
-next_onward (insns.Constant place) i st e = refl
-next_onward (insns.Constant2 place) i st e = refl
-next_onward (insns.Member op place) i st e = refl
-next_onward (insns.Interface place count) i st e = refl
-next_onward (insns.Dynamic place) i st e = refl
-next_onward (insns.OfClass op place) i st e = refl
-next_onward (insns.NewArray elem) i st e = refl
-next_onward (insns.Multi place dims) i st e = refl
-next_onward (insns.Jump op to) i st e = absurd (by (nat_eq op opcode.goto) e)
-  where
-    by : (b : Bool) → (if b then flows.Jumps else flows.Branches) ≡ flows.GoesOn → ⊥
-    by true e = cc
-    by false e = cc
+next_onward (insns.Jump op to) i st e = absurd (insn_by (insns.Jump op to) e)
 next_onward (insns.Table low default arms) i st e = cc
 next_onward (insns.Lookup default arms) i st e = cc
+next_onward insn i st e = refl
 
 pub test_onward : (op to i : ℕ) (st : List Value) (t : Tested) → nat_eq op opcode.goto ≡ false → test_of op st ≡ Some t
     → onward i (insns.Jump op to) (outcome_of (insns.Jump op to) st) ≡ Some (if t.jumps then to else i + 1)
