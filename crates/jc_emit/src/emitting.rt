@@ -83,7 +83,7 @@ fn instrumented(
         extra,
     } = write_code(alloc, body, plan, &places)?;
     let framing = Framing::of(alloc, body, plan, &places, states, array)?;
-    let frames = framing.frames(alloc)?;
+    let frames = framing.layout_frames(alloc, false)?;
     let wide_frames = framing.wide_frames(alloc)?;
     let MovedTables {
         handlers,

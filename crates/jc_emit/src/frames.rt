@@ -369,19 +369,6 @@ impl<'a> Framing<'a> {
         Ok(frames)
     }
 
-    /// The frames of the narrow layout, in rising order.
-    pub(crate) fn frames(&self, alloc: Global) -> Result<Vec<FrameAt>, Memory>
-        requires { (first : ℕ) × IsFraming first self.now }
-        ensures { (first : ℕ) → IsFraming first self.now → IfOk result (λ frames. frames.items
-            ≡ pieces (frames_at self.now.body.now first self.now.states.now self.now.array) (length self.now.body.now.code)) }
-    {
-        let mut frames = Vec::new(alloc);
-        'framing: for at in 0..self.body.code.len() {
-            self.put_at(alloc, at, &mut frames)?;
-        }
-        Ok(frames)
-    }
-
     /// The further frames that the wide layout needs, in rising order.
     pub(crate) fn wide_frames(&self, alloc: Global) -> Result<Vec<FrameAt>, Memory>
         requires { (first : ℕ) × IsFraming first self.now }

@@ -11,8 +11,8 @@ of-requires-2 c =
     let b = c.args.body.now in
     frames_within 0 b.code b.max_locals b.max_stack b.frames c.requires.body.of_any_size.frames
 
-pub frames-requires : goal.frames-requires
-frames-requires c =
+pub layout_frames-requires : goal.layout_frames-requires
+layout_frames-requires c =
     let plan = c.requires.plan in
     let framing = c.in_ok-framing.ensures in (
       plan.0,
