@@ -1,5 +1,5 @@
 //! The instrumented code of a body as text, while the pool takes the classes that its frames name.
-ghost use Rattle.std.specs.Prelude.{◌≡◌, ◌≤◌, ℕ, length, map, IfOk, IfErr, OnOk};
+ghost use Rattle.std.specs.Prelude.{◌≡◌, ◌≤◌, ℕ, length, map, IfOk, IfErr};
 ghost use Rattle.std.specs.List.{AllByRecursion};
 ghost use Rattle.jc_methods.specs.VerificationTypes.{Grows, Names as ClassNames, type_state_at};
 ghost use Rattle.jc_frames.specs.FullTable.{CanBeWritten, HasPlace, RefusesClasses, named_by_all};
@@ -32,15 +32,13 @@ fn code_text(
     frames: &[FrameAt],
     names: &Names,
     places: &CodePlaces,
-    pool: &mut Pool,
+    pool: &Pool,
 ) -> Result<Bytes, Memory>
     requires rows { length tables.now.handlers ≤ 65535 }
     requires few { length laid.now.code ≤ 65535 }
     requires frames { CanBeWritten laid.now.starts (length names.now) frames.now }
-    requires classes { AllByRecursion (HasPlace pool.old) (named_by_all (map (type_state_at names.now) frames.now)) }
-    ensures text { IfOk result (λ text. text ≡ laid_text pool.old places.now names.now tables.now laid.now frames.now) }
-    ensures kept { OnOk result (pool.new ≡ pool.old) }
-    ensures extends { Extends pool.old pool.new }
+    requires classes { AllByRecursion (HasPlace pool.now) (named_by_all (map (type_state_at names.now) frames.now)) }
+    ensures { IfOk result (λ text. text ≡ laid_text pool.now places.now names.now tables.now laid.now frames.now) }
 {
     let tables = CodeTables {
         max_stack: tables.max_stack,

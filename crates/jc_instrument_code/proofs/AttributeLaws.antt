@@ -1,7 +1,7 @@
--- The attributes of a Code attribute, and what their writing does to the constant pool.
-use Rattle.std.proofs.Common.{◌≡◌, ℕ, zero, suc, Bool, true, false, true≢false, ◌+◌, ◌*◌, ◌<◌, ◌≤◌, List, [], ◌∷◌, ◌++◌, length, map, refl, sym, ◌∙◌, ap, ap₂, subst, arith, length-append}
+-- The attributes of a Code attribute.
+use Rattle.std.proofs.Common.{◌≡◌, ℕ, zero, suc, Bool, true, false, true≢false, ◌+◌, ◌*◌, ◌<◌, ◌≤◌, List, [], ◌∷◌, ◌++◌, length, map, refl, sym, ◌∙◌, ap, ap₂, arith, length-append}
 use Rattle.std.specs.Prelude.{◌==◌, slice_index}
-use Rattle.std.specs.List.{AllByRecursion, flat_map}
+use Rattle.std.specs.List.{flat_map}
 use Rattle.std.proofs.lemmas.Bool.{eqb-true}
 use Rattle.std.proofs.lemmas.Grind.{flat_map-append}
 use Rattle.std.proofs.lemmas.List.{append-nil, length-map}
@@ -12,22 +12,14 @@ use Rattle.jc_methods.specs.declared.body.FrameAt.{FrameAt}
 use Rattle.jc_class.specs.declared.class_file.Attribute.{Attribute}
 use Rattle.jc_emit.specs.declared.tables.MovedTables.{MovedTables}
 use Rattle.jc_frames.specs.FullFrames.{Places, table_text}
-use Rattle.jc_frames.specs.FullTable.{ArePlacesIn, HasPlace, TakesClasses}
-use Rattle.jc_frames.proofs.TakenLaws.{stands_first}
+use Rattle.jc_frames.specs.FullTable.{ArePlacesIn}
 use Rattle.jc_pool.specs.Pool.{PoolValue}
 use Rattle.jc_instrument_code.specs.CodeText.{all_parts, attribute, attribute_text, counted_text, line_text, var_text, table_attributes, frame_attributes}
 use Rattle.jc_instrument_code.specs.TwinCode.{attributes_by, places_by}
 use Rattle.jc_instrument_code.proofs.FirstPlaceLaws.{class_found}
 use Rattle.jc_instrument_code.proofs.PartLaws.{parts_count, text_of_attribute}
 
--- ---- classes that stand in the pool
-
--- a pool that has all of the classes stays as it is where it takes them
-pub same_taken : (pool new : PoolValue) (names : Names) → AllByRecursion (HasPlace pool) names → TakesClasses pool names new → new ≡ pool
-same_taken pool new [] all takes = takes
-same_taken pool new (name ∷ names) all (mid, takes, more) =
-    let same = (stands_first pool mid name takes.place all.0 takes.class).1 in
-    same_taken pool new names all.1 (subst (λ (l : PoolValue). TakesClasses l names new) same more)
+-- ---- places
 
 -- classes at their first places, and instructions at their offsets
 pub are_places : (pool : PoolValue) (starts : List ℕ) → ArePlacesIn pool starts (places_by pool (slice_index starts))

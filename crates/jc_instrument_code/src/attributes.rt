@@ -2,7 +2,6 @@
 ghost use Rattle.std.specs.Prelude.{◌≡◌, ◌++◌, ℕ, List, OnOk, length, map, slice_index};
 ghost use Rattle.std.specs.List.{AllByRecursion, flat_map};
 ghost use Rattle.jc_methods.specs.VerificationTypes.{Names as ClassNames, type_state_at};
-ghost use Rattle.jc_pool.specs.Adding.{Extends};
 ghost use Rattle.jc_pool.specs.Pool.{PoolValue};
 ghost use Rattle.jc_frames.specs.FullTable.{CanBeWritten, HasPlace, named_by_all};
 ghost use Rattle.jc_instrument_code.specs.CodeText.{attribute_text, counted_text, frame_attributes};
@@ -14,7 +13,7 @@ use crate::code::{CodePlaces, CodeTables};
 use crate::numbers::put_header;
 use crate::parts::{part_count, put_line_tables, put_var_tables};
 use jc_bytes::{Memory, Names, put_bytes, put_short};
-use jc_frames::write_full;
+use jc_frames::write_taken;
 use jc_methods::FrameAt;
 use jc_pool::Pool;
 use std::alloc::Global;
@@ -30,22 +29,18 @@ fn put_frames(
     frames: &[FrameAt],
     starts: &[u32],
     names: &Names,
-    pool: &mut Pool,
+    pool: &Pool,
 ) -> Result<(), Memory>
     requires written { CanBeWritten starts.now (length names.now) frames.now }
-    requires stand { AllByRecursion (HasPlace pool.old) (named_by_all (map (type_state_at names.now) frames.now)) }
-    ensures text { OnOk result (into.new.items ≡ into.old.items ++ flat_map attribute_text
-        (frame_attributes name (places_by pool.old (slice_index starts.now)) (map (type_state_at names.now) frames.now))) }
-    ensures kept { OnOk result (pool.new ≡ pool.old) }
-    ensures extends { Extends pool.old pool.new }
+    requires stand { AllByRecursion (HasPlace pool.now) (named_by_all (map (type_state_at names.now) frames.now)) }
+    ensures { OnOk result (into.new.items ≡ into.old.items ++ flat_map attribute_text
+        (frame_attributes name (places_by pool.now (slice_index starts.now)) (map (type_state_at names.now) frames.now))) }
 {
     if frames.is_empty() {
         return Ok(());
     }
     let mut table = Vec::new(alloc);
-    let Ok(()) = write_full(alloc, frames, starts, names, pool, &mut table) else {
-        return Err(Memory);
-    };
+    write_taken(alloc, frames, starts, names, pool, &mut table)?;
     let Ok(size) = u32::try_from(table.len()) else {
         return Err(Memory);
     };
@@ -82,14 +77,12 @@ pub fn put_attributes(
     starts: &[u32],
     names: &Names,
     places: &CodePlaces,
-    pool: &mut Pool,
+    pool: &Pool,
 ) -> Result<(), Memory>
     requires written { CanBeWritten starts.now (length names.now) frames.now }
-    requires stand { AllByRecursion (HasPlace pool.old) (named_by_all (map (type_state_at names.now) frames.now)) }
-    ensures text { OnOk result (into.new.items ≡ into.old.items ++ counted_text attribute_text
-        (laid_attributes pool.old places.now names.now (tables_seen tables.now) starts.now frames.now)) }
-    ensures kept { OnOk result (pool.new ≡ pool.old) }
-    ensures extends { Extends pool.old pool.new }
+    requires stand { AllByRecursion (HasPlace pool.now) (named_by_all (map (type_state_at names.now) frames.now)) }
+    ensures { OnOk result (into.new.items ≡ into.old.items ++ counted_text attribute_text
+        (laid_attributes pool.now places.now names.now (tables_seen tables.now) starts.now frames.now)) }
 {
     let Ok(count) = u16::try_from(attribute_count(tables, frames)) else {
         return Err(Memory);

@@ -87,18 +87,15 @@ pub fn write_laid(
     frames: &[FrameAt],
     names: &Names,
     places: &CodePlaces,
-    pool: &mut Pool,
+    pool: &Pool,
 ) -> Result<Bytes, Memory>
     requires rows { length tables.now.handlers.now ≤ 65535 }
     requires size { length laid.now.code ≤ 65535 }
     requires frames { CanBeWritten laid.now.starts (length names.now) frames.now }
-    requires classes { AllByRecursion (HasPlace pool.old) (named_by_all (map (type_state_at names.now) frames.now)) }
+    requires classes { AllByRecursion (HasPlace pool.now) (named_by_all (map (type_state_at names.now) frames.now)) }
     ensures text { IfOk result (λ text. text
-        ≡ laid_text pool.old places.now names.now (tables_seen tables.now) laid.now frames.now) }
+        ≡ laid_text pool.now places.now names.now (tables_seen tables.now) laid.now frames.now) }
     ensures size { IfOk result (λ text. length text ≤ 4294967295) }
-    // The pool has all that is named, and stays as it is.
-    ensures kept { OnOk result (pool.new ≡ pool.old) }
-    ensures extends { Extends pool.old pool.new }
 {
     let starts = laid.starts.as_slice();
     let mut text = Vec::new(alloc);

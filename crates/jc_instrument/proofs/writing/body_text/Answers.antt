@@ -3,14 +3,10 @@ use Rattle.std.specs.List.{AllByRecursion}
 use Rattle.std.proofs.lemmas.Result.{err_from_is_err_and}
 use Rattle.jc_methods.specs.VerificationTypes.{AreNumberedFrames, type_state_at}
 use Rattle.jc_methods.specs.declared.body.FrameAt.{FrameAt}
-use Rattle.jc_pool.specs.Pool.{PoolValue}
-use Rattle.jc_pool.proofs.AddingLaws.{extends_more}
 use Rattle.jc_frames.specs.FullTable.{CanBeWritten, HasPlace, RefusesClasses, TakesClasses, named_by_all}
 use Rattle.jc_frames.proofs.TakenLaws.{all_stand}
 use Rattle.jc_kinds.specs.Answers.{AreStates}
 use Rattle.jc_instrument_code.specs.LaidText.{laid_text}
-use Rattle.jc_instrument.specs.BodiesWithStates.{emitted_of}
-use Rattle.jc_instrument.specs.Writing.{IsWrittenBody}
 use Rattle.jc_instrument.proofs.WritingLaws.{body_written, can_be_written, few_bytes, few_rows, frames_of, meant_refused, numbered_of, ready_grown}
 use Rattle.jc_instrument.proofs.writing.body_text.Goals as goal
 
@@ -86,10 +82,6 @@ returns-in_err-code_text-clause-refused c = λ others array w of.
     let p = err_from_is_err_and r.result r.ensures.1 in
     rw (p.1, p.2) tt
 
-pub returns-in_err-code_text-clause-extends : goal.returns-in_err-code_text-clause-extends
-returns-in_err-code_text-clause-extends c =
-    extends_more c.args.pool.now c.take_classes.new.pool c.code_text.new.pool c.in_ok-take_classes.ensures.extends c.code_text.ensures.extends
-
 pub returns-clause-text : goal.returns-clause-text
 returns-clause-text c = λ others array w of.
     let now = c.emit_frames.new.names in
@@ -99,14 +91,8 @@ returns-clause-text c = λ others array w of.
     let takes = subst (λ (fs : List FrameAt). TakesClasses c.args.pool.now (named_by_all (map (type_state_at now) fs)) taken) same
     c.in_ok-take_classes.ensures.classes in
     let is = subst (λ (fs : List FrameAt). c.in_ok-code_text.field-0 ≡ laid_text taken c.args.places.now now c.in_ok-tables.tables c.args.ready.laid fs) there
-    c.in_ok-code_text.ensures.text in
-    subst (λ (pool : PoolValue). IsWrittenBody c.args.pool.now c.args.places.now others (emitted_of array w) pool c.in_ok-code_text.field-0)
-    (sym c.in_ok-code_text.ensures.kept)
-    (body_written c.args.names.now now others array c.args.ready w c.in_ok-frames.ensures.names c.requires of c.in_ok-frames.frames
+    c.in_ok-code_text.ensures in
+    body_written c.args.names.now now others array c.args.ready w c.in_ok-frames.ensures.names c.requires of c.in_ok-frames.frames
     (frames_of c.args.names.now now c.args.ready w.first c.in_ok-frames.frames c.deref.result.now c.in_ok-frames.ensures.names c.requires
     c.deref.ensures (c.in_ok-frames.ensures.frames w.first of.plan)) c.args.pool.now taken c.args.places.now c.in_ok-tables.tables c.in_ok-code_text.field-0 takes
-    (c.in_ok-tables.ensures w.first of.plan) is)
-
-pub returns-clause-extends : goal.returns-clause-extends
-returns-clause-extends c =
-    extends_more c.args.pool.now c.take_classes.new.pool c.code_text.new.pool c.in_ok-take_classes.ensures.extends c.in_ok-code_text.ensures.extends
+    (c.in_ok-tables.ensures w.first of.plan) is

@@ -7,8 +7,8 @@ use Rattle.jc_instrument_code.specs.TwinCode.{places_by}
 use Rattle.jc_instrument_code.proofs.AttributeLaws.{all_text}
 use Rattle.jc_instrument_code.proofs.attributes.put_attributes.Goals as goal
 
-pub returns-clause-text : goal.returns-clause-text
-returns-clause-text c =
+pub returns : goal.returns
+returns c =
     let places = c.args.places.now in
     let t = tables_seen c.args.tables.now in
     let seen = map (type_state_at c.args.names.now) c.args.frames.now in
@@ -20,4 +20,4 @@ returns-clause-text c =
     c.put_frames.new.into.items
     (c.in-Ok.ensures.1 ∙ c.attribute_count.ensures c.args.pool.now places c.args.names.now c.args.starts.now)
     c.in_ok-put_short.ensures c.in_ok-put_line_tables.ensures c.in_ok-put_var_tables.ensures c.in_ok-put_var_tables-2.ensures
-    c.in_ok-put_frames.ensures.text
+    c.in_ok-put_frames.ensures

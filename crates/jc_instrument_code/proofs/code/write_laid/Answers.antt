@@ -20,4 +20,4 @@ returns-clause-text c =
     c.as_slice-starts.result.now c.deref.result.now c.len.result c.as_slice-starts.ensures
     c.deref.ensures c.len.ensures c.new-text.result.items c.put_sizes.new.into.items c.put_code.new.into.items
     c.put_rows.new.into.items c.put_attributes.new.into.items c.new-text.ensures.items c.in_ok-put_sizes.ensures c.in_ok-put_code.ensures
-    c.in_ok-put_rows.ensures c.in_ok-put_attributes.ensures.text
+    c.in_ok-put_rows.ensures c.in_ok-put_attributes.ensures
