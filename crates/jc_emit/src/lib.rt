@@ -24,6 +24,6 @@ pub use laws::{
     each_unchanged_body_goes_on, each_wide_frame_is_told, each_wide_twin_is_wide,
 };
 pub use programs::{each_body_is_owned, each_body_is_seen, each_class_has_its_pair};
-pub use stages::{emit_code, emit_frames, emit_tables};
+pub use stages::{EmittedParts, emit_code, emit_parts};
 pub use straddling::straddles;
 pub use tables::MovedTables;

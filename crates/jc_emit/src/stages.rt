@@ -1,4 +1,4 @@
-//! The instrumented code of a method in stages: its code, its tables, and then the frames of the layout that is chosen.
+//! The instrumented code of a method in stages: its code, and then its tables and the frames of the layout that is chosen.
 ghost use Rattle.std.specs.Prelude.{◌≡◌, ℕ, ◌≤◌, length, IfOk, IfErr};
 ghost use Rattle.jc_methods.specs.VerificationTypes.{Grows, AreNumberedFrames};
 ghost use Rattle.jc_methods.specs.WellMade.{IsWellMade};
@@ -40,48 +40,51 @@ pub fn emit_code(alloc: Global, body: &Body, plan: &Plan) -> Result<List<Insn>, 
     Ok(List::from_vec(code))
 }
 
-/// The tables of the emission of a method that has room for it, with its sizes.
-///
-/// # Errors
-///
-/// `Memory` where memory was refused.
-pub fn emit_tables(alloc: Global, body: &Body, plan: &Plan) -> Result<MovedTables, Memory>
-    requires body { IsWellMade body.now }
-    requires plan { HasPlan body.now plan.now }
-    requires next { plan.now.next ≤ 32767 }
-    requires room { HasRoom body.now }
-    ensures { (first : ℕ) → plan.now ≡ plan_of body.now first → IfOk result (λ tables. tables ≡ moved_tables body.now first) }
-{
-    let places = Places::of(alloc, body, plan)?;
-    moved_tables(alloc, body, &places)
+/// What the Code attribute of a method's emission holds besides its code, in one layout.
+#[derive(Debug, Drop)]
+pub struct EmittedParts {
+    /// The frames of the layout, in rising order.
+    pub frames: List<FrameAt>,
+    /// The tables, and the sizes.
+    pub tables: MovedTables,
 }
 
-/// The frames of the emission of a method in one layout, in rising order: those of the narrow layout, and the further
-/// ones where it is wide. The places are those of the narrow code. The class `[Z` gets a number in `names`.
+/// The frames of the emission of a method in one layout, in rising order, and its tables with its sizes: the frames of
+/// the narrow layout, and the further ones where it is wide. The places are those of the narrow code. The class `[Z`
+/// gets a number in `names`.
+///
+/// The places of the code are found once for the frames and the tables. They aren't kept since `emit_code`: the other
+/// bodies of a class come in between.
 ///
 /// # Errors
 ///
 /// `Memory` where memory was refused, or where `[Z` is new and the list has 4,294,967,295 names.
-pub fn emit_frames(
+pub fn emit_parts(
     alloc: Global,
     body: &Body,
     plan: &Plan,
     states: &[State],
     wide: bool,
     names: &mut Names,
-) -> Result<List<FrameAt>, Memory>
+) -> Result<EmittedParts, Memory>
     requires body { IsWellMade body.now }
     requires plan { HasPlan body.now plan.now }
     requires next { plan.now.next ≤ 32767 }
+    requires room { HasRoom body.now }
     requires states { AreStates names.old body.now states.now }
     requires frames { AreNumberedFrames (length names.old) body.now.frames }
     ensures frames { (first : ℕ) → plan.now ≡ plan_of body.now first
-        → IfOk result (AreLayoutFrames names.new body.now first states.now wide) }
+        → IfOk result (λ parts. AreLayoutFrames names.new body.now first states.now wide parts.frames) }
+    ensures tables { (first : ℕ) → plan.now ≡ plan_of body.now first → IfOk result (λ parts. parts.tables ≡ moved_tables body.now first) }
     ensures names { Grows names.old names.new }
 {
     let array = names.number(alloc, PROBE_ARRAY)?;
     let places = Places::of(alloc, body, plan)?;
     let framing = Framing::of(alloc, body, plan, &places, states, array)?;
     let frames = framing.layout_frames(alloc, wide)?;
-    Ok(List::from_vec(frames))
+    let tables = moved_tables(alloc, body, &places)?;
+    Ok(EmittedParts {
+        frames: List::from_vec(frames),
+        tables,
+    })
 }

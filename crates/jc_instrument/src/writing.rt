@@ -12,11 +12,10 @@ ghost use Rattle.jc_instrument.specs.Writing.{IsWorkOf, IsWrittenBody};
 
 use crate::ready::ReadyBody;
 use jc_bytes::{Bytes, Fail, List, Memory, Names};
-use jc_emit::{MovedTables, emit_frames, emit_tables};
+use jc_emit::{EmittedParts, emit_parts};
 use jc_frames::take_classes;
 use jc_instrument_code::{CodePlaces, CodeTables, write_laid};
 use jc_layout::Laid;
-use jc_methods::FrameAt;
 use jc_pool::{Pool, PoolFull};
 use std::alloc::Global;
 
@@ -27,28 +26,28 @@ use std::alloc::Global;
 /// `Memory` where memory was refused, and where there are more bytes than an attribute holds.
 fn code_text(
     alloc: Global,
-    tables: &MovedTables,
+    parts: &EmittedParts,
     laid: &Laid,
-    frames: &[FrameAt],
     names: &Names,
     places: &CodePlaces,
     pool: &Pool,
 ) -> Result<Bytes, Memory>
-    requires rows { length tables.now.handlers ≤ 65535 }
+    requires rows { length parts.now.tables.handlers ≤ 65535 }
     requires few { length laid.now.code ≤ 65535 }
-    requires frames { CanBeWritten laid.now.starts (length names.now) frames.now }
-    requires classes { AllByRecursion (HasPlace pool.now) (named_by_all (map (type_state_at names.now) frames.now)) }
-    ensures { IfOk result (λ text. text ≡ laid_text pool.now places.now names.now tables.now laid.now frames.now) }
+    requires frames { CanBeWritten laid.now.starts (length names.now) parts.now.frames }
+    requires classes { AllByRecursion (HasPlace pool.now) (named_by_all (map (type_state_at names.now) parts.now.frames)) }
+    ensures { IfOk result (λ text. text ≡ laid_text pool.now places.now names.now parts.now.tables laid.now parts.now.frames) }
 {
+    let moved = &parts.tables;
     let tables = CodeTables {
-        max_stack: tables.max_stack,
-        max_locals: tables.max_locals,
-        handlers: &tables.handlers,
-        lines: &tables.lines,
-        vars: &tables.vars,
-        kind_vars: &tables.kind_vars,
+        max_stack: moved.max_stack,
+        max_locals: moved.max_locals,
+        handlers: &moved.handlers,
+        lines: &moved.lines,
+        vars: &moved.vars,
+        kind_vars: &moved.kind_vars,
     };
-    write_laid(alloc, &tables, laid, frames, names, places, pool)
+    write_laid(alloc, &tables, laid, &parts.frames, names, places, pool)
 }
 
 /// What the Code attribute of the method of this body holds, instrumented. Before it is written the pool takes the
@@ -79,8 +78,7 @@ pub fn body_text(
         laid,
         states,
     } = ready;
-    let frames = emit_frames(alloc, &body, &plan, &states, laid.wide, names)?;
-    take_classes(alloc, &frames, names, pool)?;
-    let tables = emit_tables(alloc, &body, &plan)?;
-    Ok(code_text(alloc, &tables, &laid, &frames, names, places, pool)?)
+    let parts = emit_parts(alloc, &body, &plan, &states, laid.wide, names)?;
+    take_classes(alloc, &parts.frames, names, pool)?;
+    Ok(code_text(alloc, &parts, &laid, names, places, pool)?)
 }

@@ -1,59 +1,57 @@
-use Rattle.std.proofs.Common.{◌≡◌, List, length, map, sym, ◌∙◌, subst}
+use Rattle.std.proofs.Common.{List, length, map, sym, subst}
 use Rattle.std.specs.List.{AllByRecursion}
 use Rattle.std.proofs.lemmas.Result.{err_from_is_err_and}
 use Rattle.jc_methods.specs.VerificationTypes.{AreNumberedFrames, type_state_at}
 use Rattle.jc_methods.specs.declared.body.FrameAt.{FrameAt}
-use Rattle.jc_frames.specs.FullTable.{CanBeWritten, HasPlace, RefusesClasses, TakesClasses, named_by_all}
+use Rattle.jc_frames.specs.FullTable.{HasPlace, RefusesClasses, TakesClasses, named_by_all}
 use Rattle.jc_frames.proofs.TakenLaws.{all_stand}
 use Rattle.jc_kinds.specs.Answers.{AreStates}
-use Rattle.jc_instrument_code.specs.LaidText.{laid_text}
 use Rattle.jc_instrument.proofs.WritingLaws.{body_written, can_be_written, few_bytes, few_rows, frames_of, meant_refused, numbered_of, ready_grown}
 use Rattle.jc_instrument.proofs.writing.body_text.Goals as goal
 
-pub emit_frames-requires-clause-states : goal.emit_frames-requires-clause-states
-emit_frames-requires-clause-states c =
+pub emit_parts-requires-clause-states : goal.emit_parts-requires-clause-states
+emit_parts-requires-clause-states c =
     subst (AreStates c.args.names.now c.args.ready.body) (sym c.deref.ensures) c.requires.states
 
 pub take_classes-requires : goal.take_classes-requires
 take_classes-requires c =
-    let now = c.emit_frames.new.names in
+    let now = c.emit_parts.new.names in
     let r = c.args.ready in
     let plan = c.requires.plan in
-    let ready = ready_grown c.args.names.now now r c.in_ok-frames.ensures.names c.requires in
+    let ready = ready_grown c.args.names.now now r c.in_ok-parts.ensures.names c.requires in
     subst (AreNumberedFrames (length now)) (sym c.deref-2.ensures)
-    (numbered_of r.laid.starts (length now) c.in_ok-frames.frames
-    (can_be_written now r ready c.in_ok-frames.frames plan.0 plan.1
-    (frames_of c.args.names.now now r plan.0 c.in_ok-frames.frames c.deref.result.now c.in_ok-frames.ensures.names c.requires c.deref.ensures
-    (c.in_ok-frames.ensures.frames plan.0 plan.1))))
+    (numbered_of r.laid.starts (length now) c.in_ok-parts.parts.frames
+    (can_be_written now r ready c.in_ok-parts.parts.frames plan.0 plan.1
+    (frames_of c.args.names.now now r plan.0 c.in_ok-parts.parts.frames c.deref.result.now c.in_ok-parts.ensures.names c.requires c.deref.ensures
+    (c.in_ok-parts.ensures.frames plan.0 plan.1))))
 
 pub code_text-requires-clause-rows : goal.code_text-requires-clause-rows
 code_text-requires-clause-rows c =
     let plan = c.requires.plan in
-    few_rows c.args.ready plan.0 c.in_ok-tables.tables c.requires.rows (c.in_ok-tables.ensures plan.0 plan.1)
+    few_rows c.args.ready plan.0 c.in_ok-parts.parts.tables c.requires.rows (c.in_ok-parts.ensures.tables plan.0 plan.1)
 
 pub code_text-requires-clause-few : goal.code_text-requires-clause-few
 code_text-requires-clause-few c = few_bytes c.args.names.now c.args.ready c.requires
 
 pub code_text-requires-clause-frames : goal.code_text-requires-clause-frames
 code_text-requires-clause-frames c =
-    let now = c.emit_frames.new.names in
+    let now = c.emit_parts.new.names in
     let r = c.args.ready in
     let plan = c.requires.plan in
-    let ready = ready_grown c.args.names.now now r c.in_ok-frames.ensures.names c.requires in
-    subst (CanBeWritten r.laid.starts (length now)) (sym c.deref-3.ensures)
-    (can_be_written now r ready c.in_ok-frames.frames plan.0 plan.1
-    (frames_of c.args.names.now now r plan.0 c.in_ok-frames.frames c.deref.result.now c.in_ok-frames.ensures.names c.requires c.deref.ensures
-    (c.in_ok-frames.ensures.frames plan.0 plan.1)))
+    let ready = ready_grown c.args.names.now now r c.in_ok-parts.ensures.names c.requires in
+    can_be_written now r ready c.in_ok-parts.parts.frames plan.0 plan.1
+    (frames_of c.args.names.now now r plan.0 c.in_ok-parts.parts.frames c.deref.result.now c.in_ok-parts.ensures.names c.requires c.deref.ensures
+    (c.in_ok-parts.ensures.frames plan.0 plan.1))
 
 pub code_text-requires-clause-classes : goal.code_text-requires-clause-classes
 code_text-requires-clause-classes c =
-    let now = c.emit_frames.new.names in
+    let now = c.emit_parts.new.names in
     subst (λ (fs : List FrameAt). AllByRecursion (HasPlace c.take_classes.new.pool) (named_by_all (map (type_state_at now) fs)))
-    (c.deref-2.ensures ∙ sym c.deref-3.ensures)
+    c.deref-2.ensures
     (all_stand c.args.pool.now c.take_classes.new.pool _ c.in_ok-take_classes.ensures.classes)
 
-pub returns-in_err-frames-clause-refused : goal.returns-in_err-frames-clause-refused
-returns-in_err-frames-clause-refused c = λ others array w of.
+pub returns-in_err-parts-clause-refused : goal.returns-in_err-parts-clause-refused
+returns-in_err-parts-clause-refused c = λ others array w of.
     let p = err_from_is_err_and c.from_residual.result c.from_residual.ensures.1 in
     rw (p.1, p.2) tt
 
@@ -61,20 +59,14 @@ pub returns-in_err-take_classes-clause-refused : goal.returns-in_err-take_classe
 returns-in_err-take_classes-clause-refused c = λ others array w of.
     let r = c.from_residual-in_err-take_classes in
     let p = err_from_is_err_and r.result r.ensures.1 in
-    let now = c.emit_frames.new.names in
+    let now = c.emit_parts.new.names in
     let e = c.in_err-take_classes.field-0.0 in
     let refused = subst (λ (fs : List FrameAt). RefusesClasses c.args.pool.now (named_by_all (map (type_state_at now) fs)) c.take_classes.new.pool e)
     c.deref-2.ensures c.in_err-take_classes.ensures.refused in
     rw (p.1, p.2)
-    (meant_refused c.args.names.now now others array c.args.ready w c.in_ok-frames.ensures.names c.requires of c.in_ok-frames.frames
-    (frames_of c.args.names.now now c.args.ready w.first c.in_ok-frames.frames c.deref.result.now c.in_ok-frames.ensures.names c.requires
-    c.deref.ensures (c.in_ok-frames.ensures.frames w.first of.plan)) c.args.pool.now c.take_classes.new.pool e refused)
-
-pub returns-in_err-tables-clause-refused : goal.returns-in_err-tables-clause-refused
-returns-in_err-tables-clause-refused c = λ others array w of.
-    let r = c.from_residual-in_err-tables in
-    let p = err_from_is_err_and r.result r.ensures.1 in
-    rw (p.1, p.2) tt
+    (meant_refused c.args.names.now now others array c.args.ready w c.in_ok-parts.ensures.names c.requires of c.in_ok-parts.parts.frames
+    (frames_of c.args.names.now now c.args.ready w.first c.in_ok-parts.parts.frames c.deref.result.now c.in_ok-parts.ensures.names c.requires
+    c.deref.ensures (c.in_ok-parts.ensures.frames w.first of.plan)) c.args.pool.now c.take_classes.new.pool e refused)
 
 pub returns-in_err-code_text-clause-refused : goal.returns-in_err-code_text-clause-refused
 returns-in_err-code_text-clause-refused c = λ others array w of.
@@ -84,15 +76,11 @@ returns-in_err-code_text-clause-refused c = λ others array w of.
 
 pub returns-clause-text : goal.returns-clause-text
 returns-clause-text c = λ others array w of.
-    let now = c.emit_frames.new.names in
+    let now = c.emit_parts.new.names in
     let taken = c.take_classes.new.pool in
-    let same = c.deref-2.ensures in
-    let there = c.deref-3.ensures in
-    let takes = subst (λ (fs : List FrameAt). TakesClasses c.args.pool.now (named_by_all (map (type_state_at now) fs)) taken) same
+    let takes = subst (λ (fs : List FrameAt). TakesClasses c.args.pool.now (named_by_all (map (type_state_at now) fs)) taken) c.deref-2.ensures
     c.in_ok-take_classes.ensures.classes in
-    let is = subst (λ (fs : List FrameAt). c.in_ok-code_text.field-0 ≡ laid_text taken c.args.places.now now c.in_ok-tables.tables c.args.ready.laid fs) there
-    c.in_ok-code_text.ensures in
-    body_written c.args.names.now now others array c.args.ready w c.in_ok-frames.ensures.names c.requires of c.in_ok-frames.frames
-    (frames_of c.args.names.now now c.args.ready w.first c.in_ok-frames.frames c.deref.result.now c.in_ok-frames.ensures.names c.requires
-    c.deref.ensures (c.in_ok-frames.ensures.frames w.first of.plan)) c.args.pool.now taken c.args.places.now c.in_ok-tables.tables c.in_ok-code_text.field-0 takes
-    (c.in_ok-tables.ensures w.first of.plan) is
+    body_written c.args.names.now now others array c.args.ready w c.in_ok-parts.ensures.names c.requires of c.in_ok-parts.parts.frames
+    (frames_of c.args.names.now now c.args.ready w.first c.in_ok-parts.parts.frames c.deref.result.now c.in_ok-parts.ensures.names c.requires
+    c.deref.ensures (c.in_ok-parts.ensures.frames w.first of.plan)) c.args.pool.now taken c.args.places.now c.in_ok-parts.parts.tables c.in_ok-code_text.field-0 takes
+    (c.in_ok-parts.ensures.tables w.first of.plan) c.in_ok-code_text.ensures

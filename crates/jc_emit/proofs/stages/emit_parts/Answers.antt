@@ -5,7 +5,7 @@ use Rattle.jc_emit.specs.Shift.{probe_array_class}
 use Rattle.jc_emit.specs.Stages.{layout_frames}
 use Rattle.jc_emit.proofs.EmittingLaws.{framing_made, grows_one, states_put}
 use Rattle.jc_emit.proofs.FrameStateLaws.{frames_have_states}
-use Rattle.jc_emit.proofs.stages.emit_frames.Goals as goal
+use Rattle.jc_emit.proofs.stages.emit_parts.Goals as goal
 
 pub of-requires-2 : goal.of-requires-2
 of-requires-2 c =
@@ -41,6 +41,14 @@ returns-clause-frames c = λ first is.
       fit = frames_have_states c.args.names.now c.in_ok-array.ensures.names_before.distinct b states made c.requires.frames c.requires.states;
     }
 
+pub moved_tables-requires-clause-places : goal.moved_tables-requires-clause-places
+moved_tables-requires-clause-places c =
+    let plan = c.requires.plan in
+    (plan.0, c.in_ok-places.ensures.places plan.0 plan.1)
+
+pub returns-clause-tables : goal.returns-clause-tables
+returns-clause-tables c = λ first is. c.in_ok-tables.ensures first (c.in_ok-places.ensures.places first is)
+
 pub returns-clause-names : goal.returns-clause-names
 returns-clause-names c = grows_one c.args.names.now c.number.new.self probe_array_class c.in_ok-array.ensures.names
 
@@ -49,3 +57,6 @@ returns-in_err-framing-clause-names c = grows_one c.args.names.now c.number.new.
 
 pub returns-in_err-frames-clause-names : goal.returns-in_err-frames-clause-names
 returns-in_err-frames-clause-names c = grows_one c.args.names.now c.number.new.self probe_array_class c.in_ok-array.ensures.names
+
+pub returns-in_err-tables-clause-names : goal.returns-in_err-tables-clause-names
+returns-in_err-tables-clause-names c = grows_one c.args.names.now c.number.new.self probe_array_class c.in_ok-array.ensures.names
