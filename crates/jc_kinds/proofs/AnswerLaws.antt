@@ -17,7 +17,7 @@ use Rattle.jc_kinds.specs.States.{state_of, after_at}
 use Rattle.jc_kinds.specs.Checked.{IsMissing, at_handler, EntryClash, NoAfter, BranchClash, HandlerClash, IsClash, Checked, FirstClash}
 use Rattle.jc_kinds.specs.Answers.{AreStates}
 use Rattle.jc_kinds.specs.First.{IsFirstOrBound}
-use Rattle.jc_kinds.specs.Guarded.{IsUnguarded}
+use Rattle.jc_kinds.specs.Guarded.{IsUnguarded, IsUnguardedIn}
 use Rattle.jc_kinds.specs.StateSequence.{IsKeptEntry, IsFlowClash, IsWalk, IsWalkFrom}
 use Rattle.std.proofs.lemmas.Option.{none-some}
 use Rattle.jc_bytes.proofs.BooleanLaws.{none_in}
@@ -136,20 +136,14 @@ pub few_walked : (old new : Names) (b : Body) (keeps : Bool) (count : ℕ) (stat
 few_walked old new b keeps count states made w = let few = few_insns b made in let in_code = w.walk.first.within in omega (arith, few, in_code)
 
 -- the states of a body with rows are kept
-pub kept_by_rows : (old new : Names) (b : Body) (keeps : Bool) (count : ℕ) (states kept : List State) (handlers : List Handler)
-    → (b.handlers ≢ [] → keeps ≡ true) → kept ≡ states → handlers ≡ b.handlers
-    → IsWalkFrom old new b keeps count states → handlers ≢ [] → length kept ≡ count
-kept_by_rows old new b keeps count states kept handlers rows same framed w some = ap (λ (l : List State). length l) same ∙ w.walk.kept (rows (λ none. some (framed ∙ none)))
+pub kept_by_rows : (old new : Names) (b : Body) (keeps : Bool) (count : ℕ) (states kept : List State) → (b.handlers ≢ [] → keeps ≡ true) → kept ≡ states
+    → IsWalkFrom old new b keeps count states → b.handlers ≢ [] → length kept ≡ count
+kept_by_rows old new b keeps count states kept rows same w some = ap (λ (l : List State). length l) same ∙ w.walk.kept (rows some)
 
--- the place was looked for in what the body and the walk have
-pub same_guard : (b : Body) (states kept : List State) (frames : List FrameAt) (handlers : List Handler) (slots count place : ℕ) → kept ≡ states
-    → frames ≡ b.frames → handlers ≡ b.handlers → slots ≡ b.max_locals
-    → IsFirstOrBound (IsUnguarded kept frames handlers slots) count place → IsFirstOrBound (IsUnguarded states b.frames b.handlers b.max_locals) count place
-same_guard b states kept frames handlers slots count place p q r t first =
-    subst (λ (ks : List State). IsFirstOrBound (IsUnguarded ks b.frames b.handlers b.max_locals) count place) p
-    (subst (λ (fs : List FrameAt). IsFirstOrBound (IsUnguarded kept fs b.handlers b.max_locals) count place) q
-    (subst (λ (hs : List Handler). IsFirstOrBound (IsUnguarded kept frames hs b.max_locals) count place) r
-    (subst (λ (n : ℕ). IsFirstOrBound (IsUnguarded kept frames handlers n) count place) t first)))
+-- the place was looked for in the states that the walk has
+pub same_guard : (b : Body) (states kept : List State) (count place : ℕ) → kept ≡ states
+    → IsFirstOrBound (IsUnguardedIn b kept) count place → IsFirstOrBound (IsUnguardedIn b states) count place
+same_guard b states kept count place same first = subst (λ (l : List State). IsFirstOrBound (IsUnguardedIn b l) count place) same first
 
 pub clash_answered_at : (old new : Names) (b : Body) (keeps : Bool) (count : ℕ) (states : List State) (place : ℕ) → IsWellMade b → IsNowhere (IsMissing b) → AreNumberedFrames (length old) b.frames
     → IsWalkFrom old new b keeps count states → (b.handlers ≢ [] → keeps ≡ true)

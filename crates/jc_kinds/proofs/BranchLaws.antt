@@ -9,7 +9,6 @@ use Rattle.jc_bytes.proofs.FirstSeenLaws.{first_seen_all, first_seen_listed}
 use Rattle.jc_bytes.proofs.DecidingLaws.{one_test}
 use Rattle.jc_methods.specs.declared.insn.Insn.{Insn}
 use Rattle.jc_methods.specs.declared.kind.State.{State}
-use Rattle.jc_methods.specs.declared.body.FrameAt.{FrameAt}
 use Rattle.jc_methods.specs.declared.body.Body.{Body}
 use Rattle.jc_methods.specs.Flow.{FallsThrough, targets_of, falls_through}
 use Rattle.jc_methods.specs.VerificationTypes.{Names, type_state, IsNumberedState, AreNumberedFrames, Grows}
@@ -73,18 +72,17 @@ left_is : (old new : Names) (b c : Body) (i : ℕ) (s left : State) (o : Option 
 left_is old new b c i s left o same leaves is =
     sym (ap (option_map (type_state new)) (sym is) ∙ leaves ∙ ap (λ (d : Body). after_of d i (type_state old s)) same)
 
-left_fits : (b : Body) (code : List Insn) (frames : List FrameAt) (i : ℕ) (left : State) (insn : Insn) (fits : Bool) → code ≡ b.code → frames ≡ b.frames → i < length b.code → insn ≡ get_or code i insn
-    → fits ≡ list_all (fits_frame frames left) (branches (Some insn) i) → passes b i left ≡ fits
-left_fits b code frames i left insn fits coded framed lt at is =
+left_fits : (b : Body) (code : List Insn) (i : ℕ) (left : State) (insn : Insn) (fits : Bool) → code ≡ b.code → i < length b.code → insn ≡ get_or code i insn
+    → fits ≡ list_all (fits_frame b.frames left) (branches (Some insn) i) → passes b i left ≡ fits
+left_fits b code i left insn fits coded lt at is =
     ap (λ (o : Option Insn). list_all (fits_frame b.frames left) (branches o i)) (insn_is b i insn lt (at ∙ ap (λ (l : List Insn). get_or l i insn) coded))
-    ∙ sym (is ∙ ap (λ (l : List FrameAt). list_all (fits_frame l left) (branches (Some insn) i)) framed)
+    ∙ sym is
 
-pub stop_made : (old new : Names) (b c : Body) (code : List Insn) (frames : List FrameAt) (i : ℕ) (s left : State) (o : Option State) (insn : Insn)
-    (fits : Bool) → c ≡ b → code ≡ b.code → frames ≡ b.frames
-    → i < length b.code → insn ≡ get_or code i insn → LeavesState old new c i s o → o ≡ Some left
-    → fits ≡ list_all (fits_frame frames left) (branches (Some insn) i) → fits ≡ false → StopsAt old new b i s
-stop_made old new b c code frames i s left o insn fits same coded framed lt at leaves some is misses =
-    inr (left, left_is old new b c i s left o same leaves some, left_fits b code frames i left insn fits coded framed lt at is ∙ misses)
+pub stop_made : (old new : Names) (b c : Body) (code : List Insn) (i : ℕ) (s left : State) (o : Option State) (insn : Insn) (fits : Bool)
+    → c ≡ b → code ≡ b.code → i < length b.code → insn ≡ get_or code i insn → LeavesState old new c i s o → o ≡ Some left
+    → fits ≡ list_all (fits_frame b.frames left) (branches (Some insn) i) → fits ≡ false → StopsAt old new b i s
+stop_made old new b c code i s left o insn fits same coded lt at leaves some is misses =
+    inr (left, left_is old new b c i s left o same leaves some, left_fits b code i left insn fits coded lt at is ∙ misses)
 
 pub none_made : (old new : Names) (b c : Body) (i : ℕ) (s : State) (o : Option State) → c ≡ b → LeavesState old new c i s o → o ≡ None → StopsAt old new b i s
 none_made old new b c i s o same leaves none = inl (sym (ap (option_map (type_state new)) (sym none) ∙ leaves ∙ ap (λ (d : Body). after_of d i (type_state old s)) same))
@@ -100,20 +98,19 @@ kept_made old new b at other made frames g numbered whole (Some f) e = (
 )
 
 -- the state before the next one is well made
-pub step_made : (old new : Names) (b c : Body) (code : List Insn) (frames behind : List FrameAt) (i : ℕ) (s left next : State) (o : Option State)
+pub step_made : (old new : Names) (b c : Body) (code : List Insn) (i : ℕ) (s left next : State) (o : Option State)
     (insn : Insn) (fits : Bool) → IsWellMade b → AreNumberedFrames (length old) b.frames
-    → Grows old new → c ≡ b → code ≡ b.code → frames ≡ b.frames → behind ≡ b.frames → i < length b.code → insn ≡ get_or code i insn → LeavesState old new c i s o → o ≡ Some left
-    → fits ≡ list_all (fits_frame frames left) (branches (Some insn) i) → fits ≡ true → next ≡ unwrap_or (frame_in behind (i + 1)) left
+    → Grows old new → c ≡ b → code ≡ b.code → i < length b.code → insn ≡ get_or code i insn → LeavesState old new c i s o → o ≡ Some left
+    → fits ≡ list_all (fits_frame b.frames left) (branches (Some insn) i) → fits ≡ true → next ≡ unwrap_or (frame_in b.frames (i + 1)) left
     → IfSome o (λ t. IsStateOf (length new) c t) → IfSome o (λ t. IsWhole c s → IsWhole c t) → IsState b.code b.max_locals b.max_stack s → IsStep old new b i s next
-step_made old new b c code frames behind i s left next o insn fits made numbered g same coded framed framed_behind lt at leaves some is holds next_is state whole well =
+step_made old new b c code i s left next o insn fits made numbered g same coded lt at leaves some is holds here state whole well =
     let state_left = subst (λ (p : Option State). IfSome p (λ t. IsStateOf (length new) c t)) some state in
     let whole_left = subst (λ (d : Body). IsWhole d s → IsWhole d left) same (subst (λ (p : Option State). IfSome p (λ t. IsWhole c s → IsWhole c t)) some whole) in
     let both = kept_made old new b (i + 1) left made numbered g state_left.numbered (whole_left well) (frame_in b.frames (i + 1)) refl in
-    let here : next ≡ unwrap_or (frame_in b.frames (i + 1)) left = next_is ∙ ap (λ (l : List FrameAt). unwrap_or (frame_in l (i + 1)) left) framed_behind in
     record {
       left = left;
       after = left_is old new b c i s left o same leaves some;
-      fits = left_fits b code frames i left insn fits coded framed lt at is ∙ holds;
+      fits = left_fits b code i left insn fits coded lt at is ∙ holds;
       next_is = here;
       numbered = subst (IsNumberedState (length new)) (sym here) both.0;
       well_made = subst (IsState b.code b.max_locals b.max_stack) (sym here) both.1;
@@ -121,11 +118,11 @@ step_made old new b c code frames behind i s left next o insn fits made numbered
 
 -- ---- the first one
 
-pub first_made : (old : Names) (b : Body) (keeps : Bool) (frames : List FrameAt) (entry s : State) (o : Option State) (states : List State)
-    → IsWellMade b → AreNumberedFrames (length old) b.frames → IsKeptEntry old b entry → frames ≡ b.frames
-    → Begins frames entry o → o ≡ Some s → states ≡ [] → IsWalking old old b keeps states 0 s
-first_made old b keeps frames entry s o states made numbered kept framed begins some none =
-    let there : Begins b.frames entry (Some s) = subst (Begins b.frames entry) some (subst (λ (l : List FrameAt). Begins l entry o) framed begins) in
+pub first_made : (old : Names) (b : Body) (keeps : Bool) (entry s : State) (o : Option State) (states : List State)
+    → IsWellMade b → AreNumberedFrames (length old) b.frames → IsKeptEntry old b entry
+    → Begins b.frames entry o → o ≡ Some s → states ≡ [] → IsWalking old old b keeps states 0 s
+first_made old b keeps entry s o states made numbered kept begins some none =
+    let there : Begins b.frames entry (Some s) = subst (Begins b.frames entry) some begins in
     let both = kept_made old old b 0 entry made numbered (grows_none old) kept.numbered kept.well_made (frame_in b.frames 0) refl in
     subst (λ (l : List State). IsWalking old old b keeps l 0 s) (sym none)
     (walk_begins old b keeps entry s kept.is
@@ -133,7 +130,7 @@ first_made old b keeps frames entry s o states made numbered kept framed begins 
     (subst (IsNumberedState (length old)) (sym there.1) both.0)
     there)
 
-pub first_not : (old : Names) (b : Body) (keeps : Bool) (frames : List FrameAt) (entry : State) (o : Option State) (states : List State)
-    → IsKeptEntry old b entry → frames ≡ b.frames → Begins frames entry o → o ≡ None → states ≡ [] → IsWalk old old b keeps 0 states
-first_not old b keeps frames entry o states kept framed begins none empty =
-    subst (IsWalk old old b keeps 0) (sym empty) (walk_begins_not old b keeps entry kept.is (subst (Begins b.frames entry) none (subst (λ (l : List FrameAt). Begins l entry o) framed begins)))
+pub first_not : (old : Names) (b : Body) (keeps : Bool) (entry : State) (o : Option State) (states : List State)
+    → IsKeptEntry old b entry → Begins b.frames entry o → o ≡ None → states ≡ [] → IsWalk old old b keeps 0 states
+first_not old b keeps entry o states kept begins none empty =
+    subst (IsWalk old old b keeps 0) (sym empty) (walk_begins_not old b keeps entry kept.is (subst (Begins b.frames entry) none begins))

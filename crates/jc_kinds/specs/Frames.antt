@@ -2,6 +2,7 @@
 use Rattle.std.specs.Prelude.{◌≡◌, ℕ, ◌<◌, List, [], ◌∷◌, length, Option, Some, None, option_map, nat_eq, All, slice_get, slice_index, if◌then◌else◌}
 use Rattle.jc_methods.specs.declared.kind.State.{State}
 use Rattle.jc_methods.specs.declared.body.FrameAt.{FrameAt}
+use Rattle.jc_kinds.specs.declared.frames.Framed.{Framed}
 
 -- what the frame at an instruction says, if one stands there
 abbrev pub frame_in : List FrameAt → ℕ → Option State
@@ -18,3 +19,7 @@ pub record AreNumbers (frames : List FrameAt) (count : ℕ) (numbers : List ℕ)
   pub size : length numbers ≡ count
   pub within : All (λ f. f.at < count) frames
   pub each : (i : ℕ) → i < count → numbered_frame frames (slice_index numbers i) ≡ frame_in frames i
+
+-- the body's frames stand among its instructions, and the number of the frame at each is listed
+abbrev pub IsNumbered : Framed → Type 0
+IsNumbered f = AreNumbers f.body.now.frames (length f.body.now.code) f.numbers.now

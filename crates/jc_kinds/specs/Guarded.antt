@@ -5,6 +5,7 @@ use Rattle.jc_methods.specs.declared.kind.Kind.TheVariants as kinds
 use Rattle.jc_methods.specs.declared.kind.State.{State}
 use Rattle.jc_methods.specs.declared.body.Handler.{Handler}
 use Rattle.jc_methods.specs.declared.body.FrameAt.{FrameAt}
+use Rattle.jc_methods.specs.declared.body.Body.{Body}
 use Rattle.jc_kinds.specs.KindFits.{kind_fits}
 use Rattle.jc_kinds.specs.Frames.{frame_in}
 use Rattle.jc_kinds.specs.Runs.{kind_at}
@@ -69,3 +70,7 @@ IsUnfitBelow states frames handlers slots i = (slot : ℕ) × (slot < slots) × 
 -- one of the two, in one of so many local variables
 abbrev pub IsUnguarded : List State → List FrameAt → List Handler → ℕ → ℕ → Type 0
 IsUnguarded states frames handlers slots i = IsUncaught frames handlers i ⊎ IsUnfitBelow states frames handlers slots i
+
+-- one of the two, by the frames, the rows and the local variables of a body
+abbrev pub IsUnguardedIn : Body → List State → ℕ → Type 0
+IsUnguardedIn b states i = IsUnguarded states b.frames b.handlers b.max_locals i

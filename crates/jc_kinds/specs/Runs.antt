@@ -2,6 +2,7 @@
 use Rattle.std.specs.Prelude.{◌≡◌, ◌≢◌, ℕ, ◌<◌, ◌≤◌, Bool, true, false, List, length, slice_index, slice_index_or}
 use Rattle.jc_methods.specs.declared.kind.Kind.{Kind}
 use Rattle.jc_methods.specs.declared.kind.Kind.TheVariants as kinds
+use Rattle.jc_kinds.specs.declared.runs.Column.{Column}
 use Rattle.jc_kinds.specs.KindFits.{kind_fits}
 
 abbrev pub kind_at : List Kind → ℕ → Kind
@@ -29,6 +30,11 @@ pub record IsEnd (loose : Bool) (column : List Kind) (i e : ℕ) : Type 0 where
 pub record AreEnds (loose : Bool) (column : List Kind) (from : ℕ) (ends : List ℕ) : Type 0 where
   pub size : length ends ≡ length column
   pub each : (i : ℕ) → from ≤ i → i < length column → IsEnd loose column i (slice_index ends i)
+
+-- the ends of the runs of the types are listed
+pub record HasRuns (c : Column) : Type 0 where
+  pub tight : AreEnds false c.kinds.items 0 c.tight.items
+  pub loose : AreEnds true c.kinds.items 0 c.loose.items
 
 -- the first place of the range whose type doesn't fit, or the range's end
 pub record IsFirstUnfit (column : List Kind) (want : Kind) (start end result : ℕ) : Type 0 where

@@ -4,12 +4,12 @@ ghost use Rattle.jc_methods.specs.VerificationTypes.{Grows, AreNumberedFrames};
 ghost use Rattle.jc_methods.specs.WellMade.{IsWellMade};
 ghost use Rattle.jc_bytes.specs.Least.{IsNowhere};
 ghost use Rattle.jc_kinds.specs.Checked.{Checked, IsMissing, FirstMissing, FirstClash};
-ghost use Rattle.jc_kinds.specs.Frames.{AreNumbers};
+ghost use Rattle.jc_kinds.specs.Frames.{IsNumbered};
 ghost use Rattle.jc_kinds.specs.StateSequence.{IsWalkFrom, IsKeptEntry};
 ghost use Rattle.jc_kinds.specs.Answers.{AreStates, IsKindRefusal, IsAnswer, refusal_of, lacks_frame, has_clash};
 ghost use Rattle.jc_bytes.specs.Failing.{Said};
 
-use crate::frames::frame_numbers;
+use crate::frames::{Framed, frame_numbers};
 use crate::guarded::first_unguarded;
 use crate::missing::first_missing;
 use crate::walk::{Walked, walk};
@@ -42,21 +42,20 @@ fn entry_of(alloc: Global, body: &Body, names: &mut Names) -> Result<State, Memo
 /// The walk up to the first instruction from which control goes on with no state that fits.
 fn walk_body(
     alloc: Global,
-    body: &Body,
-    numbers: &[u32],
+    framed: &Framed<'_>,
     keeps: bool,
     names: &mut Names,
 ) -> Result<Walked, Memory>
-    requires body { IsWellMade body.now }
-    requires frames { AreNumberedFrames (length names.old) body.now.frames }
-    requires numbers { AreNumbers body.now.frames (length body.now.code) numbers.now }
-    requires missing { IsNowhere (IsMissing body.now) }
-    ensures walk { IfOk result (λ walked. IsWalkFrom names.old names.new body.now keeps walked.count walked.states.items) }
+    requires body { IsWellMade framed.now.body.now }
+    requires frames { AreNumberedFrames (length names.old) framed.now.body.now.frames }
+    requires numbers { IsNumbered framed.now }
+    requires missing { IsNowhere (IsMissing framed.now.body.now) }
+    ensures walk { IfOk result (λ walked. IsWalkFrom names.old names.new framed.now.body.now keeps walked.count walked.states.items) }
     ensures names { Grows names.old names.new }
 {
-    let entry = entry_of(alloc, body, names)?;
-    let mut effects = Effects::of(alloc, body, names)?;
-    walk(alloc, &mut effects, body, numbers, entry, keeps, names)
+    let entry = entry_of(alloc, framed.body, names)?;
+    let mut effects = Effects::of(alloc, framed.body, names)?;
+    walk(alloc, &mut effects, framed, entry, keeps, names)
 }
 
 /// Whether states are kept: where they are wanted, and where handlers are compared with them.
@@ -80,20 +79,15 @@ fn answer(
     ensures names { Grows names.old names.new }
 {
     let numbers = frame_numbers(alloc, &body.frames, body.code.len())?;
-    if let Some(place) = first_missing(alloc, body, &numbers)? {
+    let framed = Framed {
+        body,
+        numbers: &numbers,
+    };
+    if let Some(place) = first_missing(alloc, &framed)? {
         return Err(refused(body, RefusalKind::FrameMissing, place));
     }
-    let walked = walk_body(alloc, body, &numbers, keeps_states(body, wanted), names)?;
-    let slots = usize::from(body.max_locals);
-    let place = first_unguarded(
-        alloc,
-        &walked.states,
-        &body.frames,
-        &numbers,
-        &body.handlers,
-        slots,
-        walked.count,
-    )?;
+    let walked = walk_body(alloc, &framed, keeps_states(body, wanted), names)?;
+    let place = first_unguarded(alloc, &walked.states, &framed, walked.count)?;
     if place < body.code.len() {
         return Err(refused(body, RefusalKind::FrameClash, place as u32));
     }

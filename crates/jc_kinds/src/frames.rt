@@ -1,10 +1,18 @@
 //! The frames of a body by the instructions at which they stand.
 ghost use Rattle.std.specs.Prelude.{◌≡◌, ◌<◌, length, All, IfOk, option_copied};
-ghost use Rattle.jc_kinds.specs.Frames.{frame_in, AreNumbers};
+ghost use Rattle.jc_kinds.specs.Frames.{frame_in, AreNumbers, IsNumbered};
 
 use jc_bytes::Memory;
-use jc_methods::{FrameAt, State};
+use jc_methods::{Body, FrameAt, State};
 use std::alloc::Global;
+
+/// A body whose frames are found by the instructions at which they stand.
+#[derive(Clone, Copy)]
+pub struct Framed<'a> {
+    pub body: &'a Body,
+    /// For each instruction the number of the frame that stands there, or the number of frames where none does.
+    pub numbers: &'a [u32],
+}
 
 /// For each of so many instructions the number of the frame that stands there, or the number of frames where
 /// none does.
@@ -27,11 +35,11 @@ pub fn frame_numbers(alloc: Global, frames: &[FrameAt], count: usize) -> Result<
 }
 
 /// What the frame at an instruction says, if one stands there.
-pub fn frame_at<'a>(frames: &'a [FrameAt], numbers: &[u32], at: u32) -> Option<&'a State>
-    requires { AreNumbers frames.now (length numbers.now) numbers.now }
-    ensures { option_copied result ≡ frame_in frames.now at }
+pub fn frame_at<'a>(framed: &Framed<'a>, at: u32) -> Option<&'a State>
+    requires { IsNumbered framed.now }
+    ensures { option_copied result ≡ frame_in framed.now.body.now.frames at }
 {
-    let number = numbers.get(at as usize)?;
-    let frame = frames.get(*number as usize)?;
+    let number = framed.numbers.get(at as usize)?;
+    let frame = framed.body.frames.get(*number as usize)?;
     Some(&frame.state)
 }

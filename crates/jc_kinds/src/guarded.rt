@@ -1,20 +1,20 @@
 //! The first instruction whose local variables don't fit a handler that guards it (JVM Specification 4.10.1.6).
 //! For each local variable the work is in proportion to the instructions and the distinct handlers together, and for a
 //! handler to the runs of equal types in the local variable, or to its rows, where these are fewer.
-ghost use Rattle.std.specs.Prelude.{◌≡◌, ◌≢◌, ◌<◌, ◌≤◌, false, true, [], ◌∷◌, length, All, IfOk};
+ghost use Rattle.std.specs.Prelude.{◌≡◌, ◌≢◌, ◌<◌, ◌≤◌, [], ◌∷◌, length, All, IfOk};
 ghost use Rattle.jc_kinds.specs.First.{IsFirstOrBound};
-ghost use Rattle.jc_kinds.specs.Frames.{frame_in, AreNumbers};
-ghost use Rattle.jc_kinds.specs.Runs.{AreEnds, IsFirstUnfit};
+ghost use Rattle.jc_kinds.specs.Frames.{frame_in, IsNumbered};
+ghost use Rattle.jc_kinds.specs.Runs.{HasRuns, IsFirstUnfit};
 ghost use Rattle.jc_kinds.specs.Guarded.{column_of, local_at, wanted_at, catches, frame_catches};
-ghost use Rattle.jc_kinds.specs.Guarded.{IsUncaught, IsUnfitInColumn, IsUnfitInRow, IsUnguarded};
+ghost use Rattle.jc_kinds.specs.Guarded.{IsUncaught, IsUnfitInColumn, IsUnfitInRow, IsUnguarded, IsUnguardedIn};
 ghost use Rattle.jc_kinds.specs.Rows.{AreRising, IsGroup, IsUnfitInRows, IsUnfitInGroups, rows_of};
 
 use crate::fits::fits;
-use crate::frames::frame_at;
+use crate::frames::{Framed, frame_at};
 use crate::rows::{first_ending_behind, row_groups};
-use crate::runs::{first_unfit, run_ends};
+use crate::runs::{Column, first_unfit, with_runs};
 use jc_bytes::Memory;
-use jc_methods::{FrameAt, Handler, Kind, State};
+use jc_methods::{Handler, Kind, State};
 use std::alloc::Global;
 
 /// Whether a reference that is caught may stand alone on a stack.
@@ -28,38 +28,38 @@ fn catches(stack: &[Kind]) -> bool
 }
 
 /// Whether the frame at which a handler begins takes the reference that is caught.
-fn frame_catches(frames: &[FrameAt], numbers: &[u32], target: u32) -> bool
-    requires { AreNumbers frames.now (length numbers.now) numbers.now }
-    ensures { result ≡ frame_catches (frame_in frames.now target) }
+fn frame_catches(framed: &Framed<'_>, target: u32) -> bool
+    requires { IsNumbered framed.now }
+    ensures { result ≡ frame_catches (frame_in framed.now.body.now.frames target) }
 {
-    match frame_at(frames, numbers, target) {
+    match frame_at(framed, target) {
         Some(frame) => catches(&frame.stack),
         None => true,
     }
 }
 
 /// The first instruction that a row guards whose handler doesn't take the reference that is caught, or the bound.
-fn first_uncaught(frames: &[FrameAt], numbers: &[u32], handlers: &[Handler], bound: usize) -> usize
+fn first_uncaught(framed: &Framed<'_>, handlers: &[Handler], bound: usize) -> usize
     requires rows { All (λ h. h.start < h.end) handlers.now }
-    requires numbers { AreNumbers frames.now (length numbers.now) numbers.now }
-    ensures { IsFirstOrBound (IsUncaught frames.now handlers.now) bound result }
+    requires numbers { IsNumbered framed.now }
+    ensures { IsFirstOrBound (IsUncaught framed.now.body.now.frames handlers.now) bound result }
 {
     let mut first = bound;
     'catching: for handler in handlers {
-        first = first_in_range(frames, numbers, *handler, first);
+        first = first_in_range(framed, *handler, first);
     }
     first
 }
 
 /// The first instruction that a row guards where its handler doesn't take the reference that is caught, or the
 /// bound.
-fn first_in_range(frames: &[FrameAt], numbers: &[u32], handler: Handler, bound: usize) -> usize
+fn first_in_range(framed: &Framed<'_>, handler: Handler, bound: usize) -> usize
     requires row { handler.start < handler.end }
-    requires numbers { AreNumbers frames.now (length numbers.now) numbers.now }
-    ensures { IsFirstOrBound (IsUncaught frames.now (handler ∷ [])) bound result }
+    requires numbers { IsNumbered framed.now }
+    ensures { IsFirstOrBound (IsUncaught framed.now.body.now.frames (handler ∷ [])) bound result }
 {
     let start = handler.start as usize;
-    if start < bound && !frame_catches(frames, numbers, handler.target) {
+    if start < bound && !frame_catches(framed, handler.target) {
         start
     } else {
         bound
@@ -90,11 +90,11 @@ fn local_at(state: &State, slot: usize) -> Kind
 }
 
 /// The type that the frame at an instruction has for a local variable.
-fn wanted_at(frames: &[FrameAt], numbers: &[u32], target: u32, slot: usize) -> Kind
-    requires { AreNumbers frames.now (length numbers.now) numbers.now }
-    ensures { result ≡ wanted_at slot (frame_in frames.now target) }
+fn wanted_at(framed: &Framed<'_>, target: u32, slot: usize) -> Kind
+    requires { IsNumbered framed.now }
+    ensures { result ≡ wanted_at slot (frame_in framed.now.body.now.frames target) }
 {
-    match frame_at(frames, numbers, target) {
+    match frame_at(framed, target) {
         Some(frame) => local_at(frame, slot),
         None => Kind::Top,
     }
@@ -102,19 +102,11 @@ fn wanted_at(frames: &[FrameAt], numbers: &[u32], target: u32, slot: usize) -> K
 
 /// The first instruction that one of the rows guards whose type in a column doesn't fit, or the bound. Where a type
 /// doesn't fit that no row guards, the rows that end in front of it need no look.
-fn first_in_rows(
-    column: &[Kind],
-    tight: &[usize],
-    loose: &[usize],
-    rows: &[Handler],
-    want: Kind,
-    bound: usize,
-) -> usize
-    requires bound { bound ≤ length column.now }
-    requires tight { AreEnds false column.now 0 tight.now }
-    requires loose { AreEnds true column.now 0 loose.now }
+fn first_in_rows(column: &Column, rows: &[Handler], want: Kind, bound: usize) -> usize
+    requires bound { bound ≤ length column.now.kinds.items }
+    requires runs { HasRuns column.now }
     requires rows { AreRising rows.now }
-    ensures { IsFirstOrBound (IsUnfitInRows column.now rows.now want) bound result }
+    ensures { IsFirstOrBound (IsUnfitInRows column.now.kinds.items rows.now want) bound result }
 {
     let mut at = 0;
     'looking: while at < rows.len() {
@@ -123,7 +115,14 @@ fn first_in_rows(
         if start >= bound {
             return bound;
         }
-        let unfit = first_unfit(column, tight, loose, start, bound, want);
+        let unfit = first_unfit(
+            &column.kinds,
+            &column.tight,
+            &column.loose,
+            start,
+            bound,
+            want,
+        );
         if unfit < row.end as usize {
             return unfit;
         }
@@ -135,50 +134,42 @@ fn first_in_rows(
 /// The first instruction that a row of one handler guards whose type in a column doesn't fit the handler's frame, or
 /// the bound.
 fn first_in_group(
-    column: &[Kind],
-    tight: &[usize],
-    loose: &[usize],
-    frames: &[FrameAt],
-    numbers: &[u32],
+    column: &Column,
+    framed: &Framed<'_>,
     rows: &[Handler],
     slot: usize,
     bound: usize,
 ) -> usize
-    requires bound { bound ≤ length column.now }
-    requires tight { AreEnds false column.now 0 tight.now }
-    requires loose { AreEnds true column.now 0 loose.now }
-    requires numbers { AreNumbers frames.now (length numbers.now) numbers.now }
+    requires bound { bound ≤ length column.now.kinds.items }
+    requires runs { HasRuns column.now }
+    requires numbers { IsNumbered framed.now }
     requires group { IsGroup rows.now }
-    ensures { IsFirstOrBound (IsUnfitInColumn column.now frames.now slot rows.now) bound result }
+    ensures { IsFirstOrBound (IsUnfitInColumn column.now.kinds.items framed.now.body.now.frames slot rows.now) bound result }
 {
     if rows.is_empty() {
         return bound;
     }
-    let want = wanted_at(frames, numbers, rows[0].target, slot);
-    first_in_rows(column, tight, loose, rows, want, bound)
+    let want = wanted_at(framed, rows[0].target, slot);
+    first_in_rows(column, rows, want, bound)
 }
 
 /// The first instruction that a row guards whose type in a column doesn't fit the handler's frame, or the bound.
 fn first_in_column(
-    column: &[Kind],
-    tight: &[usize],
-    loose: &[usize],
-    frames: &[FrameAt],
-    numbers: &[u32],
+    column: &Column,
+    framed: &Framed<'_>,
     groups: &[Vec<Handler>],
     slot: usize,
     bound: usize,
 ) -> usize
-    requires bound { bound ≤ length column.now }
-    requires tight { AreEnds false column.now 0 tight.now }
-    requires loose { AreEnds true column.now 0 loose.now }
-    requires numbers { AreNumbers frames.now (length numbers.now) numbers.now }
+    requires bound { bound ≤ length column.now.kinds.items }
+    requires runs { HasRuns column.now }
+    requires numbers { IsNumbered framed.now }
     requires groups { All IsGroup (rows_of groups.now) }
-    ensures { IsFirstOrBound (IsUnfitInGroups column.now frames.now slot (rows_of groups.now)) bound result }
+    ensures { IsFirstOrBound (IsUnfitInGroups column.now.kinds.items framed.now.body.now.frames slot (rows_of groups.now)) bound result }
 {
     let mut first = bound;
     'looking: for rows in groups {
-        first = first_in_group(column, tight, loose, frames, numbers, rows, slot, first);
+        first = first_in_group(column, framed, rows, slot, first);
     }
     first
 }
@@ -188,25 +179,20 @@ fn first_in_column(
 fn first_by_runs(
     alloc: Global,
     states: &[State],
-    frames: &[FrameAt],
-    numbers: &[u32],
+    framed: &Framed<'_>,
     groups: &[Vec<Handler>],
     slot: usize,
     bound: usize,
 ) -> Result<usize, Memory>
     requires small { length states.now < 4294967296 }
     requires bound { bound ≤ length states.now }
-    requires numbers { AreNumbers frames.now (length numbers.now) numbers.now }
+    requires numbers { IsNumbered framed.now }
     requires groups { All IsGroup (rows_of groups.now) }
     ensures { IfOk result
-        (IsFirstOrBound (IsUnfitInGroups (column_of states.now slot) frames.now slot (rows_of groups.now)) bound) }
+        (IsFirstOrBound (IsUnfitInGroups (column_of states.now slot) framed.now.body.now.frames slot (rows_of groups.now)) bound) }
 {
-    let column = column_of(alloc, states, slot)?;
-    let tight = run_ends(alloc, false, &column)?;
-    let loose = run_ends(alloc, true, &column)?;
-    Ok(first_in_column(
-        &column, &tight, &loose, frames, numbers, groups, slot, bound,
-    ))
+    let column = with_runs(alloc, column_of(alloc, states, slot)?)?;
+    Ok(first_in_column(&column, framed, groups, slot, bound))
 }
 
 /// The first state of a range whose type of a local variable doesn't fit, or the range's end.
@@ -244,22 +230,22 @@ fn first_by_row(states: &[State], handler: Handler, slot: usize, want: Kind, bou
     if first < last { first } else { bound }
 }
 
-/// The same, row by row: each looks at each state that it guards, and no list is made.
+/// The first instruction that a row guards whose type of a local variable doesn't fit the handler's frame, or the
+/// bound. Each row looks at each state that it guards, and no list is made.
 fn first_by_rows(
     states: &[State],
-    frames: &[FrameAt],
-    numbers: &[u32],
+    framed: &Framed<'_>,
     handlers: &[Handler],
     slot: usize,
     bound: usize,
 ) -> usize
     requires bound { bound ≤ length states.now }
-    requires numbers { AreNumbers frames.now (length numbers.now) numbers.now }
-    ensures { IsFirstOrBound (IsUnfitInColumn (column_of states.now slot) frames.now slot handlers.now) bound result }
+    requires numbers { IsNumbered framed.now }
+    ensures { IsFirstOrBound (IsUnfitInColumn (column_of states.now slot) framed.now.body.now.frames slot handlers.now) bound result }
 {
     let mut first = bound;
     'looking: for handler in handlers {
-        let want = wanted_at(frames, numbers, handler.target, slot);
+        let want = wanted_at(framed, handler.target, slot);
         first = first_by_row(states, *handler, slot, want, first);
     }
     first
@@ -282,42 +268,42 @@ fn guard_few(handlers: &[Handler], most: usize) -> bool {
 /// the first one whose handler doesn't take what is caught is known: row by row, for rows that guard few instructions.
 fn first_of_few(
     states: &[State],
-    frames: &[FrameAt],
-    numbers: &[u32],
+    framed: &Framed<'_>,
     handlers: &[Handler],
     slots: usize,
     uncaught: usize,
 ) -> usize
-    requires numbers { AreNumbers frames.now (length numbers.now) numbers.now }
-    requires uncaught { IsFirstOrBound (IsUncaught frames.now handlers.now) (length states.now) uncaught }
-    ensures { IsFirstOrBound (IsUnguarded states.now frames.now handlers.now slots) (length states.now) result }
+    requires numbers { IsNumbered framed.now }
+    requires uncaught { IsFirstOrBound (IsUncaught framed.now.body.now.frames handlers.now) (length states.now) uncaught }
+    ensures { IsFirstOrBound (IsUnguarded states.now framed.now.body.now.frames handlers.now slots) (length states.now) result }
 {
     let mut first = uncaught;
     'slots: for slot in 0..slots {
-        first = first_by_rows(states, frames, numbers, handlers, slot, first);
+        first = first_by_rows(states, framed, handlers, slot, first);
     }
     first
 }
 
-/// The same by the runs of equal types in each local variable, for rows that guard many instructions.
+/// The first instruction whose state before it doesn't fit a handler that guards it, or the number of states, where
+/// the first one whose handler doesn't take what is caught is known: by the runs of equal types in each local
+/// variable, for rows that guard many instructions.
 fn first_of_many(
     alloc: Global,
     states: &[State],
-    frames: &[FrameAt],
-    numbers: &[u32],
+    framed: &Framed<'_>,
     handlers: &[Handler],
     slots: usize,
     uncaught: usize,
 ) -> Result<usize, Memory>
     requires small { length states.now < 4294967296 }
-    requires numbers { AreNumbers frames.now (length numbers.now) numbers.now }
-    requires uncaught { IsFirstOrBound (IsUncaught frames.now handlers.now) (length states.now) uncaught }
-    ensures { IfOk result (IsFirstOrBound (IsUnguarded states.now frames.now handlers.now slots) (length states.now)) }
+    requires numbers { IsNumbered framed.now }
+    requires uncaught { IsFirstOrBound (IsUncaught framed.now.body.now.frames handlers.now) (length states.now) uncaught }
+    ensures { IfOk result (IsFirstOrBound (IsUnguarded states.now framed.now.body.now.frames handlers.now slots) (length states.now)) }
 {
     let groups = row_groups(alloc, handlers)?;
     let mut first = uncaught;
     'slots: for slot in 0..slots {
-        first = first_by_runs(alloc, states, frames, numbers, &groups, slot, first)?;
+        first = first_by_runs(alloc, states, framed, &groups, slot, first)?;
     }
     Ok(first)
 }
@@ -326,24 +312,19 @@ fn first_of_many(
 const LOOKS: usize = 4;
 
 /// The first instruction whose state before it doesn't fit a handler that guards it, or the number of states.
-fn first_of_states(
-    alloc: Global,
-    states: &[State],
-    frames: &[FrameAt],
-    numbers: &[u32],
-    handlers: &[Handler],
-    slots: usize,
-) -> Result<usize, Memory>
+fn first_of_states(alloc: Global, states: &[State], framed: &Framed<'_>) -> Result<usize, Memory>
     requires small { length states.now < 4294967296 }
-    requires rows { All (λ h. h.start < h.end) handlers.now }
-    requires numbers { AreNumbers frames.now (length numbers.now) numbers.now }
-    ensures { IfOk result (IsFirstOrBound (IsUnguarded states.now frames.now handlers.now slots) (length states.now)) }
+    requires rows { All (λ h. h.start < h.end) framed.now.body.now.handlers }
+    requires numbers { IsNumbered framed.now }
+    ensures { IfOk result (IsFirstOrBound (IsUnguardedIn framed.now.body.now states.now) (length states.now)) }
 {
-    let uncaught = first_uncaught(frames, numbers, handlers, states.len());
+    let handlers = framed.body.handlers.as_slice();
+    let slots = usize::from(framed.body.max_locals);
+    let uncaught = first_uncaught(framed, handlers, states.len());
     if guard_few(handlers, states.len().saturating_mul(LOOKS)) {
-        return Ok(first_of_few(states, frames, numbers, handlers, slots, uncaught));
+        return Ok(first_of_few(states, framed, handlers, slots, uncaught));
     }
-    first_of_many(alloc, states, frames, numbers, handlers, slots, uncaught)
+    first_of_many(alloc, states, framed, handlers, slots, uncaught)
 }
 
 /// The first of so many instructions whose state before it doesn't fit a handler that guards it, or their number. The
@@ -355,20 +336,17 @@ fn first_of_states(
 pub fn first_unguarded(
     alloc: Global,
     states: &[State],
-    frames: &[FrameAt],
-    numbers: &[u32],
-    handlers: &[Handler],
-    slots: usize,
+    framed: &Framed<'_>,
     count: usize,
 ) -> Result<usize, Memory>
     requires small { count < 4294967296 }
-    requires states { handlers.now ≢ [] → length states.now ≡ count }
-    requires rows { All (λ h. h.start < h.end) handlers.now }
-    requires numbers { AreNumbers frames.now (length numbers.now) numbers.now }
-    ensures { IfOk result (IsFirstOrBound (IsUnguarded states.now frames.now handlers.now slots) count) }
+    requires states { framed.now.body.now.handlers ≢ [] → length states.now ≡ count }
+    requires rows { All (λ h. h.start < h.end) framed.now.body.now.handlers }
+    requires numbers { IsNumbered framed.now }
+    ensures { IfOk result (IsFirstOrBound (IsUnguardedIn framed.now.body.now states.now) count) }
 {
-    if handlers.is_empty() {
+    if framed.body.handlers.is_empty() {
         return Ok(count);
     }
-    Ok(first_of_states(alloc, states, frames, numbers, handlers, slots)?)
+    Ok(first_of_states(alloc, states, framed)?)
 }

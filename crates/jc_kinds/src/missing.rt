@@ -6,10 +6,10 @@ ghost use Rattle.jc_bytes.specs.Least.{IsNowhere};
 ghost use Rattle.jc_methods.specs.WellMade.{IsWellMade};
 ghost use Rattle.jc_kinds.specs.Checked.{IsMissing, FirstMissing};
 ghost use Rattle.jc_kinds.specs.Checking.{needs_frame, is_missing};
-ghost use Rattle.jc_kinds.specs.Frames.{AreNumbers};
+ghost use Rattle.jc_kinds.specs.Frames.{IsNumbered};
 ghost use Rattle.jc_kinds.specs.Marking.{MarksWhere, is_among, leads_to, begins_handler, AreTargets};
 
-use crate::frames::frame_at;
+use crate::frames::{Framed, frame_at};
 use jc_bytes::Memory;
 use jc_methods::{Body, Handler, Insn};
 use std::alloc::Global;
@@ -93,14 +93,14 @@ fn needs_frame(body: &Body, marks: &[bool], at: usize) -> bool
 }
 
 /// Whether an instruction needs a frame that isn't there.
-fn is_missing(body: &Body, marks: &[bool], numbers: &[u32], at: usize) -> bool
-    requires within { at < length body.now.code }
-    requires few { length body.now.code < 4294967296 }
-    requires marks { AreTargets body.now marks.now }
-    requires numbers { AreNumbers body.now.frames (length body.now.code) numbers.now }
-    ensures { result ≡ is_missing body.now at }
+fn is_missing(framed: &Framed<'_>, marks: &[bool], at: usize) -> bool
+    requires within { at < length framed.now.body.now.code }
+    requires few { length framed.now.body.now.code < 4294967296 }
+    requires marks { AreTargets framed.now.body.now marks.now }
+    requires numbers { IsNumbered framed.now }
+    ensures { result ≡ is_missing framed.now.body.now at }
 {
-    needs_frame(body, marks, at) && frame_at(&body.frames, numbers, at as u32).is_none()
+    needs_frame(framed.body, marks, at) && frame_at(framed, at as u32).is_none()
 }
 
 /// The first instruction that needs a frame that isn't there.
@@ -108,14 +108,15 @@ fn is_missing(body: &Body, marks: &[bool], numbers: &[u32], at: usize) -> bool
 /// # Errors
 ///
 /// `Memory` where memory was refused.
-pub fn first_missing(alloc: Global, body: &Body, numbers: &[u32]) -> Result<Option<u32>, Memory>
-    requires body { IsWellMade body.now }
-    requires numbers { AreNumbers body.now.frames (length body.now.code) numbers.now }
-    ensures { IfOk result (λ found. MatchOption found (IsNowhere (IsMissing body.now)) (FirstMissing body.now)) }
+pub fn first_missing(alloc: Global, framed: &Framed<'_>) -> Result<Option<u32>, Memory>
+    requires body { IsWellMade framed.now.body.now }
+    requires numbers { IsNumbered framed.now }
+    ensures { IfOk result (λ found.
+        MatchOption found (IsNowhere (IsMissing framed.now.body.now)) (FirstMissing framed.now.body.now)) }
 {
-    let marks = marks_of(alloc, body)?;
-    'seeking: for at in 0..body.code.len() {
-        if is_missing(body, &marks, numbers, at) {
+    let marks = marks_of(alloc, framed.body)?;
+    'seeking: for at in 0..framed.body.code.len() {
+        if is_missing(framed, &marks, at) {
             return Ok(Some(at as u32));
         }
     }

@@ -1,11 +1,21 @@
 //! Runs of equal types in one local variable, instruction by instruction.
 ghost use Rattle.std.specs.Prelude.{◌≡◌, ◌<◌, ◌≤◌, ◌+◌, false, true, length, IfOk};
-ghost use Rattle.jc_kinds.specs.Runs.{key_of, IsEnd, AreEnds, IsFirstUnfit};
+ghost use Rattle.jc_kinds.specs.Runs.{key_of, IsEnd, AreEnds, HasRuns, IsFirstUnfit};
 
 use crate::fits::fits;
 use jc_bytes::Memory;
 use jc_methods::Kind;
 use std::alloc::Global;
+
+/// The types of one local variable before each instruction, and where each one's run ends.
+#[derive(Drop)]
+pub struct Column {
+    pub kinds: Vec<Kind>,
+    /// The ends of the runs of equal types.
+    pub tight: Vec<usize>,
+    /// The ends of the runs in which null and all objects are alike.
+    pub loose: Vec<usize>,
+}
 
 /// The type, or one that stands for null and for all objects where these are to be alike.
 fn key(loose: bool, kind: Kind) -> Kind
@@ -36,11 +46,7 @@ fn end_at(loose: bool, column: &[Kind], ends: &[usize], i: usize) -> usize
 }
 
 /// Where the run of each instruction's type ends.
-///
-/// # Errors
-///
-/// `Memory` where memory was refused.
-pub fn run_ends(alloc: Global, loose: bool, column: &[Kind]) -> Result<Vec<usize>, Memory>
+fn run_ends(alloc: Global, loose: bool, column: &[Kind]) -> Result<Vec<usize>, Memory>
     requires { length column.now < 4294967296 }
     ensures { IfOk result (λ ends. AreEnds loose column.now 0 ends.items) }
 {
@@ -52,6 +58,25 @@ pub fn run_ends(alloc: Global, loose: bool, column: &[Kind]) -> Result<Vec<usize
         ends[i] = end_at(loose, column, &ends, i);
     }
     Ok(ends)
+}
+
+/// These types, with the ends of their runs.
+///
+/// # Errors
+///
+/// `Memory` where memory was refused.
+pub fn with_runs(alloc: Global, kinds: Vec<Kind>) -> Result<Column, Memory>
+    requires { length kinds.items < 4294967296 }
+    ensures kinds { IfOk result (λ column. column.kinds.items ≡ kinds.items) }
+    ensures runs { IfOk result HasRuns }
+{
+    let tight = run_ends(alloc, false, &kinds)?;
+    let loose = run_ends(alloc, true, &kinds)?;
+    Ok(Column {
+        kinds,
+        tight,
+        loose,
+    })
 }
 
 /// The first instruction of a range whose type doesn't fit, or the range's end.

@@ -8,34 +8,34 @@ ghost use Rattle.jc_methods.specs.WellMade.{IsWellMade, IsState};
 ghost use Rattle.jc_kinds_after.specs.Effects.{AreEffects, body_of};
 ghost use Rattle.jc_kinds.specs.Checked.{IsMissing};
 ghost use Rattle.jc_kinds.specs.Checking.{branches};
-ghost use Rattle.jc_kinds.specs.Frames.{frame_in, AreNumbers};
+ghost use Rattle.jc_kinds.specs.Frames.{frame_in, IsNumbered};
 ghost use Rattle.jc_kinds.specs.StateSequence.{fits_frame, Begins, Steps, IsKeptEntry, listed, kept_of, IsWalk};
 
 use crate::fits::fits_state;
-use crate::frames::frame_at;
+use crate::frames::{Framed, frame_at};
 use jc_bytes::{Memory, Names, TryClone};
 use jc_kinds_after::Effects;
-use jc_methods::{Body, FrameAt, Insn, State};
+use jc_methods::{Insn, State};
 use std::alloc::Global;
 
 /// Whether a state fits the frame at an instruction, if one stands there.
-fn fits_frame(frames: &[FrameAt], numbers: &[u32], state: &State, at: u32) -> bool
-    requires { AreNumbers frames.now (length numbers.now) numbers.now }
-    ensures { result ≡ fits_frame frames.now state.now at }
+fn fits_frame(framed: &Framed<'_>, state: &State, at: u32) -> bool
+    requires { IsNumbered framed.now }
+    ensures { result ≡ fits_frame framed.now.body.now.frames state.now at }
 {
-    match frame_at(frames, numbers, at) {
+    match frame_at(framed, at) {
         Some(frame) => fits_state(state, frame),
         None => true,
     }
 }
 
 /// Whether a state fits the frames at some instructions.
-fn fits_frames(frames: &[FrameAt], numbers: &[u32], state: &State, places: &[u32]) -> bool
-    requires { AreNumbers frames.now (length numbers.now) numbers.now }
-    ensures { result ≡ list_all (fits_frame frames.now state.now) places.now }
+fn fits_frames(framed: &Framed<'_>, state: &State, places: &[u32]) -> bool
+    requires { IsNumbered framed.now }
+    ensures { result ≡ list_all (fits_frame framed.now.body.now.frames state.now) places.now }
 {
     'aiming: for place in places {
-        if !fits_frame(frames, numbers, state, *place) {
+        if !fits_frame(framed, state, *place) {
             return false;
         }
     }
@@ -43,12 +43,12 @@ fn fits_frames(frames: &[FrameAt], numbers: &[u32], state: &State, places: &[u32
 }
 
 /// Whether the state after an instruction fits the frame at the next one, where that may follow.
-fn fits_next(frames: &[FrameAt], numbers: &[u32], insn: &Insn, next: u32, state: &State) -> bool
-    requires { AreNumbers frames.now (length numbers.now) numbers.now }
-    ensures { result ≡ (if falls_through insn.now then fits_frame frames.now state.now next else true) }
+fn fits_next(framed: &Framed<'_>, insn: &Insn, next: u32, state: &State) -> bool
+    requires { IsNumbered framed.now }
+    ensures { result ≡ (if falls_through insn.now then fits_frame framed.now.body.now.frames state.now next else true) }
 {
     if insn.falls_through() {
-        fits_frame(frames, numbers, state, next)
+        fits_frame(framed, state, next)
     } else {
         true
     }
@@ -57,19 +57,18 @@ fn fits_next(frames: &[FrameAt], numbers: &[u32], insn: &Insn, next: u32, state:
 /// Whether a state fits the frames where an instruction may jump.
 fn fits_targets(
     alloc: Global,
-    frames: &[FrameAt],
-    numbers: &[u32],
+    framed: &Framed<'_>,
     insn: &Insn,
     state: &State,
 ) -> Result<bool, Memory>
-    requires { AreNumbers frames.now (length numbers.now) numbers.now }
-    ensures { IfOk result (λ fits. fits ≡ list_all (fits_frame frames.now state.now) (targets_of insn.now)) }
+    requires { IsNumbered framed.now }
+    ensures { IfOk result (λ fits. fits ≡ list_all (fits_frame framed.now.body.now.frames state.now) (targets_of insn.now)) }
 {
     match insn {
-        Insn::Jump { to, .. } => Ok(fits_frame(frames, numbers, state, *to)),
+        Insn::Jump { to, .. } => Ok(fits_frame(framed, state, *to)),
         Insn::Table { .. } | Insn::Lookup { .. } => {
             let places = insn.distinct_targets(alloc)?;
-            Ok(fits_frames(frames, numbers, state, &places))
+            Ok(fits_frames(framed, state, &places))
         }
         _ => Ok(true),
     }
@@ -78,33 +77,27 @@ fn fits_targets(
 /// Whether the state after an instruction fits the frames where its branches lead.
 fn fits_branches(
     alloc: Global,
-    frames: &[FrameAt],
-    numbers: &[u32],
+    framed: &Framed<'_>,
     insn: &Insn,
     at: u32,
     state: &State,
 ) -> Result<bool, Memory>
     requires place { at < 65535 }
-    requires numbers { AreNumbers frames.now (length numbers.now) numbers.now }
-    ensures { IfOk result (λ fits. fits ≡ list_all (fits_frame frames.now state.now) (branches (Some insn.now) at)) }
+    requires numbers { IsNumbered framed.now }
+    ensures { IfOk result (λ fits. fits ≡ list_all (fits_frame framed.now.body.now.frames state.now) (branches (Some insn.now) at)) }
 {
-    if !fits_next(frames, numbers, insn, at + 1, state) {
+    if !fits_next(framed, insn, at + 1, state) {
         return Ok(false);
     }
-    Ok(fits_targets(alloc, frames, numbers, insn, state)?)
+    Ok(fits_targets(alloc, framed, insn, state)?)
 }
 
 /// The state before the first instruction, where that in which the method begins fits it.
-fn begin(
-    alloc: Global,
-    frames: &[FrameAt],
-    numbers: &[u32],
-    entry: State,
-) -> Result<Option<State>, Memory>
-    requires { AreNumbers frames.now (length numbers.now) numbers.now }
-    ensures { IfOk result (Begins frames.now entry) }
+fn begin(alloc: Global, framed: &Framed<'_>, entry: State) -> Result<Option<State>, Memory>
+    requires { IsNumbered framed.now }
+    ensures { IfOk result (Begins framed.now.body.now.frames entry) }
 {
-    match frame_at(frames, numbers, 0) {
+    match frame_at(framed, 0) {
         Some(frame) => {
             if !fits_state(&entry, frame) {
                 return Ok(None);
@@ -116,17 +109,11 @@ fn begin(
 }
 
 /// The state before the next instruction: its frame, or what falls into it.
-fn next_state(
-    alloc: Global,
-    frames: &[FrameAt],
-    numbers: &[u32],
-    next: u32,
-    left: State,
-) -> Result<State, Memory>
-    requires { AreNumbers frames.now (length numbers.now) numbers.now }
-    ensures { IfOk result (λ state. state ≡ unwrap_or (frame_in frames.now next) left) }
+fn next_state(alloc: Global, framed: &Framed<'_>, next: u32, left: State) -> Result<State, Memory>
+    requires { IsNumbered framed.now }
+    ensures { IfOk result (λ state. state ≡ unwrap_or (frame_in framed.now.body.now.frames next) left) }
 {
-    match frame_at(frames, numbers, next) {
+    match frame_at(framed, next) {
         Some(frame) => frame.try_clone(alloc),
         None => Ok(left),
     }
@@ -137,33 +124,32 @@ fn next_state(
 fn step(
     alloc: Global,
     effects: &mut Effects<'_>,
-    body: &Body,
-    numbers: &[u32],
+    framed: &Framed<'_>,
     state: State,
     at: u32,
     names: &mut Names,
 ) -> Result<Option<State>, Memory>
     requires effects { AreEffects names.old effects.old }
-    requires body { body_of effects.old ≡ body.now }
-    requires made { IsWellMade body.now }
-    requires numbers { AreNumbers body.now.frames (length body.now.code) numbers.now }
-    requires place { at < length body.now.code }
-    requires state { IsState body.now.code body.now.max_locals body.now.max_stack state }
+    requires body { body_of effects.old ≡ framed.now.body.now }
+    requires made { IsWellMade framed.now.body.now }
+    requires numbers { IsNumbered framed.now }
+    requires place { at < length framed.now.body.now.code }
+    requires state { IsState framed.now.body.now.code framed.now.body.now.max_locals framed.now.body.now.max_stack state }
     requires numbered { IsNumberedState (length names.old) state }
-    requires frames { AreNumberedFrames (length names.old) body.now.frames }
-    ensures steps { IfOk result (Steps names.old names.new body.now at state) }
+    requires frames { AreNumberedFrames (length names.old) framed.now.body.now.frames }
+    ensures steps { IfOk result (Steps names.old names.new framed.now.body.now at state) }
     ensures names { Grows names.old names.new }
     ensures effects { AreEffects names.new effects.new }
-    ensures body { body_of effects.new ≡ body.now }
+    ensures body { body_of effects.new ≡ framed.now.body.now }
 {
     let Some(left) = effects.advance(alloc, state, at, names)? else {
         return Ok(None);
     };
-    let insn = &body.code[at as usize];
-    if !fits_branches(alloc, &body.frames, numbers, insn, at, &left)? {
+    let insn = &framed.body.code[at as usize];
+    if !fits_branches(alloc, framed, insn, at, &left)? {
         return Ok(None);
     }
-    Ok(Some(next_state(alloc, &body.frames, numbers, at + 1, left)?))
+    Ok(Some(next_state(alloc, framed, at + 1, left)?))
 }
 
 /// A copy of a state, where it is to be kept.
@@ -220,31 +206,30 @@ pub struct Walked {
 pub fn walk(
     alloc: Global,
     effects: &mut Effects<'_>,
-    body: &Body,
-    numbers: &[u32],
+    framed: &Framed<'_>,
     entry: State,
     keeps: bool,
     names: &mut Names,
 ) -> Result<Walked, Memory>
     requires effects { AreEffects names.old effects.old }
-    requires body { body_of effects.old ≡ body.now }
-    requires made { IsWellMade body.now }
-    requires numbers { AreNumbers body.now.frames (length body.now.code) numbers.now }
-    requires entry { IsKeptEntry names.old body.now entry }
-    requires frames { AreNumberedFrames (length names.old) body.now.frames }
-    requires missing { IsNowhere (IsMissing body.now) }
-    ensures walk { IfOk result (λ walked. IsWalk names.old names.new body.now keeps walked.count walked.states.items) }
+    requires body { body_of effects.old ≡ framed.now.body.now }
+    requires made { IsWellMade framed.now.body.now }
+    requires numbers { IsNumbered framed.now }
+    requires entry { IsKeptEntry names.old framed.now.body.now entry }
+    requires frames { AreNumberedFrames (length names.old) framed.now.body.now.frames }
+    requires missing { IsNowhere (IsMissing framed.now.body.now) }
+    ensures walk { IfOk result (λ walked. IsWalk names.old names.new framed.now.body.now keeps walked.count walked.states.items) }
     ensures names { Grows names.old names.new }
 {
-    let count = body.code.len();
+    let count = framed.body.code.len();
     let mut states = room_for(alloc, keeps, count)?;
-    let mut state = match begin(alloc, &body.frames, numbers, entry)? {
+    let mut state = match begin(alloc, framed, entry)? {
         Some(first) => first,
         None => return Ok(Walked { count: 0, states }),
     };
     'walking: for at in 0..count {
         let copy = kept(alloc, keeps, &state)?;
-        state = match step(alloc, effects, body, numbers, state, at as u32, names)? {
+        state = match step(alloc, effects, framed, state, at as u32, names)? {
             Some(next) => next,
             None => return Ok(Walked { count: at, states }),
         };

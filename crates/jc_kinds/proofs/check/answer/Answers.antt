@@ -21,8 +21,8 @@ first_unguarded-requires-clause-small c =
 
 pub first_unguarded-requires-clause-states : goal.first_unguarded-requires-clause-states
 first_unguarded-requires-clause-states c =
-    kept_by_rows c.args.names.now c.walk_body.new.names c.args.body.now c.keeps_states.result c.in_ok-walked.walked.count c.in_ok-walked.walked.states.items c.deref-4.result.now c.deref-7.result.now
-    c.keeps_states.ensures.rows c.deref-4.ensures.value c.deref-7.ensures c.in_ok-walked.ensures.walk
+    kept_by_rows c.args.names.now c.walk_body.new.names c.args.body.now c.keeps_states.result c.in_ok-walked.walked.count c.in_ok-walked.walked.states.items c.deref-3.result.now
+    c.keeps_states.ensures.rows c.deref-3.ensures.value c.in_ok-walked.ensures.walk
 
 pub overflow_cast-place : goal.overflow_cast-place
 overflow_cast-place c = let few : length c.args.body.now.code ≤ 65535 = few_insns c.args.body.now c.requires.body in search rules
@@ -30,9 +30,8 @@ overflow_cast-place c = let few : length c.args.body.now.code ≤ 65535 = few_in
 pub returns-then-place-len-clause-answer : goal.returns-then-place-len-clause-answer
 returns-then-place-len-clause-answer c =
     let missing : IsNowhere (IsMissing c.args.body.now) = search rules in
-    let first = same_guard c.args.body.now c.in_ok-walked.walked.states.items c.deref-4.result.now c.deref-5.result.now c.deref-7.result.now
-    c.from-slots.result c.in_ok-walked.walked.count c.in_ok-place-2.place
-    c.deref-4.ensures.value c.deref-5.ensures c.deref-7.ensures c.from-slots.ensures c.in_ok-place-2.ensures in
+    let first = same_guard c.args.body.now c.in_ok-walked.walked.states.items c.deref-3.result.now c.in_ok-walked.walked.count c.in_ok-place-2.place
+    c.deref-3.ensures.value c.in_ok-place-2.ensures in
     subst (λ (e : Fail Refusal). Said e (IsKindRefusal c.walk_body.new.names c.args.body.now)) (sym c.refused-then-place-len.ensures)
     (clash_refused c.walk_body.new.names c.args.body.now c.in_ok-place-2.place
     (clash_answered_at c.args.names.now c.walk_body.new.names c.args.body.now c.keeps_states.result c.in_ok-walked.walked.count
@@ -42,9 +41,8 @@ returns-then-place-len-clause-answer c =
 pub returns-clause-answer : goal.returns-clause-answer
 returns-clause-answer c =
     let missing : IsNowhere (IsMissing c.args.body.now) = search rules in
-    let first = same_guard c.args.body.now c.in_ok-walked.walked.states.items c.deref-4.result.now c.deref-5.result.now c.deref-7.result.now
-    c.from-slots.result c.in_ok-walked.walked.count c.in_ok-place-2.place
-    c.deref-4.ensures.value c.deref-5.ensures c.deref-7.ensures c.from-slots.ensures c.in_ok-place-2.ensures in
+    let first = same_guard c.args.body.now c.in_ok-walked.walked.states.items c.deref-3.result.now c.in_ok-walked.walked.count c.in_ok-place-2.place
+    c.deref-3.ensures.value c.in_ok-place-2.ensures in
     let passed = states_answered_all c.args.names.now c.walk_body.new.names c.args.body.now c.keeps_states.result c.in_ok-walked.walked.count
     c.in_ok-walked.walked.states.items c.in_ok-place-2.place c.requires.body missing
     c.requires.frames c.in_ok-walked.ensures.walk c.keeps_states.ensures.rows first (search rules) in

@@ -15,14 +15,14 @@ walk_from old base new b keeps (Ok w) before grown walk = record { base = base; 
 walk_from old base new b keeps (Err e) before grown walk = tt
 
 pub walk-requires-clause-entry : goal.walk-requires-clause-entry
-walk-requires-clause-entry c = entry_on c.entry_of.new.names c.of.new.names c.args.body.now c.in_ok-entry.entry c.in_ok-effects.ensures.names c.in_ok-entry.ensures.state
+walk-requires-clause-entry c = entry_on c.entry_of.new.names c.of.new.names c.args.framed.now.body.now c.in_ok-entry.entry c.in_ok-effects.ensures.names c.in_ok-entry.ensures.state
 
 pub walk-requires-clause-frames : goal.walk-requires-clause-frames
 walk-requires-clause-frames c =
     let grown = grows_both c.args.names.now c.entry_of.new.names c.of.new.names c.in_ok-entry.ensures.names c.in_ok-effects.ensures.names in
-    frames_numbered (length c.args.names.now) (length c.of.new.names) c.args.body.now.frames (grown_count c.args.names.now c.of.new.names grown) c.requires.frames
+    frames_numbered (length c.args.names.now) (length c.of.new.names) c.args.framed.now.body.now.frames (grown_count c.args.names.now c.of.new.names grown) c.requires.frames
 
 pub returns-clause-walk : goal.returns-clause-walk
 returns-clause-walk c =
     let grown = grows_both c.args.names.now c.entry_of.new.names c.of.new.names c.in_ok-entry.ensures.names c.in_ok-effects.ensures.names in
-    walk_from c.args.names.now c.of.new.names c.walk.new.names c.args.body.now c.args.keeps c.walk.result grown c.walk.ensures.names c.walk.ensures.walk
+    walk_from c.args.names.now c.of.new.names c.walk.new.names c.args.framed.now.body.now c.args.keeps c.walk.result grown c.walk.ensures.names c.walk.ensures.walk

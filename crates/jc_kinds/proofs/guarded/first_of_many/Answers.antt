@@ -10,14 +10,14 @@ use Rattle.jc_kinds.proofs.GroupLaws.{all_rows_first}
 use Rattle.jc_kinds.proofs.guarded.first_of_many.Goals as goal
 
 pub slots-init : goal.slots-init
-slots-init c = no_slots c.args.states.now c.args.frames.now c.args.handlers.now (length c.args.states.now) c.args.uncaught c.requires.uncaught
+slots-init c = no_slots c.args.states.now c.args.framed.now.body.now.frames c.args.handlers.now (length c.args.states.now) c.args.uncaught c.requires.uncaught
 
 pub first_by_runs-requires-clause-groups : goal.first_by_runs-requires-clause-groups
 first_by_runs-requires-clause-groups c = subst (λ (l : List (Vec Handler)). All IsGroup (rows_of l)) (sym c.deref.ensures.value) c.in_ok-groups.ensures.each
 
 pub slots-preserved : goal.slots-preserved
 slots-preserved c =
-    let states = c.args.states.now in let frames = c.args.frames.now in let rows = c.args.handlers.now in
+    let states = c.args.states.now in let frames = c.args.framed.now.body.now.frames in let rows = c.args.handlers.now in
     let slot = c.slots.slot in let first = c.slots.first in let next = c.in_ok-first.first in let groups = c.in_ok-groups.groups.items in
     next_slot states frames rows slot (length states) first next c.slots.invariant
     (all_rows_first (column_of states slot) frames slot rows (rows_of groups) first next c.in_ok-groups.ensures
@@ -27,4 +27,4 @@ pub returns : goal.returns
 returns c =
     let states = c.args.states.now in
     let over : c.slots.slot ≡ c.args.slots = search rules in
-    subst (λ (slots : ℕ). IsFirstOrBound (IsUnguarded states c.args.frames.now c.args.handlers.now slots) (length states) c.slots.first) over c.slots.invariant
+    subst (λ (slots : ℕ). IsFirstOrBound (IsUnguarded states c.args.framed.now.body.now.frames c.args.handlers.now slots) (length states) c.slots.first) over c.slots.invariant

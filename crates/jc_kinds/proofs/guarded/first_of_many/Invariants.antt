@@ -5,4 +5,4 @@ use Rattle.jc_kinds.proofs.guarded.first_of_many.Given as goal
 
 -- the first place by the local variables so far
 abbrev pub invariant-slots : goal.invariant-slots
-invariant-slots l = IsFirstOrBound (IsUnguarded l.states l.frames l.handlers l.slot) (length l.states) l.first
+invariant-slots l = IsFirstOrBound (IsUnguarded l.states l.framed.body.now.frames l.handlers l.slot) (length l.states) l.first

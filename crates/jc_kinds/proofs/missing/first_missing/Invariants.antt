@@ -4,4 +4,4 @@ use Rattle.jc_kinds.proofs.missing.first_missing.Given as goal
 
 -- none is missing so far
 abbrev pub invariant-seeking : goal.invariant-seeking
-invariant-seeking l = (k : ℕ) → k < l.at → is_missing l.body k ≡ false
+invariant-seeking l = (k : ℕ) → k < l.at → is_missing l.framed.body.now k ≡ false

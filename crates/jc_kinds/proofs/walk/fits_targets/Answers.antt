@@ -7,5 +7,5 @@ use Rattle.jc_kinds.proofs.walk.fits_targets.Goals as goal
 
 pub returns-in_ok-places-in-Table : goal.returns-in_ok-places-in-Table
 returns-in_ok-places-in-Table c =
-    let test = fits_frame c.args.frames.now c.args.state.now in
+    let test = fits_frame c.args.framed.now.body.now.frames c.args.state.now in
     c.fits_frames.ensures ∙ ap (list_all test) (c.deref.ensures ∙ c.in_ok-places-in-Table.ensures) ∙ seen_all test (targets_of c.args.insn.now)

@@ -6,7 +6,7 @@ use Rattle.jc_kinds.proofs.walk.walk.Given as goal
 -- the states so far
 abbrev pub invariant-walking : goal.invariant-walking
 invariant-walking l = record {
-  walking : IsWalking l.fn.names l.names l.body l.keeps l.states.items l.at l.state;
+  walking : IsWalking l.fn.names l.names l.framed.body.now l.keeps l.states.items l.at l.state;
   effects : AreEffects l.names l.effects;
-  body : body_of l.effects ≡ l.body;
+  body : body_of l.effects ≡ l.framed.body.now;
 }
