@@ -2,10 +2,10 @@
 use Rattle.std.proofs.Common.{◌≡◌, ◌≢◌, ◌∙◌, ap, ap₂, sym, subst, refl, ℕ, ◌≤◌, Bool, true, false, ◌||◌, cond, List, [], ◌∷◌, ◌++◌, map, length, Option, Some, None, arith, codes, true≢false, ◌⊎◌, inl, inr, unwrap_or, if◌then◌else◌}
 use Rattle.std.proofs.lemmas.Slice.Eq.{bytes_eq-Decides}
 use Rattle.std.proofs.lemmas.List.{append-nil, length-map, length-append}
-use Rattle.std.specs.List.{flat_map, list_any, list_all}
-use Rattle.std.specs.Str.{bytes_eq}
 use Rattle.std.proofs.lemmas.Option.{same_Some}
 use Rattle.std.proofs.lemmas.Bool.{and_parts}
+use Rattle.std.specs.List.{flat_map, list_any, list_all}
+use Rattle.std.specs.Str.{bytes_eq}
 use Rattle.jc_command_words.specs.declared.name.CommandName.{CommandName}
 use Rattle.jc_command_words.specs.declared.name.CommandName.TheVariants.{Instrument, Run, Merge, Report, ExecInfo, ClassInfo, Cover}
 use Rattle.jc_command_words.specs.Words.{Word, Use, is_plain, use_words, tail_words, rest_words, value_of}
@@ -42,10 +42,10 @@ call_passes options s c = rw (c.known, distinct_passes (map (λ u. u.name) s.use
     some [] h = absurd (h refl)
     some (f ∷ fs) h = refl
 
-abbrev scan_of : Call → Scan
+abbrev pub scan_of : Call → Scan
 scan_of c = record { uses = c.uses; dash = c.dash; files = c.files }
 
-stated_holds : (c : Call) → is_stated c.name (scan_of c) ≡ true → IsStated c
+pub stated_holds : (c : Call) → is_stated c.name (scan_of c) ≡ true → IsStated c
 stated_holds c h =
     let a = and_parts (is_call (options_of c.name) (scan_of c)) _ h in
     let b = and_parts (are_relative c.name c.files) _ a.1 in
@@ -103,7 +103,7 @@ module _ (c : Call) where
       subst (IsCallOf c) (same_Some (cover dest plan destfile csv workers (unwrap_or (value_of c.uses (codes "name")) default_name) (map file_text c.files)) command e)
       (n, t, p, d, v, workers_are (value_of c.uses (codes "workers")) workers w, refl, refl)
 
-  call_of : (name : CommandName) (command : Called) → c.name ≡ name → command_with name (values_of c.uses c.files) ≡ Some command → IsCallOf c command
+  pub call_of : (name : CommandName) (command : Called) → c.name ≡ name → command_with name (values_of c.uses c.files) ≡ Some command → IsCallOf c command
   call_of Instrument command n e = by_instrument (value_of c.uses (codes "dest")) command refl n e
   call_of Run command n e =
       by_run (value_of c.uses (codes "plan")) (value_of c.uses (codes "destfile")) (workers_in (value_of c.uses (codes "workers"))) command refl refl refl n e
@@ -150,7 +150,7 @@ name_is word name e = first (bytes_eq word (codes "instrument")) (bytes_eq word 
     first false false false false false false true p q r s t u v e = is (codes "cover") Cover v refl e
     first false false false false false false false p q r s t u v e = absurd cc
 
-name_found : (name : CommandName) → named (text_of name) ≡ Some name
+pub name_found : (name : CommandName) → named (text_of name) ≡ Some name
 name_found Instrument = refl
 name_found Run = refl
 name_found Merge = refl
@@ -185,7 +185,7 @@ known_names options all (u ∷ us) h =
 
 -- ---- words that were cut
 
-scan_of_call : (c : Call) → IsCall (options_of c.name) c.uses c.files → scan None (rest_words c.uses c.dash c.files) ≡ Some (scan_of c)
+pub scan_of_call : (c : Call) → IsCall (options_of c.name) c.uses c.files → scan None (rest_words c.uses c.dash c.files) ≡ Some (scan_of c)
 scan_of_call c call = by c.files refl
   where
     by : (files : List Word) → c.files ≡ files → scan None (rest_words c.uses c.dash c.files) ≡ Some (scan_of c)
@@ -256,7 +256,17 @@ sample_is Cover s n e = by s.uses s.dash s.files refl refl refl e
         let same : u ≡ sample_use u.joined u.value = ap (λ (name : Word). record { name = name; value = u.value; joined = u.joined }) h.0 in
         (u.joined, u.value, refl, same_scan s (sample_use u.joined u.value) (p ∙ ap (λ (v : Use). v ∷ []) same) q r, number_is 1000 u.value n h.1)
 
-pub decided : (words : List Word) (command : Called) → command_of words ≡ Some command → Means words command
+pub sample_means : (name : CommandName) (s : Scan) (n : ℕ) → sample_in name s ≡ Some n
+    → Means (text_of name ∷ rest_words s.uses s.dash s.files) (cover_sample n)
+sample_means name s n e =
+    let t = sample_is name s n e in
+    let u = sample_use t.0 t.1 in
+    by_sample t.0 t.1 n
+    (ap₂ (λ (x : Word) (l : List Word). x ∷ l) (ap text_of t.2)
+    (ap (λ z. rest_words z.uses z.dash z.files) t.3 ∙ append-nil (use_words u ++ []) ∙ append-nil (use_words u)))
+    t.4 refl
+
+decided : (words : List Word) (command : Called) → command_of words ≡ Some command → Means words command
 decided [] command e = absurd cc
 decided (first ∷ rest) command e = by (named first) (scan None rest) refl refl e
   where
@@ -271,11 +281,8 @@ decided (first ∷ rest) command e = by (named first) (scan None rest) refl refl
         → decide_sample o name s ≡ Some command → Means (first ∷ rest) command
     decide name s p q None h e = stated name s p q (is_stated name s) refl e
     decide name s p q (Some n) h e =
-        let t = sample_is name s n h in
-        by_sample t.0 t.1 n
-        (ap₂ (λ (x : Word) (l : List Word). x ∷ l) (p ∙ ap text_of t.2)
-        (q ∙ ap (λ z. rest_words z.uses z.dash z.files) t.3 ∙ append-nil (use_words (sample_use t.0 t.1) ++ []) ∙ append-nil (use_words (sample_use t.0 t.1))))
-        t.4 (sym (same_Some (cover_sample n) command e))
+        subst (λ c. Means (first ∷ rest) c) (same_Some (cover_sample n) command e)
+        (subst (λ w. Means w (cover_sample n)) (sym (ap₂ (λ (x : Word) (l : List Word). x ∷ l) p q)) (sample_means name s n h))
 
     by : (name : Option CommandName) (s : Option Scan) → named first ≡ name → scan None rest ≡ s → decide_named name s ≡ Some command → Means (first ∷ rest) command
     by None s p q e = absurd cc
@@ -328,27 +335,17 @@ few_files words command (by_sample joined value n spelled number is) = let none 
 
 -- ---- words behind a name
 
-module _ (W : List Word) (first : Word) (rest : List Word) (name : CommandName) (parts : W ≡ first ∷ rest) (is : named first ≡ Some name) where
-  pub never_cut : scan None rest ≡ None → NoForm W
-  never_cut none = no_form W (ap command_of parts ∙ ap₂ decide_named is none)
+module _ (W : List Word) (first : Word) (rest : List Word) (name : CommandName) (parts : W ≡ first ∷ rest) (is : named first ≡ Some name)
+    (s : Scan) (cut : scan None rest ≡ Some s) where
+  as_decided : command_of W ≡ decide_sample (sample_in name s) name s
+  as_decided = ap command_of parts ∙ ap₂ decide_named is cut
 
-  module _ (s : Scan) (cut : scan None rest ≡ Some s) where
-    as_decided : command_of W ≡ decide_sample (sample_in name s) name s
-    as_decided = ap command_of parts ∙ ap₂ decide_named is cut
+  pub never_stated : sample_in name s ≡ None → is_stated name s ≡ false → NoForm W
+  never_stated none not_stated =
+      no_form W (as_decided ∙ ap (λ (o : Option ℕ). decide_sample o name s) none
+      ∙ ap (λ (b : Bool). cond b (command_with name (values_of s.uses s.files)) None) not_stated)
 
-    pub means_sample : (n : ℕ) → sample_in name s ≡ Some n → Means W (cover_sample n)
-    means_sample n sample = decided W (cover_sample n) (as_decided ∙ ap (λ (o : Option ℕ). decide_sample o name s) sample)
-
-    pub never_stated : sample_in name s ≡ None → is_stated name s ≡ false → NoForm W
-    never_stated none not_stated =
-        no_form W (as_decided ∙ ap (λ (o : Option ℕ). decide_sample o name s) none ∙ ap (λ (b : Bool). cond b (command_with name (values_of s.uses s.files)) None) not_stated)
-
-    with_command : sample_in name s ≡ None → is_stated name s ≡ true → command_of W ≡ command_with name (values_of s.uses s.files)
-    with_command none stated =
-        as_decided ∙ ap (λ (o : Option ℕ). decide_sample o name s) none ∙ ap (λ (b : Bool). cond b (command_with name (values_of s.uses s.files)) None) stated
-
-    pub means_command : (command : Called) → sample_in name s ≡ None → is_stated name s ≡ true → command_with name (values_of s.uses s.files) ≡ Some command → Means W command
-    means_command command none stated made = decided W command (with_command none stated ∙ made)
-
-    pub no_command : sample_in name s ≡ None → is_stated name s ≡ true → command_with name (values_of s.uses s.files) ≡ None → NoForm W
-    no_command none stated lacks = no_form W (with_command none stated ∙ lacks)
+  pub no_command : sample_in name s ≡ None → is_stated name s ≡ true → command_with name (values_of s.uses s.files) ≡ None → NoForm W
+  no_command none stated lacks =
+      no_form W (as_decided ∙ ap (λ (o : Option ℕ). decide_sample o name s) none
+      ∙ ap (λ (b : Bool). cond b (command_with name (values_of s.uses s.files)) None) stated ∙ lacks)

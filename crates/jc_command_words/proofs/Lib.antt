@@ -5,5 +5,6 @@ pub mod FormLaws
 pub mod NumberLaws
 pub mod CommandLaws
 pub mod WalkLaws
+pub mod SpelledLaws
 pub mod ReaderLaws
 pub mod ReadLaws

@@ -1,68 +1,40 @@
 -- What clap finds in the words of a call, and that it takes the words of each command.
-use Rattle.std.proofs.Common.{◌≡◌, ◌∙◌, ap, ap₂, sym, subst, refl, ℕ, ◌<◌, ◌^◌, Bool, true, false, ◌&&◌, ◌||◌, List, [], ◌∷◌, ◌++◌, length, Option, Some, None, option_map, unwrap_or, codes, cond, ◌==◌}
+use Rattle.std.proofs.Common.{◌≡◌, ◌∙◌, ap, ap₂, sym, subst, refl, ℕ, ◌<◌, ◌^◌, Bool, true, false, ◌&&◌, ◌||◌, List, [], ◌∷◌, ◌++◌, length, Option, Some, None, option_map, codes, cond, ◌==◌}
 use Rattle.std.proofs.lemmas.Bool.{not-false, and_parts}
 use Rattle.std.proofs.lemmas.Bool.Decides.{Decides-eqb}
+use Rattle.std.proofs.lemmas.List.{append-nil}
 use Rattle.std.proofs.lemmas.Slice.Eq.{bytes_eq-Decides}
+use Rattle.std.proofs.lemmas.Option.{same_Some}
 use Rattle.std.specs.List.{list_all, list_any, IsDistinct}
 use Rattle.std.specs.Str.{bytes_eq}
 use Rattle.std.specs.Borrow.{Bor}
 use Rattle.std.specs.Option.{IsSome}
-use Rattle.clap.specs.Walk.{all_of, first_of, rows_of}
-use Rattle.clap.specs.Matches.{first_value, found_of}
+use Rattle.clap.specs.Walk.{rows_of}
+use Rattle.clap.specs.Matches.{found_of}
 use Rattle.clap.specs.Simple.{HasMatchesOf, subcommand_rows_of}
 use Rattle.clap.specs.Takes.{takes}
 use Rattle.clap.specs.Words.{app_of}
 use Rattle.clap.specs.declared.builder.command.Command.{Command}
 use Rattle.clap.specs.declared.parser.matches.ArgMatches.{ArgMatches}
-use Rattle.clap.specs.declared.parser.matches.Found.{Found}
-use Rattle.clap.proofs.WalkLemmas.{first_value-rows, raw_values-rows}
 use Rattle.jc_command_words.specs.declared.name.CommandName.{CommandName}
 use Rattle.jc_command_words.specs.declared.name.CommandName.TheVariants.{Instrument, Run, Merge, Report, ExecInfo, ClassInfo, Cover}
-use Rattle.jc_command_words.specs.Words.{Word, Use, is_plain, rest_words, value_of}
+use Rattle.jc_command_words.specs.Words.{Word, Use, is_plain, use_words, rest_words, value_of}
 use Rattle.jc_command_words.specs.Forms.{IsCall, Call, named, text_of, options_of}
 use Rattle.jc_command_words.specs.Scan.{Scan, scan}
+use Rattle.jc_command_words.specs.Spelled.{options_found, spelled}
 use Rattle.jc_command_words.specs.Numbers.{number_up_to}
-use Rattle.jc_command_words.specs.Decide.{Values, values_of, is_call, is_stated, sample_of, sample_in, is_sample_of, is_sample, methods_in, command_with}
+use Rattle.jc_command_words.specs.Decide.{values_of, is_call, is_stated, sample_of, sample_in, is_sample_of, is_sample, methods_in, command_with}
 use Rattle.jc_command_words.specs.Taken.{IsTaken, taken_options}
-use Rattle.jc_command_words.specs.Reads.{AreAccepted, HasFound, TakenCall, values_found}
+use Rattle.jc_command_words.specs.Reads.{AreAccepted, CallCut, HasFound, TakenCall}
 use Rattle.jc_command_words.specs.Reader.{jcov_app}
-use Rattle.jc_command_words.specs.Commands.{Called, cover_sample, Means, NoForm}
+use Rattle.jc_command_words.specs.Commands.{Called, cover_sample, Means, by_call, by_sample, NoForm, sample_use}
 use Rattle.jc_command_words.proofs.BoolLaws.{both_true}
-use Rattle.jc_command_words.proofs.ScanLaws.{SpellsIf, scan_spells}
-use Rattle.jc_command_words.proofs.CommandLaws.{call_holds, name_is, means_command, means_sample, never_stated, no_command}
+use Rattle.jc_command_words.proofs.NumberLaws.{number_found}
+use Rattle.jc_command_words.proofs.ScanLaws.{SpellsIf, scan_ends}
+use Rattle.jc_command_words.proofs.SpelledLaws.{options_are, spelled_finds, spelled_spells}
+use Rattle.jc_command_words.proofs.CommandLaws.{call_holds, call_of, name_found, name_is, never_stated, no_command, sample_means, scan_of, scan_of_call, stated_holds}
 use Rattle.jc_command_words.proofs.WalkLaws.{call_rows}
-use Rattle.jc_command_words.proofs.ReaderLaws.{Read, files_if_any, inner_rows, inner_some, words_read}
-
--- ---- what was found
-
-same_values : (v w : Values) → v.dest ≡ w.dest → v.plan ≡ w.plan → v.destfile ≡ w.destfile → v.csv ≡ w.csv → v.workers ≡ w.workers → v.name ≡ w.name
-    → v.exec ≡ w.exec → v.sample ≡ w.sample → v.files ≡ w.files → v ≡ w
-same_values v w a b c d e f g h i =
-    ap (λ (x : Option Word). record v { dest = x }) a
-    ∙ ap (λ (x : Option Word). record v { dest = w.dest; plan = x }) b
-    ∙ ap (λ (x : Option Word). record v { dest = w.dest; plan = w.plan; destfile = x }) c
-    ∙ ap (λ (x : Option Word). record v { dest = w.dest; plan = w.plan; destfile = w.destfile; csv = x }) d
-    ∙ ap (λ (x : Option Word). record v { dest = w.dest; plan = w.plan; destfile = w.destfile; csv = w.csv; workers = x }) e
-    ∙ ap (λ (x : Option Word). record v { dest = w.dest; plan = w.plan; destfile = w.destfile; csv = w.csv; workers = w.workers; name = x }) f
-    ∙ ap (λ (x : Option Word). record w { exec = x; sample = v.sample; files = v.files }) g
-    ∙ ap (λ (x : Option Word). record w { sample = x; files = v.files }) h
-    ∙ ap (λ (x : List Word). record w { files = x }) i
-
-files_or_none : (files : List Word) → unwrap_or (files_if_any files) [] ≡ files
-files_or_none [] = refl
-files_or_none (f ∷ fs) = refl
-
-pub found_values : (f : Found) (words : List Word) (name : CommandName) (uses : List Use) (files : List Word) → Read words name uses files → rows_of f ≡ call_rows uses files
-    → values_found f ≡ values_of uses files
-found_values f words name uses files r rows =
-    let at : (id : Word) → bytes_eq (codes "FILE") id ≡ false → first_value f id ≡ value_of uses id = λ id other. first_value-rows f id ∙ ap (first_of id) rows ∙ r.values id other in
-    same_values (values_found f) (values_of uses files)
-    (at (codes "dest") refl) (at (codes "plan") refl) (at (codes "destfile") refl) (at (codes "csv") refl) (at (codes "workers") refl)
-    (at (codes "name") refl) (at (codes "exec") refl) (at (codes "sample") refl)
-    (ap (λ (o : Option (List Word)). unwrap_or o []) (raw_values-rows f (codes "FILE") ∙ ap (all_of (codes "FILE")) rows ∙ r.given) ∙ files_or_none files)
-
-pub read_of : (words : List Word) (c : Call) → length words < 2 ^ 32 → TakenCall words c → Read words c.name c.uses c.files
-read_of words c short taken = words_read words c.name c.uses c.dash c.files short taken.0 taken.1
+use Rattle.jc_command_words.proofs.ReaderLaws.{Read, inner_rows, inner_some, words_read}
 
 -- ---- clap is asked for words that it takes
 
@@ -162,51 +134,64 @@ none_stated name s none = by (is_stated name s) refl
     by true h = absurd ((call_holds (options_of name) s (and_parts (is_call (options_of name) s) _ h).0).some_file none)
     by false h = refl
 
--- ---- words behind a name
+plain_number : (most : ℕ) (text : Word) (n : ℕ) → number_up_to most text ≡ Some n → is_plain text ≡ true
+plain_number most text n e = by (is_plain text) refl
+  where
+    by : (b : Bool) → is_plain text ≡ b → b ≡ true
+    by true h = refl
+    by false h = let none = sym (no_number most text h) ∙ e in cc
 
-module _ (W : List Word) (first : Word) (rest : List Word) (name : CommandName) (parts : W ≡ first ∷ rest) (is : named first ≡ Some name) (s : Scan) (cut : scan None rest ≡ Some s) where
-  spelled : W ≡ text_of name ∷ rest_words s.uses s.dash s.files
-  spelled = parts ∙ ap₂ (λ (x : Word) (l : List Word). x ∷ l) (name_is first name is) (subst (λ o. SpellsIf o rest) cut (scan_spells None rest))
+-- the words are a call's, which clap takes and of which a scan finds the parts
+taken_of : (W : List Word) (command : Called) → Means W command
+    → (c : Call) × TakenCall W c × (scan None (rest_words c.uses c.dash c.files) ≡ Some (scan_of c))
+taken_of W command (by_call c spelled stated is) = (c, (spelled, call_taken c.name c.uses c.files stated.form), scan_of_call c stated.form)
+taken_of W command (by_sample joined value n spelled number is) =
+    let u = sample_use joined value in
+    let words = append-nil (use_words u ++ []) in
+    let c : Call = record { name = Cover; uses = u ∷ []; dash = false; files = [] } in (
+      c,
+      (
+        spelled ∙ ap (λ (l : List Word). codes "cover" ∷ l) (sym (words ∙ append-nil (use_words u))),
+        sample_alone u refl (plain_number 1000 value n (number_found 1000 value n number)),
+      ),
+      ap (scan None) words ∙ scan_ends u refl,
+    )
 
-  abbrev the_call : Call
-  the_call = record { name = name; uses = s.uses; dash = s.dash; files = s.files }
+pub uncut : (W : List Word) → ((c : Call) → TakenCall W c → ⊥) → NoForm W
+uncut W none = λ command means. let t = taken_of W command means in none t.0 t.1
 
-  sample_call : is_sample name s ≡ true → TakenCall W the_call
-  sample_call h = (spelled, (alone name s h).taken)
+-- ---- the words of one call alone
 
-  stated_call : is_stated name s ≡ true → TakenCall W the_call
-  stated_call h = (spelled, call_taken name s.uses s.files (call_holds (options_of name) s (and_parts (is_call (options_of name) s) _ h).0))
+module _ (W : List Word) (c : Call) (cut : CallCut W (Some c)) where
+  means_cut : (command : Called) → Means W command → scan None (rest_words c.uses c.dash c.files) ≡ Some (scan_of c)
+  means_cut command means =
+      let t = taken_of W command means in
+      subst (λ (d : Call). scan None (rest_words d.uses d.dash d.files) ≡ Some (scan_of d)) (cut.1 t.0 t.1) t.2
 
-  pub sample_taken : is_sample name s ≡ true → (c : Call) × TakenCall W c
-  sample_taken h = (the_call, sample_call h)
+  not_stated : sample_in c.name (scan_of c) ≡ None → is_stated c.name (scan_of c) ≡ false → NoForm W
+  not_stated none h = λ command means.
+      never_stated W (text_of c.name) (rest_words c.uses c.dash c.files) c.name cut.0 (name_found c.name) (scan_of c) (means_cut command means) none h command means
 
-  pub stated_taken : is_stated name s ≡ true → (c : Call) × TakenCall W c
-  stated_taken h = (the_call, stated_call h)
+  pub means_sample : (n : ℕ) → is_sample c.name (scan_of c) ≡ true → methods_in (value_of c.uses (codes "sample")) ≡ Some n → Means W (cover_sample n)
+  means_sample n h e = subst (λ w. Means w (cover_sample n)) (sym cut.0) (sample_means c.name (scan_of c) n ((alone c.name (scan_of c) h).number ∙ e))
 
-  -- what was given, of a sample
-  module _ (given : Values) (gives : (c : Call) → TakenCall W c → given ≡ values_of c.uses c.files) where
-    pub means_given_sample : (n : ℕ) → is_sample name s ≡ true → methods_in given.sample ≡ Some n → Means W (cover_sample n)
-    means_given_sample n h e =
-        means_sample W first rest name parts is s cut n
-        ((alone name s h).number ∙ ap methods_in (sym (ap (λ (v : Values). v.sample) (gives the_call (sample_call h)))) ∙ e)
+  pub no_sample_number : is_sample c.name (scan_of c) ≡ true → methods_in (value_of c.uses (codes "sample")) ≡ None → NoForm W
+  no_sample_number h e =
+      let one = alone c.name (scan_of c) h in
+      not_stated (one.number ∙ e) (none_stated c.name (scan_of c) one.no_file)
 
-    pub no_given_sample : is_sample name s ≡ true → methods_in given.sample ≡ None → NoForm W
-    no_given_sample h e =
-        never_stated W first rest name parts is s cut
-        ((alone name s h).number ∙ ap methods_in (sym (ap (λ (v : Values). v.sample) (gives the_call (sample_call h)))) ∙ e) (none_stated name s (alone name s h).no_file)
+  pub means_call : (command : Called) → is_stated c.name (scan_of c) ≡ true → command_with c.name (values_of c.uses c.files) ≡ Some command → Means W command
+  means_call command h e = by_call c cut.0 (stated_holds c h) (call_of c c.name command refl e)
 
-    pub means_given : (command : Called) → is_sample name s ≡ false → is_stated name s ≡ true → command_with name given ≡ Some command → Means W command
-    means_given command none h e =
-        means_command W first rest name parts is s cut command (not_alone name s none) h (ap (command_with name) (sym (gives the_call (stated_call h))) ∙ e)
+  pub no_call : is_sample c.name (scan_of c) ≡ false → is_stated c.name (scan_of c) ≡ true → command_with c.name (values_of c.uses c.files) ≡ None → NoForm W
+  no_call none h e = λ command means.
+      no_command W (text_of c.name) (rest_words c.uses c.dash c.files) c.name cut.0 (name_found c.name) (scan_of c) (means_cut command means)
+      (not_alone c.name (scan_of c) none) h e command means
 
-    pub none_given : is_sample name s ≡ false → is_stated name s ≡ true → command_with name given ≡ None → NoForm W
-    none_given none h e =
-        no_command W first rest name parts is s cut (not_alone name s none) h (ap (command_with name) (sym (gives the_call (stated_call h))) ∙ e)
+  pub unstated : is_sample c.name (scan_of c) ≡ false → is_stated c.name (scan_of c) ≡ false → NoForm W
+  unstated none h = not_stated (not_alone c.name (scan_of c) none) h
 
-  pub unstated : is_sample name s ≡ false → is_stated name s ≡ false → NoForm W
-  unstated none h = never_stated W first rest name parts is s cut (not_alone name s none) h
-
--- ---- clap takes them, and finds what was given
+-- ---- what clap finds in the words of a call
 
 pub has_found : (c : Command) (words : List Word) (m : ArgMatches) → app_of c ≡ jcov_app → HasMatchesOf (app_of c) words m → HasFound words m
 unfolding HasFound
@@ -217,18 +202,55 @@ unfolding AreAccepted
 takes_them c words e h = subst (λ a. takes a words ≡ true) (sym e) h
 
 module _ (words : List Word) (c : Call) (short : length words < 2 ^ 32) (taken : TakenCall words c) where
+  read_of : Read words c.name c.uses c.files
+  read_of = words_read words c.name c.uses c.dash c.files short taken.0 taken.1
+
   pub are_accepted : AreAccepted words
   unfolding AreAccepted
-  are_accepted = (read_of words c short taken).takes_all
+  are_accepted = read_of.takes_all
 
   module _ (m : ArgMatches) (o : Option (Bor Word × Bor ArgMatches)) (has : HasFound words m)
       (lends : option_map (λ p. rows_of (found_of p.1.now)) o ≡ option_map (λ p. p.1) (subcommand_rows_of m)) where
-    pub is_found : IsSome o
+    is_found : IsSome o
     unfolding HasFound
-    is_found = inner_some m words (text_of c.name) (call_rows c.uses c.files) o has (read_of words c short taken).subcommand lends
+    is_found = inner_some m words (text_of c.name) (call_rows c.uses c.files) o has read_of.subcommand lends
 
-    pub gives_values : (x : Bor Word × Bor ArgMatches) → o ≡ Some x → values_found (found_of x.1.now) ≡ values_of c.uses c.files
+    pub no_subcommand : o ≡ None → ⊥
+    no_subcommand none = let some = subst (λ o. IsSome o) none is_found in cc
+
+    spelled_is : (x : Bor Word × Bor ArgMatches) → o ≡ Some x
+        → spelled (options_found (found_of x.1.now)) (rest_words c.uses c.dash c.files) ≡ Some (scan_of c)
     unfolding HasFound
-    gives_values x e =
-        found_values (found_of x.1.now) words c.name c.uses c.files (read_of words c short taken)
-        (inner_rows m words (text_of c.name) (call_rows c.uses c.files) o x has (read_of words c short taken).subcommand lends e)
+    spelled_is x e =
+        let rows = inner_rows m words (text_of c.name) (call_rows c.uses c.files) o x has read_of.subcommand lends e in
+        ap (λ options. spelled options (rest_words c.uses c.dash c.files)) (options_are (found_of x.1.now) c.uses c.files rows read_of.no_file taken.1.once)
+        ∙ spelled_finds c.uses c.dash c.files taken.1.plain_files
+
+cons_parts : {X : Type 0} (x y : X) (xs ys : List X) → x ∷ xs ≡ y ∷ ys → (x ≡ y) × (xs ≡ ys)
+cons_parts x y xs ys e = (cc, cc)
+
+-- words of which clap finds a subcommand's
+module _ (W : List Word) (first : Word) (rest : List Word) (parts : W ≡ first ∷ rest) (short : length W < 2 ^ 32)
+    (m : ArgMatches) (o : Option (Bor Word × Bor ArgMatches)) (has : HasFound W m)
+    (lends : option_map (λ p. rows_of (found_of p.1.now)) o ≡ option_map (λ p. p.1) (subcommand_rows_of m))
+    (x : Bor Word × Bor ArgMatches) (is : o ≡ Some x) where
+  rest_is : (c : Call) → TakenCall W c → spelled (options_found (found_of x.1.now)) rest ≡ Some (scan_of c)
+  rest_is c taken =
+      let p = cons_parts first (text_of c.name) rest (rest_words c.uses c.dash c.files) (sym parts ∙ taken.0) in
+      ap (spelled (options_found (found_of x.1.now))) p.1 ∙ spelled_is W c short taken m o has lends x is
+
+  pub not_spelled : spelled (options_found (found_of x.1.now)) rest ≡ None → (c : Call) → TakenCall W c → ⊥
+  not_spelled none c taken = let some = sym none ∙ rest_is c taken in cc
+
+  pub call_cut : (name : CommandName) (s : Scan) → named first ≡ Some name → spelled (options_found (found_of x.1.now)) rest ≡ Some s
+      → CallCut W (Some (record { name = name; uses = s.uses; dash = s.dash; files = s.files }))
+  call_cut name s is_name cut =
+      let spells = subst (λ o. SpellsIf o rest) cut (spelled_spells (options_found (found_of x.1.now)) rest) in
+      (parts ∙ ap₂ (λ (x : Word) (l : List Word). x ∷ l) (name_is first name is_name) spells, only)
+    where
+      only : (d : Call) → TakenCall W d → d ≡ record { name = name; uses = s.uses; dash = s.dash; files = s.files }
+      only d taken =
+          let p = cons_parts first (text_of d.name) rest (rest_words d.uses d.dash d.files) (sym parts ∙ taken.0) in
+          let same = same_Some d.name name (sym (ap named p.0 ∙ name_found d.name) ∙ is_name) in
+          let parts_same = same_Some (scan_of d) s (sym (rest_is d taken) ∙ cut) in
+          ap₂ (λ (n : CommandName) (z : Scan). record { name = n; uses = z.uses; dash = z.dash; files = z.files }) same parts_same

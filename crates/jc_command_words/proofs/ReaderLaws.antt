@@ -2,27 +2,28 @@
 use Rattle.std.proofs.Common.{◌≡◌, ◌∙◌, ap, ap₂, sym, subst, refl, ℕ, ◌≤◌, ◌<◌, ◌^◌, zero, suc, Bool, true, false, ◌&&◌, ◌||◌, List, [], ◌∷◌, ◌++◌, map, length, Option, Some, None, if◌then◌else◌, arith, append_assoc, codes, find, option_map, nat_le, is_some, length-append}
 use Rattle.std.proofs.lemmas.List.{append-nil}
 use Rattle.std.proofs.lemmas.Slice.Eq.{bytes_eq-Decides}
-use Rattle.std.proofs.lemmas.Bool.Decides.{nat_tests}
+use Rattle.std.proofs.lemmas.Bool.Decides.{Decides-eqb, nat_tests}
+use Rattle.std.proofs.lemmas.Bool.{and_parts}
 use Rattle.std.specs.List.{fold, flat_map, list_all, list_any, AllByRecursion, IsDistinct}
 use Rattle.std.specs.Str.{bytes_eq}
 use Rattle.std.specs.Borrow.{Bor}
 use Rattle.std.specs.Option.{option_map_or, IsSome}
-use Rattle.std.proofs.lemmas.Bool.{and_parts}
-use Rattle.clap.specs.Lexer.{usize_max}
-use Rattle.clap.specs.Walk.{Row, Rule, Text, Walk, Names, all_of, answers_to, finished, first_of, has_row, nothing_held, rows_of, walked, walk_from}
+use Rattle.clap.specs.Lexer.{long_of, usize_max}
+use Rattle.clap.specs.Walk.{Row, Rule, Text, Walk, Names, answers_to, arg_by_id, arg_by_index, arg_by_long, default_rows, finished, has_row, is_empty, nothing_held, reading_by, rows_of, walked, walk_from, with_default}
 use Rattle.clap.specs.Simple.{App, Shape, HasMatchesOf, built, entered, rows_at, label_of, names_of, new_shape, subcommand_of, subcommand_rows_of}
 use Rattle.clap.specs.Takes.{default_passes, entered_passes, is_valid, level_passes, settle_passes, takes, walk_passes}
 use Rattle.clap.specs.Matches.{found_of}
+use Rattle.clap.specs.declared.builder.value_parser.Reading.{Reading}
 use Rattle.clap.specs.declared.parser.matches.ArgMatches.{ArgMatches}
 use Rattle.clap.proofs.OnLiterals.{clap_on_literals}
 use Rattle.jc_command_words.specs.declared.name.CommandName.{CommandName}
 use Rattle.jc_command_words.specs.declared.name.CommandName.TheVariants.{Instrument, Run, Merge, Report, ExecInfo, ClassInfo, Cover}
-use Rattle.jc_command_words.specs.Words.{Use, Word, tail_words, use_words, is_plain, rest_words, value_of}
+use Rattle.jc_command_words.specs.Words.{Use, Word, tail_words, use_words, is_plain, rest_words}
 use Rattle.jc_command_words.specs.Forms.{text_of}
 use Rattle.jc_command_words.specs.Reader.{jcov_app}
 use Rattle.jc_command_words.specs.Taken.{IsTaken, taken_options}
 use Rattle.jc_command_words.proofs.BoolLaws.{both_true, either-false}
-use Rattle.jc_command_words.proofs.WalkLaws.{IsOption, IsReader, GoodUses, AllPlain, at, call_rows, file_rows, file_fresh, level_rows, level_takes, passes-append_at, row_of_use}
+use Rattle.jc_command_words.proofs.WalkLaws.{IsOption, IsReader, GoodUses, AllPlain, at, call_rows, fil, file_fresh, level_rows, level_takes, opt, passes-append_at, row_of_use}
 
 -- ---- the commands, as they are read
 
@@ -50,138 +51,101 @@ no_choice : (b : Bool) (rows : List Row) → (if b then rows else rows) ≡ rows
 no_choice true rows = refl
 no_choice false rows = refl
 
-instrument_reader : IsReader (shape_of Instrument)
-instrument_reader = record {
-  again = refl;
-  by_index = refl;
-  by_id = refl;
-  defaults = refl;
-  no_default = λ rows. rw (no_choice, no_choice) refl;
-  valid = λ rows. refl;
-}
+no_default : (id : Text) (how : Reading) (values : List Text) (rows : List Row) → is_empty values ≡ true
+    → (if has_row id rows then rows else default_rows id how values rows) ≡ rows
+no_default id how [] rows h = no_choice (has_row id rows) rows
+no_default id how (v ∷ vs) rows h = let none = (Decides-eqb (length (v ∷ vs)) 0).0 h in absurd (omega (arith, none))
 
-run_reader : IsReader (shape_of Run)
-run_reader = record {
-  again = refl;
-  by_index = refl;
-  by_id = refl;
-  defaults = refl;
-  no_default = λ rows. rw (no_choice, no_choice, no_choice, no_choice) refl;
-  valid = λ rows. refl;
-}
+no_defaults : (rules : List Rule) → list_all (λ a. is_empty a.defaults) rules ≡ true → (rows : List Row) → fold with_default rows rules ≡ rows
+no_defaults [] h rows = refl
+no_defaults (a ∷ rules) h rows =
+    let p = and_parts (is_empty a.defaults) (list_all (λ a. is_empty a.defaults) rules) h in
+    ap (λ rows. fold with_default rows rules) (no_default a.id (reading_by a) a.defaults rows p.0) ∙ no_defaults rules p.1 rows
 
-merge_reader : IsReader (shape_of Merge)
-merge_reader = record {
-  again = refl;
-  by_index = refl;
-  by_id = refl;
-  defaults = refl;
-  no_default = λ rows. rw (no_choice, no_choice) refl;
-  valid = λ rows. refl;
-}
-
-report_reader : IsReader (shape_of Report)
-report_reader = record {
-  again = refl;
-  by_index = refl;
-  by_id = refl;
-  defaults = refl;
-  no_default = λ rows. rw (no_choice, no_choice, no_choice, no_choice) refl;
-  valid = λ rows. refl;
-}
-
-exec_info_reader : IsReader (shape_of ExecInfo)
-exec_info_reader = record {
-  again = refl;
-  by_index = refl;
-  by_id = refl;
-  defaults = refl;
-  no_default = λ rows. rw no_choice refl;
-  valid = λ rows. refl;
-}
-
-class_info_reader : IsReader (shape_of ClassInfo)
-class_info_reader = record {
-  again = refl;
-  by_index = refl;
-  by_id = refl;
-  defaults = refl;
-  no_default = λ rows. rw no_choice refl;
-  valid = λ rows. refl;
-}
-
-cover_reader : IsReader (shape_of Cover)
-cover_reader = record {
-  again = refl;
-  by_index = refl;
-  by_id = refl;
-  defaults = refl;
-  no_default = λ rows. rw (no_choice, no_choice, no_choice, no_choice, no_choice, no_choice, no_choice, no_choice) refl;
-  valid = λ rows. refl;
+reads : (s : Shape) → s.args_override_self ≡ false → arg_by_index s.rules 1 ≡ Some fil → arg_by_id s.rules (codes "FILE") ≡ Some fil
+    → list_all default_passes s.rules ≡ true → list_all (λ a. is_empty a.defaults) s.rules ≡ true
+    → ((rows : List Row) → is_valid s rows false ≡ true) → IsReader s
+reads s again by_index by_id passes none valid = record {
+  again = again;
+  by_index = by_index;
+  by_id = by_id;
+  defaults = passes;
+  no_default = no_defaults s.rules none;
+  valid = valid;
 }
 
 pub reader_of : (name : CommandName) → IsReader (shape_of name)
-reader_of Instrument = instrument_reader
-reader_of Run = run_reader
-reader_of Merge = merge_reader
-reader_of Report = report_reader
-reader_of ExecInfo = exec_info_reader
-reader_of ClassInfo = class_info_reader
-reader_of Cover = cover_reader
+reader_of Instrument = reads (shape_of Instrument) refl refl refl refl refl (λ rows. refl)
+reader_of Run = reads (shape_of Run) refl refl refl refl refl (λ rows. refl)
+reader_of Merge = reads (shape_of Merge) refl refl refl refl refl (λ rows. refl)
+reader_of Report = reads (shape_of Report) refl refl refl refl refl (λ rows. refl)
+reader_of ExecInfo = reads (shape_of ExecInfo) refl refl refl refl refl (λ rows. refl)
+reader_of ClassInfo = reads (shape_of ClassInfo) refl refl refl refl refl (λ rows. refl)
+reader_of Cover = reads (shape_of Cover) refl refl refl refl refl (λ rows. refl)
 
-instrument_dest : IsOption (shape_of Instrument).rules (codes "dest")
-instrument_dest = record { by_long = refl; by_id = refl; self = refl; word = refl; joined = λ v. refl; no_dash = refl; no_dash_joined = λ v. refl; no_file = refl }
-
-run_plan : IsOption (shape_of Run).rules (codes "plan")
-run_plan = record { by_long = refl; by_id = refl; self = refl; word = refl; joined = λ v. refl; no_dash = refl; no_dash_joined = λ v. refl; no_file = refl }
-
-run_destfile : IsOption (shape_of Run).rules (codes "destfile")
-run_destfile = record { by_long = refl; by_id = refl; self = refl; word = refl; joined = λ v. refl; no_dash = refl; no_dash_joined = λ v. refl; no_file = refl }
-
-run_workers : IsOption (shape_of Run).rules (codes "workers")
-run_workers = record { by_long = refl; by_id = refl; self = refl; word = refl; joined = λ v. refl; no_dash = refl; no_dash_joined = λ v. refl; no_file = refl }
-
-merge_destfile : IsOption (shape_of Merge).rules (codes "destfile")
-merge_destfile = record { by_long = refl; by_id = refl; self = refl; word = refl; joined = λ v. refl; no_dash = refl; no_dash_joined = λ v. refl; no_file = refl }
-
-report_csv : IsOption (shape_of Report).rules (codes "csv")
-report_csv = record { by_long = refl; by_id = refl; self = refl; word = refl; joined = λ v. refl; no_dash = refl; no_dash_joined = λ v. refl; no_file = refl }
-
-report_name : IsOption (shape_of Report).rules (codes "name")
-report_name = record { by_long = refl; by_id = refl; self = refl; word = refl; joined = λ v. refl; no_dash = refl; no_dash_joined = λ v. refl; no_file = refl }
-
-report_exec : IsOption (shape_of Report).rules (codes "exec")
-report_exec = record { by_long = refl; by_id = refl; self = refl; word = refl; joined = λ v. refl; no_dash = refl; no_dash_joined = λ v. refl; no_file = refl }
-
-cover_dest : IsOption (shape_of Cover).rules (codes "dest")
-cover_dest = record { by_long = refl; by_id = refl; self = refl; word = refl; joined = λ v. refl; no_dash = refl; no_dash_joined = λ v. refl; no_file = refl }
-
-cover_plan : IsOption (shape_of Cover).rules (codes "plan")
-cover_plan = record { by_long = refl; by_id = refl; self = refl; word = refl; joined = λ v. refl; no_dash = refl; no_dash_joined = λ v. refl; no_file = refl }
-
-cover_destfile : IsOption (shape_of Cover).rules (codes "destfile")
-cover_destfile = record { by_long = refl; by_id = refl; self = refl; word = refl; joined = λ v. refl; no_dash = refl; no_dash_joined = λ v. refl; no_file = refl }
-
-cover_csv : IsOption (shape_of Cover).rules (codes "csv")
-cover_csv = record { by_long = refl; by_id = refl; self = refl; word = refl; joined = λ v. refl; no_dash = refl; no_dash_joined = λ v. refl; no_file = refl }
-
-cover_workers : IsOption (shape_of Cover).rules (codes "workers")
-cover_workers = record { by_long = refl; by_id = refl; self = refl; word = refl; joined = λ v. refl; no_dash = refl; no_dash_joined = λ v. refl; no_file = refl }
-
-cover_name : IsOption (shape_of Cover).rules (codes "name")
-cover_name = record { by_long = refl; by_id = refl; self = refl; word = refl; joined = λ v. refl; no_dash = refl; no_dash_joined = λ v. refl; no_file = refl }
-
-cover_sample : IsOption (shape_of Cover).rules (codes "sample")
-cover_sample = record { by_long = refl; by_id = refl; self = refl; word = refl; joined = λ v. refl; no_dash = refl; no_dash_joined = λ v. refl; no_file = refl }
+-- an option whose name is written out
+told : (c : List Rule) (name : Text) → arg_by_long c name ≡ Some (opt name) → arg_by_id c name ≡ Some (opt name)
+    → long_of (45 ∷ 45 ∷ name) ≡ Some (name, None) → ((v : Text) → long_of (45 ∷ 45 ∷ (name ++ 61 ∷ v)) ≡ Some (name, Some v))
+    → bytes_eq (45 ∷ 45 ∷ name) (45 ∷ 45 ∷ []) ≡ false → ((v : Text) → bytes_eq (45 ∷ 45 ∷ (name ++ 61 ∷ v)) (45 ∷ 45 ∷ []) ≡ false)
+    → bytes_eq name (codes "FILE") ≡ false → IsOption c name
+told c name by_long by_id word joined no_dash no_dash_joined no_file = record {
+  by_long = by_long;
+  by_id = by_id;
+  self = (bytes_eq-Decides name name).1 refl;
+  word = word;
+  joined = joined;
+  no_dash = no_dash;
+  no_dash_joined = no_dash_joined;
+  no_file = no_file;
+}
 
 pub options_known : (name : CommandName) → AllByRecursion (λ o. IsOption (shape_of name).rules o) (taken_options name)
-options_known Instrument = (instrument_dest, tt)
-options_known Run = (run_plan, (run_destfile, (run_workers, tt)))
-options_known Merge = (merge_destfile, tt)
-options_known Report = (report_csv, (report_name, (report_exec, tt)))
+options_known Instrument = (told (shape_of Instrument).rules (codes "dest") refl refl refl (λ v. refl) refl (λ v. refl) refl, tt)
+options_known Run = (
+  told (shape_of Run).rules (codes "plan") refl refl refl (λ v. refl) refl (λ v. refl) refl,
+  (
+    told (shape_of Run).rules (codes "destfile") refl refl refl (λ v. refl) refl (λ v. refl) refl,
+    (
+      told (shape_of Run).rules (codes "workers") refl refl refl (λ v. refl) refl (λ v. refl) refl,
+      tt,
+    ),
+  ),
+)
+options_known Merge = (told (shape_of Merge).rules (codes "destfile") refl refl refl (λ v. refl) refl (λ v. refl) refl, tt)
+options_known Report = (
+  told (shape_of Report).rules (codes "csv") refl refl refl (λ v. refl) refl (λ v. refl) refl,
+  (
+    told (shape_of Report).rules (codes "name") refl refl refl (λ v. refl) refl (λ v. refl) refl,
+    (
+      told (shape_of Report).rules (codes "exec") refl refl refl (λ v. refl) refl (λ v. refl) refl,
+      tt,
+    ),
+  ),
+)
 options_known ExecInfo = tt
 options_known ClassInfo = tt
-options_known Cover = (cover_dest, (cover_plan, (cover_destfile, (cover_csv, (cover_workers, (cover_name, (cover_sample, tt)))))))
+options_known Cover = (
+  told (shape_of Cover).rules (codes "dest") refl refl refl (λ v. refl) refl (λ v. refl) refl,
+  (
+    told (shape_of Cover).rules (codes "plan") refl refl refl (λ v. refl) refl (λ v. refl) refl,
+    (
+      told (shape_of Cover).rules (codes "destfile") refl refl refl (λ v. refl) refl (λ v. refl) refl,
+      (
+        told (shape_of Cover).rules (codes "csv") refl refl refl (λ v. refl) refl (λ v. refl) refl,
+        (
+          told (shape_of Cover).rules (codes "workers") refl refl refl (λ v. refl) refl (λ v. refl) refl,
+          (
+            told (shape_of Cover).rules (codes "name") refl refl refl (λ v. refl) refl (λ v. refl) refl,
+            (
+              told (shape_of Cover).rules (codes "sample") refl refl refl (λ v. refl) refl (λ v. refl) refl,
+              tt,
+            ),
+          ),
+        ),
+      ),
+    ),
+  ),
+)
 
 -- ---- from the form of words to what the walk asks
 
@@ -222,35 +186,6 @@ good_uses s again options all (u ∷ us) V known once plain fresh =
       record { known = known_option s.rules options all u.name k.0; plain = p.0; fresh = fresh.0 },
       good_uses s again options all us (V ++ row_of_use u ∷ []) k.1 once.1 p.1 (fresh_more V (row_of_use u) us fresh.1 once.0),
     )
-
--- ---- what is read
-
--- the value that is read is that of the use
-first_of_files : (id : Text) (files : List Text) → bytes_eq (codes "FILE") id ≡ false → first_of id (file_rows files) ≡ None
-first_of_files id [] e = refl
-first_of_files id (f ∷ fs) e = rw e refl
-
-pub first_of_use : (id : Text) (uses : List Use) (files : List Text) → bytes_eq (codes "FILE") id ≡ false → first_of id (call_rows uses files) ≡ value_of uses id
-first_of_use id [] files e = first_of_files id files e
-first_of_use id (u ∷ us) files e = by (bytes_eq u.name id) refl (first_of_use id us files e)
-  where
-    by : (b : Bool) → bytes_eq u.name id ≡ b → first_of id (call_rows us files) ≡ value_of us id → first_of id (call_rows (u ∷ us) files) ≡ value_of (u ∷ us) id
-    by true h rest = rw h refl
-    by false h rest = rw h rest
-
-abbrev pub files_if_any : List Text → Option (List Text)
-files_if_any [] = None
-files_if_any (f ∷ fs) = Some (f ∷ fs)
-
-all_of_rows : (files : List Text) → all_of (codes "FILE") (file_rows files) ≡ files_if_any files
-all_of_rows [] = refl
-all_of_rows (f ∷ fs) = refl
-
-pub all_of_files : (uses : List Use) (files : List Text) → has_row (codes "FILE") (map row_of_use uses) ≡ false → all_of (codes "FILE") (call_rows uses files) ≡ files_if_any files
-all_of_files [] files h = all_of_rows files
-all_of_files (u ∷ us) files h =
-    let both = either-false (bytes_eq u.name (codes "FILE")) (has_row (codes "FILE") (map row_of_use us)) h in
-    rw both.0 (all_of_files us files both.1)
 
 all_plain : (s : Shape) (r : IsReader s) (files : List Text) → list_all is_plain files ≡ true → AllPlain s r.again r.by_index r.by_id files
 all_plain s r [] h = tt
@@ -321,81 +256,28 @@ module _ (name : CommandName)
 pub record Read (words : List Word) (name : CommandName) (uses : List Use) (files : List Word) : Type 0 where
   pub subcommand : subcommand_of jcov_app words ≡ Some (text_of name, call_rows uses files)
   pub takes_all : takes jcov_app words ≡ true
-  pub values : (id : Text) → bytes_eq (codes "FILE") id ≡ false → first_of id (call_rows uses files) ≡ value_of uses id
-  pub given : all_of (codes "FILE") (call_rows uses files) ≡ files_if_any files
+  pub no_file : has_row (codes "FILE") (map row_of_use uses) ≡ false
 
 module _ (uses : List Use) (dash : Bool) (files : List Text) (many : nat_le (length files) usize_max ≡ true) where
-  read_instrument : IsTaken (taken_options Instrument) uses files → Read (text_of Instrument ∷ rest_words uses dash files) Instrument uses files
-  unfolding clap_on_literals
-  read_instrument taken = record {
-    subcommand = entered_subcommand Instrument refl refl refl refl uses dash files taken many;
-    takes_all = entered_takes Instrument refl refl refl refl uses dash files taken many;
-    values = λ id other. first_of_use id uses files other;
-    given = all_of_files uses files (file_is_fresh Instrument refl refl refl refl uses dash files taken many);
-  }
-
-  read_run : IsTaken (taken_options Run) uses files → Read (text_of Run ∷ rest_words uses dash files) Run uses files
-  unfolding clap_on_literals
-  read_run taken = record {
-    subcommand = entered_subcommand Run refl refl refl refl uses dash files taken many;
-    takes_all = entered_takes Run refl refl refl refl uses dash files taken many;
-    values = λ id other. first_of_use id uses files other;
-    given = all_of_files uses files (file_is_fresh Run refl refl refl refl uses dash files taken many);
-  }
-
-  read_merge : IsTaken (taken_options Merge) uses files → Read (text_of Merge ∷ rest_words uses dash files) Merge uses files
-  unfolding clap_on_literals
-  read_merge taken = record {
-    subcommand = entered_subcommand Merge refl refl refl refl uses dash files taken many;
-    takes_all = entered_takes Merge refl refl refl refl uses dash files taken many;
-    values = λ id other. first_of_use id uses files other;
-    given = all_of_files uses files (file_is_fresh Merge refl refl refl refl uses dash files taken many);
-  }
-
-  read_report : IsTaken (taken_options Report) uses files → Read (text_of Report ∷ rest_words uses dash files) Report uses files
-  unfolding clap_on_literals
-  read_report taken = record {
-    subcommand = entered_subcommand Report refl refl refl refl uses dash files taken many;
-    takes_all = entered_takes Report refl refl refl refl uses dash files taken many;
-    values = λ id other. first_of_use id uses files other;
-    given = all_of_files uses files (file_is_fresh Report refl refl refl refl uses dash files taken many);
-  }
-
-  read_exec_info : IsTaken (taken_options ExecInfo) uses files → Read (text_of ExecInfo ∷ rest_words uses dash files) ExecInfo uses files
-  unfolding clap_on_literals
-  read_exec_info taken = record {
-    subcommand = entered_subcommand ExecInfo refl refl refl refl uses dash files taken many;
-    takes_all = entered_takes ExecInfo refl refl refl refl uses dash files taken many;
-    values = λ id other. first_of_use id uses files other;
-    given = all_of_files uses files (file_is_fresh ExecInfo refl refl refl refl uses dash files taken many);
-  }
-
-  read_class_info : IsTaken (taken_options ClassInfo) uses files → Read (text_of ClassInfo ∷ rest_words uses dash files) ClassInfo uses files
-  unfolding clap_on_literals
-  read_class_info taken = record {
-    subcommand = entered_subcommand ClassInfo refl refl refl refl uses dash files taken many;
-    takes_all = entered_takes ClassInfo refl refl refl refl uses dash files taken many;
-    values = λ id other. first_of_use id uses files other;
-    given = all_of_files uses files (file_is_fresh ClassInfo refl refl refl refl uses dash files taken many);
-  }
-
-  read_cover : IsTaken (taken_options Cover) uses files → Read (text_of Cover ∷ rest_words uses dash files) Cover uses files
-  unfolding clap_on_literals
-  read_cover taken = record {
-    subcommand = entered_subcommand Cover refl refl refl refl uses dash files taken many;
-    takes_all = entered_takes Cover refl refl refl refl uses dash files taken many;
-    values = λ id other. first_of_use id uses files other;
-    given = all_of_files uses files (file_is_fresh Cover refl refl refl refl uses dash files taken many);
+  is_read : (name : CommandName) → find (λ t. answers_to (text_of name) (label_of t)) B.subs ≡ Some (shape_of name) → (shape_of name).name ≡ text_of name
+      → walked B.top.rules (names_of B) (at [] None) (text_of name) ≡ stopped_at (text_of name) []
+      → walk_passes B.top (names_of B) (at [] None) (text_of name ∷ []) ≡ true
+      → IsTaken (taken_options name) uses files → Read (text_of name ∷ rest_words uses dash files) name uses files
+  is_read name found is_named first first_passes taken = record {
+    subcommand = entered_subcommand name found is_named first first_passes uses dash files taken many;
+    takes_all = entered_takes name found is_named first first_passes uses dash files taken many;
+    no_file = file_is_fresh name found is_named first first_passes uses dash files taken many;
   }
 
   pub each_read : (name : CommandName) → IsTaken (taken_options name) uses files → Read (text_of name ∷ rest_words uses dash files) name uses files
-  each_read Instrument taken = read_instrument taken
-  each_read Run taken = read_run taken
-  each_read Merge taken = read_merge taken
-  each_read Report taken = read_report taken
-  each_read ExecInfo taken = read_exec_info taken
-  each_read ClassInfo taken = read_class_info taken
-  each_read Cover taken = read_cover taken
+  unfolding clap_on_literals
+  each_read Instrument taken = is_read Instrument refl refl refl refl taken
+  each_read Run taken = is_read Run refl refl refl refl taken
+  each_read Merge taken = is_read Merge refl refl refl refl taken
+  each_read Report taken = is_read Report refl refl refl refl taken
+  each_read ExecInfo taken = is_read ExecInfo refl refl refl refl taken
+  each_read ClassInfo taken = is_read ClassInfo refl refl refl refl taken
+  each_read Cover taken = is_read Cover refl refl refl refl taken
 
 -- ---- what a caller is told
 

@@ -2,12 +2,12 @@
 use Rattle.std.proofs.Common.{◌≡◌, ◌∙◌, ap, ap₂, sym, subst, refl, ℕ, suc, ◌+◌, ◌<◌, ◌≤◌, Bool, true, false, not, ◌==◌, ◌&&◌, ◌||◌, List, [], ◌∷◌, ◌++◌, map, length, get_or, Option, Some, None, if◌then◌else◌, arith, append_assoc, option_map, true≢false}
 use Rattle.std.proofs.Common.{take, drop, slice_range, ◌-◌}
 use Rattle.std.proofs.Math.Seq.{take-append_seam, drop-append-add, drop-cons}
+use Rattle.std.proofs.lemmas.Bool.{and_parts, not-true}
 use Rattle.std.specs.Borrow.{Bor}
 use Rattle.std.proofs.lemmas.List.{append-nil, drop_all, take_all, length-drop}
 use Rattle.std.proofs.lemmas.List.Sums.{split_at_first, passes_at_first}
 use Rattle.std.proofs.lemmas.Bool.Decides.{Decides-eqb}
 use Rattle.std.specs.List.{flat_map, list_any, list_all, before_first, after_first, position_or_len}
-use Rattle.std.proofs.lemmas.Bool.{and_parts, not-true}
 use Rattle.jc_command_words.specs.Words.{Use, Word, is_plain, use_words, tail_words, rest_words}
 use Rattle.jc_command_words.specs.Scan.{Scan, Kind, dashes, named, joined, other, added, body_kind, is_equals, kind_of_word, scan, scan_kind}
 
@@ -66,7 +66,7 @@ abbrev pub SpellsIf : Option Scan → List Word → Type 0
 SpellsIf None words = Unit {0}
 SpellsIf (Some s) words = Spells s words
 
-added_spells : (u : Use) (o : Option Scan) (words : List Word) → SpellsIf o words → SpellsIf (added u o) (use_words u ++ words)
+pub added_spells : (u : Use) (o : Option Scan) (words : List Word) → SpellsIf o words → SpellsIf (added u o) (use_words u ++ words)
 added_spells u None words h = tt
 added_spells u (Some s) words h = ap (λ t. use_words u ++ t) h ∙ sym (append_assoc (use_words u) (flat_map use_words s.uses) (tail_words s.dash s.files))
 
@@ -166,81 +166,9 @@ pub scan_ends : (u : Use) → is_name u.name ≡ true → scan None (use_words u
 unfolding scan
 scan_ends u name = use_found u name []
 
-no_equals : (body : Word) → position_or_len is_equals body ≡ length body → list_any is_equals body ≡ false
-no_equals body at = by (list_any is_equals body) refl
-  where
-    by : (b : Bool) → list_any is_equals body ≡ b → b ≡ false
-    by true e = let within = first_within is_equals body e in absurd (omega (arith, at))
-    by false e = refl
-
-pub named_word : (w body : Word) → w ≡ 45 ∷ 45 ∷ body → (length body == 0) ≡ false → position_or_len is_equals body ≡ length body → named body ≡ kind_of_word w
-named_word w [] e full at = absurd (true≢false full)
-named_word w (x ∷ xs) e full at = sym (ap kind_of_word e ∙ named_kind (x ∷ xs) (ap not (no_equals (x ∷ xs) at)))
-
 abbrev pub prepend : List Use → Option Scan → Option Scan
 prepend us = option_map {T = Scan} (λ s. record s { uses = us ++ s.uses })
 
 pub prepend-added : (us : List Use) (u : Use) (o : Option Scan) → prepend us (added u o) ≡ prepend (us ++ u ∷ []) o
 prepend-added us u None = refl
 prepend-added us u (Some s) = ap (λ xs. Some (record s { uses = xs })) (sym (append_assoc us (u ∷ []) s.uses))
-
-pub prepend-none : (o : Option Scan) → prepend [] o ≡ o
-prepend-none None = refl
-prepend-none (Some s) = refl
-
--- ---- a scan's steps
-
-abbrev nows : Option (Bor Word) → Option Word
-nows = option_map (λ s. s.now)
-
-module _ (W D : List Word) (us : List Use) (p : Option (Bor Word)) (t : Word) (so_far : scan None W ≡ prepend us (scan (nows p) (t ∷ D))) where
-  pub step_dashes : p ≡ None → dashes ≡ kind_of_word t → ◌≡◌ {A = Option Scan} (Some (record { uses = us; dash = true; files = D })) (scan None W)
-  unfolding scan
-  step_dashes none k =
-      sym (so_far ∙ ap (λ q. prepend us (scan (nows q) (t ∷ D))) none
-      ∙ ap (λ k. prepend us (scan_kind k t D (λ p. scan p D))) (sym k) ∙ ap {B = Option Scan} (λ xs. Some (record { uses = xs; dash = true; files = D })) (append-nil us))
-
-  pub step_other : p ≡ None → other ≡ kind_of_word t → ◌≡◌ {A = Option Scan} (Some (record { uses = us; dash = false; files = t ∷ D })) (scan None W)
-  unfolding scan
-  step_other none k =
-      sym (so_far ∙ ap (λ q. prepend us (scan (nows q) (t ∷ D))) none
-      ∙ ap (λ k. prepend us (scan_kind k t D (λ p. scan p D))) (sym k) ∙ ap {B = Option Scan} (λ xs. Some (record { uses = xs; dash = false; files = t ∷ D })) (append-nil us))
-
-  pub step_named : (n : Word) → p ≡ None → named n ≡ kind_of_word t → scan None W ≡ prepend us (scan (Some n) D)
-  unfolding scan
-  step_named n none k =
-      so_far ∙ ap (λ q. prepend us (scan (nows q) (t ∷ D))) none ∙ ap (λ k. prepend us (scan_kind k t D (λ p. scan p D))) (sym k)
-
-  pub step_joined : (n v : Word) → p ≡ None → joined n v ≡ kind_of_word t
-      → scan None W ≡ prepend (us ++ record { name = n; value = v; joined = true } ∷ []) (scan None D)
-  unfolding scan
-  step_joined n v none k =
-      so_far ∙ ap (λ q. prepend us (scan (nows q) (t ∷ D))) none ∙ ap (λ k. prepend us (scan_kind k t D (λ p. scan p D))) (sym k)
-      ∙ prepend-added us (record { name = n; value = v; joined = true }) (scan None D)
-
-  pub step_value : (n : Bor Word) → p ≡ Some n → scan None W ≡ prepend (us ++ record { name = n.now; value = t; joined = false } ∷ []) (scan None D)
-  unfolding scan
-  step_value n some =
-      so_far ∙ ap (λ q. prepend us (scan (nows q) (t ∷ D))) some ∙ prepend-added us (record { name = n.now; value = t; joined = false }) (scan None D)
-
-pub end_pending : (W : List Word) (us : List Use) (p : Option (Bor Word)) (n : Bor Word) → scan None W ≡ prepend us (scan (nows p) []) → p ≡ Some n → None ≡ scan None W
-unfolding scan
-end_pending W us p n h e = sym (h ∙ ap (λ q. prepend us (scan (nows q) [])) e)
-
-pub end_none : (W : List Word) (us : List Use) (p : Option (Bor Word)) → scan None W ≡ prepend us (scan (nows p) []) → p ≡ None
-    → ◌≡◌ {A = Option Scan} (Some (record { uses = us; dash = false; files = [] })) (scan None W)
-unfolding scan
-end_none W us p h e = sym (h ∙ ap (λ q. prepend us (scan (nows q) [])) e ∙ ap {B = Option Scan} (λ xs. Some (record { uses = xs; dash = false; files = [] })) (append-nil us))
-
--- the words from a place on begin with the word there
-pub words_from : {X : Type 0} (f : X → Word) (ws : List X) (i : ℕ) (x : X) (t : Word) → i < length ws → x ≡ get_or ws i x → t ≡ f x
-    → map f (drop i ws) ≡ t ∷ map f (drop (i + 1) ws)
-words_from f ws i x t lt at e =
-    let next : suc i ≡ i + 1 = omega arith in
-    ap (map f) (drop-cons ws i x lt) ∙ ap₂ (λ y k. f y ∷ map f (drop k ws)) (sym at) next ∙ ap (λ y. y ∷ map f (drop (i + 1) ws)) (sym e)
-
-pub no_words_from : {X : Type 0} (f : X → Word) (ws : List X) (i : ℕ) → length ws ≤ i → map f (drop i ws) ≡ []
-no_words_from f ws i h = ap (map f) (drop_all i ws h)
-
-pub slice_range-drop : {X : Type 0} (xs : List X) (i : ℕ) → slice_range xs i (length xs) ≡ drop i xs
-slice_range-drop xs i = take_all (length xs - i) (drop i xs) (omega (arith, length-drop i xs))

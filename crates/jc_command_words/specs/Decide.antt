@@ -35,7 +35,6 @@ pub record Values : Type 0 where
   pub workers : Option Word
   pub name : Option Word
   pub exec : Option Word
-  pub sample : Option Word
   pub files : List Word
 
 abbrev pub values_of : List Use → List Word → Values
@@ -47,7 +46,6 @@ values_of uses files = record {
   workers = value_of uses (codes "workers");
   name = value_of uses (codes "name");
   exec = value_of uses (codes "exec");
-  sample = value_of uses (codes "sample");
   files = files;
 }
 

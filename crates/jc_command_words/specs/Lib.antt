@@ -3,6 +3,7 @@ pub mod Forms
 pub mod Paths
 pub mod Numbers
 pub mod Scan
+pub mod Spelled
 pub mod Looks
 pub mod Commands
 pub mod Decide

@@ -24,7 +24,6 @@ given_seen g = record {
   workers = text_seen g.workers;
   name = text_seen g.name;
   exec = text_seen g.exec;
-  sample = text_seen g.sample;
   files = texts_seen g.files.items;
 }
 

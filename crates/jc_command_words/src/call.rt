@@ -6,9 +6,11 @@ ghost use Rattle.std.specs.Str.{bytes_eq};
 ghost use Rattle.jc_command_words.specs.Words.{is_plain, value_of, words_of};
 ghost use Rattle.jc_command_words.specs.Paths.{are_distinct, are_relative, named_paths, wants_relative};
 ghost use Rattle.jc_command_words.specs.Forms.{options_of};
-ghost use Rattle.jc_command_words.specs.Decide.{is_call, is_stated};
+ghost use Rattle.jc_command_words.specs.Decide.{is_call, is_stated, values_of};
 ghost use Rattle.jc_command_words.specs.Looks.{scan_view, used_view};
+ghost use Rattle.jc_command_words.specs.Seen.{given_seen, texts_seen};
 
+use crate::command::Given;
 use crate::name::{CommandName, options_of};
 use crate::paths::{all_relative, are_distinct, named_paths, targets_in};
 use crate::scan::{Scanned, Used};
@@ -95,6 +97,34 @@ pub fn value_of<'a>(uses: &[Used<'a>], name: &str) -> Option<&'a str>
         }
     }
     None
+}
+
+/// The files, as texts.
+fn file_texts<'a>(alloc: Global, files: &'a [String]) -> Result<Vec<&'a str>, Memory>
+    ensures { IfOk result (λ texts. texts_seen texts.items ≡ words_of files.entry.now) }
+{
+    let mut texts = Vec::with_capacity(alloc, files.len())?;
+    'taking: for file in files {
+        texts.push(file.as_str())?;
+    }
+    Ok(texts)
+}
+
+/// What the options are given, and the files.
+pub fn given_in<'a>(alloc: Global, words: &Scanned<'a>) -> Result<Given<'a>, Memory>
+    ensures { IfOk result (λ given. given_seen given ≡ values_of (scan_view words.now).uses (scan_view words.now).files) }
+{
+    let files = file_texts(alloc, words.files)?;
+    Ok(Given {
+        dest: value_of(&words.uses, "dest"),
+        plan: value_of(&words.uses, "plan"),
+        destfile: value_of(&words.uses, "destfile"),
+        csv: value_of(&words.uses, "csv"),
+        workers: value_of(&words.uses, "workers"),
+        name: value_of(&words.uses, "name"),
+        exec: value_of(&words.uses, "exec"),
+        files,
+    })
 }
 
 /// Whether the files of a command are to be relative.

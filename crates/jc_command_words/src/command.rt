@@ -73,7 +73,6 @@ pub struct Given<'a> {
     pub workers: Option<&'a str>,
     pub name: Option<&'a str>,
     pub exec: Option<&'a str>,
-    pub sample: Option<&'a str>,
     pub files: Vec<&'a str>,
 }
 

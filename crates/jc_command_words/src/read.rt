@@ -7,11 +7,11 @@ ghost use Rattle.jc_command_words.specs.Looks.{scan_view};
 ghost use Rattle.jc_command_words.specs.Seen.{command_seen};
 ghost use Rattle.jc_command_words.specs.Outcome.{CommandRead};
 
-use crate::call::{is_plain, is_stated};
+use crate::call::{given_in, is_plain, is_stated, value_of};
 use crate::command::{Command, command_with, methods_in};
-use crate::name::{CommandName, name_of};
-use crate::reader::given_words;
-use crate::scan::{Scanned, scan_words};
+use crate::name::CommandName;
+use crate::reader::read_call;
+use crate::scan::Scanned;
 use jc_bytes::Fail;
 use std::alloc::Global;
 
@@ -45,27 +45,20 @@ pub fn read_words<'a>(alloc: Global, words: &'a [String]) -> Result<Command<'a>,
     if words.len() > u32::MAX as usize {
         return Err(Fail::Memory);
     }
-    let Some((first, rest)) = words.split_first() else {
+    let Some(call) = read_call(alloc, words)? else {
         return Err(Fail::Said(Usage));
     };
-    let Some(name) = name_of(first.as_str()) else {
-        return Err(Fail::Said(Usage));
-    };
-    let Some(cut) = scan_words(alloc, rest)? else {
-        return Err(Fail::Said(Usage));
-    };
-    if is_sample(name, &cut) {
-        let given = given_words(alloc, words)?;
-        let Some(methods) = methods_in(given.sample) else {
+    if is_sample(call.name, &call.words) {
+        let Some(methods) = methods_in(value_of(&call.words.uses, "sample")) else {
             return Err(Fail::Said(Usage));
         };
         return Ok(Command::CoverSample { methods });
     }
-    if !is_stated(alloc, name, &cut)? {
+    if !is_stated(alloc, call.name, &call.words)? {
         return Err(Fail::Said(Usage));
     }
-    let given = given_words(alloc, words)?;
-    match command_with(alloc, name, given)? {
+    let given = given_in(alloc, &call.words)?;
+    match command_with(alloc, call.name, given)? {
         Some(command) => Ok(command),
         None => Err(Fail::Said(Usage)),
     }

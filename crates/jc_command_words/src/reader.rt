@@ -1,19 +1,16 @@
-//! The words, read by clap. What it is told of the options says how words are cut; which words are of a stated form is
-//! decided before.
-ghost use Rattle.std.specs.Prelude.{◌≡◌, ◌<◌, ◌^◌, codes, false, length, IfOk};
+//! The words, read by clap: what it is told of the commands, and how the words spell what it finds.
+ghost use Rattle.std.specs.Prelude.{◌≡◌, ◌<◌, ◌^◌, codes, false, length, option_map, IfOk};
 ghost use Rattle.clap.specs.Simple.{new_app};
-ghost use Rattle.clap.specs.Matches.{found_of};
 ghost use Rattle.clap.specs.Words.{app_of, rule_of};
 ghost use Rattle.clap.specs.declared.builder.command.Command.TheViews.{out-Command};
 ghost use Rattle.jc_command_words.specs.Reader.{bare_app, class_info_app, cover_app, exec_info_app, file_rule, first_commands_app, instrument_app};
 ghost use Rattle.jc_command_words.specs.Reader.{jcov_app, merge_app, more_commands_app, option_rule, report_app, run_app, with_option};
 ghost use Rattle.jc_command_words.specs.Words.{words_of};
-ghost use Rattle.jc_command_words.specs.Forms.{Call};
-ghost use Rattle.jc_command_words.specs.Decide.{values_of};
-ghost use Rattle.jc_command_words.specs.Seen.{given_seen, texts_seen};
-ghost use Rattle.jc_command_words.specs.Reads.{AreAccepted, HasFound, TakenCall, files_found, values_found};
+ghost use Rattle.jc_command_words.specs.Looks.{call_seen};
+ghost use Rattle.jc_command_words.specs.Reads.{CallCut, MatchesIf};
 
-use crate::command::Given;
+use crate::name::{CommandName, name_of};
+use crate::scan::{Scanned, scan_found};
 use clap::error::ErrorKind;
 use clap::{Arg, ArgAction, ArgMatches, Command};
 use jc_bytes::Memory;
@@ -157,56 +154,46 @@ fn jcov<'a>(alloc: Global) -> Result<Command<'a>, AllocError>
     more_commands(alloc)?.subcommand(cover)
 }
 
-/// The matches of words that the reader takes.
-fn matches_of<'a>(alloc: Global, words: &'a [String]) -> Result<ArgMatches<'a>, Memory>
-    requires { AreAccepted (words_of words.now) }
-    ensures { IfOk result (HasFound (words_of words.entry.now)) }
+/// What clap finds in words, if it takes them.
+fn matches_of<'a>(alloc: Global, words: &'a [String]) -> Result<Option<ArgMatches<'a>>, Memory>
+    ensures { IfOk result (MatchesIf (words_of words.entry.now)) }
 {
     let command = jcov(alloc)?;
     match command.try_get_matches_from(words) {
-        Ok(matches) => Ok(matches),
+        Ok(matches) => Ok(Some(matches)),
         Err(error) => match error.kind() {
             ErrorKind::OutOfMemory => Err(Memory),
-            _ => unreachable!(),
+            _ => Ok(None),
         },
     }
 }
 
-/// The files that the reader found.
-fn files_found<'a>(alloc: Global, found: &ArgMatches<'a>) -> Result<Vec<&'a str>, Memory>
-    ensures { IfOk result (λ files. texts_seen files.items ≡ files_found (found_of found.now)) }
+/// A command's name, and the words behind it.
+#[derive(Drop)]
+pub struct CallWords<'a> {
+    pub name: CommandName,
+    pub words: Scanned<'a>,
+}
+
+/// Reads the words by clap, and cuts them into what it found. There is no answer where they are those of no call.
+pub fn read_call<'a>(alloc: Global, words: &'a [String]) -> Result<Option<CallWords<'a>>, Memory>
+    requires { length words.now < 2 ^ 32 }
+    ensures { IfOk result (λ o. CallCut (words_of words.entry.now) (option_map call_seen o)) }
 {
-    match found.get_strs("FILE") {
-        Some(files) => Ok(Vec::from_slice(alloc, files)?),
-        None => Ok(Vec::new(alloc)),
+    let Some(matches) = matches_of(alloc, words)? else {
+        return Ok(None);
+    };
+    let Some((_, found)) = matches.subcommand() else {
+        return Ok(None);
+    };
+    let Some((first, rest)) = words.split_first() else {
+        return Ok(None);
+    };
+    let Some(name) = name_of(first.as_str()) else {
+        return Ok(None);
+    };
+    match scan_found(alloc, rest, found)? {
+        Some(words) => Ok(Some(CallWords { name, words })),
+        None => Ok(None),
     }
-}
-
-/// What the reader found of each option, and the files.
-fn given_found<'a>(alloc: Global, found: &ArgMatches<'a>) -> Result<Given<'a>, Memory>
-    ensures { IfOk result (λ given. given_seen given ≡ values_found (found_of found.now)) }
-{
-    let files = files_found(alloc, found)?;
-    Ok(Given {
-        dest: found.get_str("dest"),
-        plan: found.get_str("plan"),
-        destfile: found.get_str("destfile"),
-        csv: found.get_str("csv"),
-        workers: found.get_str("workers"),
-        name: found.get_str("name"),
-        exec: found.get_str("exec"),
-        sample: found.get_str("sample"),
-        files,
-    })
-}
-
-/// What the options are given, and the files, in words that the reader takes.
-pub fn given_words<'a>(alloc: Global, words: &'a [String]) -> Result<Given<'a>, Memory>
-    requires short { length words.now < 2 ^ 32 }
-    requires form { (c : Call) × TakenCall (words_of words.now) c }
-    ensures { IfOk result (λ given. (c : Call) → TakenCall (words_of words.entry.now) c → given_seen given ≡ values_of c.uses c.files) }
-{
-    let matches = matches_of(alloc, words)?;
-    let (_, found) = matches.subcommand().unwrap();
-    given_found(alloc, found)
 }
