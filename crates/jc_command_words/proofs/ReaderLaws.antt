@@ -101,51 +101,28 @@ told c name by_long by_id word joined no_dash no_dash_joined no_file = record {
 
 pub options_known : (name : CommandName) → AllByRecursion (λ o. IsOption (shape_of name).rules o) (taken_options name)
 options_known Instrument = (told (shape_of Instrument).rules (codes "dest") refl refl refl (λ v. refl) refl (λ v. refl) refl, tt)
-options_known Run = (
-  told (shape_of Run).rules (codes "plan") refl refl refl (λ v. refl) refl (λ v. refl) refl,
-  (
-    told (shape_of Run).rules (codes "destfile") refl refl refl (λ v. refl) refl (λ v. refl) refl,
-    (
-      told (shape_of Run).rules (codes "workers") refl refl refl (λ v. refl) refl (λ v. refl) refl,
-      tt,
-    ),
-  ),
-)
+options_known Run =
+    let plan = told (shape_of Run).rules (codes "plan") refl refl refl (λ v. refl) refl (λ v. refl) refl in
+    let destfile = told (shape_of Run).rules (codes "destfile") refl refl refl (λ v. refl) refl (λ v. refl) refl in
+    let workers = told (shape_of Run).rules (codes "workers") refl refl refl (λ v. refl) refl (λ v. refl) refl in
+    (plan, (destfile, (workers, tt)))
 options_known Merge = (told (shape_of Merge).rules (codes "destfile") refl refl refl (λ v. refl) refl (λ v. refl) refl, tt)
-options_known Report = (
-  told (shape_of Report).rules (codes "csv") refl refl refl (λ v. refl) refl (λ v. refl) refl,
-  (
-    told (shape_of Report).rules (codes "name") refl refl refl (λ v. refl) refl (λ v. refl) refl,
-    (
-      told (shape_of Report).rules (codes "exec") refl refl refl (λ v. refl) refl (λ v. refl) refl,
-      tt,
-    ),
-  ),
-)
+options_known Report =
+    let csv = told (shape_of Report).rules (codes "csv") refl refl refl (λ v. refl) refl (λ v. refl) refl in
+    let name = told (shape_of Report).rules (codes "name") refl refl refl (λ v. refl) refl (λ v. refl) refl in
+    let exec = told (shape_of Report).rules (codes "exec") refl refl refl (λ v. refl) refl (λ v. refl) refl in
+    (csv, (name, (exec, tt)))
 options_known ExecInfo = tt
 options_known ClassInfo = tt
-options_known Cover = (
-  told (shape_of Cover).rules (codes "dest") refl refl refl (λ v. refl) refl (λ v. refl) refl,
-  (
-    told (shape_of Cover).rules (codes "plan") refl refl refl (λ v. refl) refl (λ v. refl) refl,
-    (
-      told (shape_of Cover).rules (codes "destfile") refl refl refl (λ v. refl) refl (λ v. refl) refl,
-      (
-        told (shape_of Cover).rules (codes "csv") refl refl refl (λ v. refl) refl (λ v. refl) refl,
-        (
-          told (shape_of Cover).rules (codes "workers") refl refl refl (λ v. refl) refl (λ v. refl) refl,
-          (
-            told (shape_of Cover).rules (codes "name") refl refl refl (λ v. refl) refl (λ v. refl) refl,
-            (
-              told (shape_of Cover).rules (codes "sample") refl refl refl (λ v. refl) refl (λ v. refl) refl,
-              tt,
-            ),
-          ),
-        ),
-      ),
-    ),
-  ),
-)
+options_known Cover =
+    let dest = told (shape_of Cover).rules (codes "dest") refl refl refl (λ v. refl) refl (λ v. refl) refl in
+    let plan = told (shape_of Cover).rules (codes "plan") refl refl refl (λ v. refl) refl (λ v. refl) refl in
+    let destfile = told (shape_of Cover).rules (codes "destfile") refl refl refl (λ v. refl) refl (λ v. refl) refl in
+    let csv = told (shape_of Cover).rules (codes "csv") refl refl refl (λ v. refl) refl (λ v. refl) refl in
+    let workers = told (shape_of Cover).rules (codes "workers") refl refl refl (λ v. refl) refl (λ v. refl) refl in
+    let name = told (shape_of Cover).rules (codes "name") refl refl refl (λ v. refl) refl (λ v. refl) refl in
+    let sample = told (shape_of Cover).rules (codes "sample") refl refl refl (λ v. refl) refl (λ v. refl) refl in
+    (dest, (plan, (destfile, (csv, (workers, (name, (sample, tt)))))))
 
 -- ---- from the form of words to what the walk asks
 

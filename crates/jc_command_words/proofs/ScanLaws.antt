@@ -1,12 +1,10 @@
 -- A scan finds the spelling of words, and only that.
-use Rattle.std.proofs.Common.{◌≡◌, ◌∙◌, ap, ap₂, sym, subst, refl, ℕ, suc, ◌+◌, ◌<◌, ◌≤◌, Bool, true, false, not, ◌==◌, ◌&&◌, ◌||◌, List, [], ◌∷◌, ◌++◌, map, length, get_or, Option, Some, None, if◌then◌else◌, arith, append_assoc, option_map, true≢false}
-use Rattle.std.proofs.Common.{take, drop, slice_range, ◌-◌}
-use Rattle.std.proofs.Math.Seq.{take-append_seam, drop-append-add, drop-cons}
-use Rattle.std.proofs.lemmas.Bool.{and_parts, not-true}
-use Rattle.std.specs.Borrow.{Bor}
-use Rattle.std.proofs.lemmas.List.{append-nil, drop_all, take_all, length-drop}
+use Rattle.std.proofs.Common.{◌≡◌, ◌∙◌, ap, ap₂, sym, subst, refl, ℕ, suc, ◌+◌, ◌<◌, Bool, true, false, not, ◌==◌, ◌&&◌, ◌||◌, List, [], ◌∷◌, ◌++◌, map, length, Option, Some, None, if◌then◌else◌, arith, append_assoc, option_map}
+use Rattle.std.proofs.Common.{take, drop}
+use Rattle.std.proofs.Math.Seq.{take-append_seam, drop-append-add}
 use Rattle.std.proofs.lemmas.List.Sums.{split_at_first, passes_at_first}
 use Rattle.std.proofs.lemmas.Bool.Decides.{Decides-eqb}
+use Rattle.std.proofs.lemmas.Bool.{and_parts, not-true}
 use Rattle.std.specs.List.{flat_map, list_any, list_all, before_first, after_first, position_or_len}
 use Rattle.jc_command_words.specs.Words.{Use, Word, is_plain, use_words, tail_words, rest_words}
 use Rattle.jc_command_words.specs.Scan.{Scan, Kind, dashes, named, joined, other, added, body_kind, is_equals, kind_of_word, scan, scan_kind}
@@ -168,7 +166,3 @@ scan_ends u name = use_found u name []
 
 abbrev pub prepend : List Use → Option Scan → Option Scan
 prepend us = option_map {T = Scan} (λ s. record s { uses = us ++ s.uses })
-
-pub prepend-added : (us : List Use) (u : Use) (o : Option Scan) → prepend us (added u o) ≡ prepend (us ++ u ∷ []) o
-prepend-added us u None = refl
-prepend-added us u (Some s) = ap (λ xs. Some (record s { uses = xs })) (sym (append_assoc us (u ∷ []) s.uses))

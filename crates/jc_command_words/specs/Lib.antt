@@ -9,6 +9,6 @@ pub mod Commands
 pub mod Decide
 pub mod Seen
 pub mod Outcome
-pub mod Reader
 pub mod Taken
+pub mod Reader
 pub mod Reads

@@ -1,9 +1,13 @@
 -- The commands and options of the command line, as they are told to the reader of words.
-use Rattle.std.specs.Prelude.{true, Some, codes}
+use Rattle.std.specs.Prelude.{true, List, Some, codes, fold}
 use Rattle.clap.specs.Walk.{Rule, Text}
 use Rattle.clap.specs.Simple.{App, new_app, new_rule, new_shape, with_rule, with_subcommand}
 use Rattle.clap.specs.Lexer.{usize_max}
 use Rattle.clap.specs.declared.builder.action.ArgAction.TheVariants.{Set}
+use Rattle.jc_command_words.specs.declared.name.CommandName.{CommandName}
+use Rattle.jc_command_words.specs.declared.name.CommandName.TheVariants.{Instrument, Run, Merge, Report, ExecInfo, ClassInfo, Cover}
+use Rattle.jc_command_words.specs.Forms.{text_of}
+use Rattle.jc_command_words.specs.Taken.{taken_options}
 
 -- an option with a value
 abbrev pub option_rule : Text → Rule
@@ -18,28 +22,12 @@ file_rule = record (new_rule (codes "FILE")) {
 abbrev pub with_option : App → Text → App
 with_option app name = with_rule app (option_rule name)
 
-abbrev pub instrument_app : App
-instrument_app = with_rule (with_option (new_app (codes "instrument")) (codes "dest")) file_rule
+-- the command of this name, with these options and with files
+abbrev pub app_with : Text → List Text → App
+app_with name options = with_rule (fold with_option (new_app name) options) file_rule
 
-abbrev pub run_app : App
-run_app = with_rule (with_option (with_option (with_option (new_app (codes "run")) (codes "plan")) (codes "destfile")) (codes "workers")) file_rule
-
-abbrev pub merge_app : App
-merge_app = with_rule (with_option (new_app (codes "merge")) (codes "destfile")) file_rule
-
-abbrev pub report_app : App
-report_app = with_rule (with_option (with_option (with_option (new_app (codes "report")) (codes "csv")) (codes "name")) (codes "exec")) file_rule
-
-abbrev pub exec_info_app : App
-exec_info_app = with_rule (new_app (codes "execinfo")) file_rule
-
-abbrev pub class_info_app : App
-class_info_app = with_rule (new_app (codes "classinfo")) file_rule
-
-abbrev pub cover_app : App
-cover_app =
-    with_rule (with_option (with_option (with_option (with_option (with_option (with_option (with_option (new_app (codes "cover"))
-    (codes "dest")) (codes "plan")) (codes "destfile")) (codes "csv")) (codes "workers")) (codes "name")) (codes "sample")) file_rule
+abbrev pub command_app : CommandName → App
+command_app name = app_with (text_of name) (taken_options name)
 
 abbrev pub bare_app : App
 bare_app = record (new_app (codes "jcov")) {
@@ -53,11 +41,11 @@ bare_app = record (new_app (codes "jcov")) {
 
 -- the command line with its first three commands
 abbrev pub first_commands_app : App
-first_commands_app = with_subcommand (with_subcommand (with_subcommand bare_app instrument_app.top) run_app.top) merge_app.top
+first_commands_app = with_subcommand (with_subcommand (with_subcommand bare_app (command_app Instrument).top) (command_app Run).top) (command_app Merge).top
 
 -- with all of its commands but `cover`
 abbrev pub more_commands_app : App
-more_commands_app = with_subcommand (with_subcommand (with_subcommand first_commands_app report_app.top) exec_info_app.top) class_info_app.top
+more_commands_app = with_subcommand (with_subcommand (with_subcommand first_commands_app (command_app Report).top) (command_app ExecInfo).top) (command_app ClassInfo).top
 
 abbrev pub jcov_app : App
-jcov_app = with_subcommand more_commands_app cover_app.top
+jcov_app = with_subcommand more_commands_app (command_app Cover).top

@@ -1,10 +1,9 @@
 //! The words, read by clap: what it is told of the commands, and how the words spell what it finds.
-ghost use Rattle.std.specs.Prelude.{◌≡◌, ◌<◌, ◌^◌, codes, false, length, option_map, IfOk};
-ghost use Rattle.clap.specs.Simple.{new_app};
+ghost use Rattle.std.specs.Prelude.{◌≡◌, ◌<◌, ◌^◌, false, fold, length, map, option_map, IfOk};
+ghost use Rattle.clap.specs.Simple.{with_rule};
 ghost use Rattle.clap.specs.Words.{app_of, rule_of};
 ghost use Rattle.clap.specs.declared.builder.command.Command.TheViews.{out-Command};
-ghost use Rattle.jc_command_words.specs.Reader.{bare_app, class_info_app, cover_app, exec_info_app, file_rule, first_commands_app, instrument_app};
-ghost use Rattle.jc_command_words.specs.Reader.{jcov_app, merge_app, more_commands_app, option_rule, report_app, run_app, with_option};
+ghost use Rattle.jc_command_words.specs.Reader.{app_with, bare_app, file_rule, first_commands_app, jcov_app, more_commands_app, option_rule, with_option};
 ghost use Rattle.jc_command_words.specs.Words.{words_of};
 ghost use Rattle.jc_command_words.specs.Looks.{call_seen};
 ghost use Rattle.jc_command_words.specs.Reads.{CallCut, MatchesIf};
@@ -32,81 +31,32 @@ fn files<'a>(alloc: Global) -> Arg<'a>
     Arg::new(alloc, "FILE").num_args(1..)
 }
 
-fn instrument<'a>(alloc: Global) -> Result<Command<'a>, AllocError>
-    ensures app { IfOk result (λ c. app_of c ≡ instrument_app) }
-    ensures local { IfOk result (λ c. (out-Command c).has_globals ≡ false) }
-{
-    Command::new(alloc, "instrument")
-        .arg(option(alloc, "dest"))?
-        .arg(files(alloc))
-}
-
-fn run<'a>(alloc: Global) -> Result<Command<'a>, AllocError>
-    ensures app { IfOk result (λ c. app_of c ≡ run_app) }
-    ensures local { IfOk result (λ c. (out-Command c).has_globals ≡ false) }
-{
-    Command::new(alloc, "run")
-        .arg(option(alloc, "plan"))?
-        .arg(option(alloc, "destfile"))?
-        .arg(option(alloc, "workers"))?
-        .arg(files(alloc))
-}
-
-fn merge<'a>(alloc: Global) -> Result<Command<'a>, AllocError>
-    ensures app { IfOk result (λ c. app_of c ≡ merge_app) }
-    ensures local { IfOk result (λ c. (out-Command c).has_globals ≡ false) }
-{
-    Command::new(alloc, "merge")
-        .arg(option(alloc, "destfile"))?
-        .arg(files(alloc))
-}
-
-fn report<'a>(alloc: Global) -> Result<Command<'a>, AllocError>
-    ensures app { IfOk result (λ c. app_of c ≡ report_app) }
-    ensures local { IfOk result (λ c. (out-Command c).has_globals ≡ false) }
-{
-    Command::new(alloc, "report")
-        .arg(option(alloc, "csv"))?
-        .arg(option(alloc, "name"))?
-        .arg(option(alloc, "exec"))?
-        .arg(files(alloc))
-}
-
-fn exec_info<'a>(alloc: Global) -> Result<Command<'a>, AllocError>
-    ensures app { IfOk result (λ c. app_of c ≡ exec_info_app) }
-    ensures local { IfOk result (λ c. (out-Command c).has_globals ≡ false) }
-{
-    Command::new(alloc, "execinfo").arg(files(alloc))
-}
-
-fn class_info<'a>(alloc: Global) -> Result<Command<'a>, AllocError>
-    ensures app { IfOk result (λ c. app_of c ≡ class_info_app) }
-    ensures local { IfOk result (λ c. (out-Command c).has_globals ≡ false) }
-{
-    Command::new(alloc, "classinfo").arg(files(alloc))
-}
-
-fn cover_paths<'a>(alloc: Global) -> Result<Command<'a>, AllocError>
+/// The command, told of these options and of the files.
+fn told<'a>(
+    alloc: Global,
+    command: Command<'a>,
+    options: &[&'a str],
+) -> Result<Command<'a>, AllocError>
+    requires { (out-Command command).has_globals ≡ false }
     ensures app { IfOk result (λ c. app_of c
-        ≡ with_option (with_option (with_option (with_option (new_app (codes "cover")) (codes "dest")) (codes "plan")) (codes "destfile")) (codes "csv")) }
+        ≡ with_rule (fold with_option (app_of command.entry) (map (λ o. o.now) options.now)) file_rule) }
     ensures local { IfOk result (λ c. (out-Command c).has_globals ≡ false) }
 {
-    Command::new(alloc, "cover")
-        .arg(option(alloc, "dest"))?
-        .arg(option(alloc, "plan"))?
-        .arg(option(alloc, "destfile"))?
-        .arg(option(alloc, "csv"))
+    match options {
+        [] => command.arg(files(alloc)),
+        [first, behind @ ..] => {
+            let command = command.arg(option(alloc, *first))?;
+            told(alloc, command, behind)
+        }
+    }
 }
 
-fn cover<'a>(alloc: Global) -> Result<Command<'a>, AllocError>
-    ensures app { IfOk result (λ c. app_of c ≡ cover_app) }
+/// The command of this name, with these options and with files.
+fn command<'a>(alloc: Global, name: &'a str, options: &[&'a str]) -> Result<Command<'a>, AllocError>
+    ensures app { IfOk result (λ c. app_of c ≡ app_with name.entry.now (map (λ o. o.now) options.now)) }
     ensures local { IfOk result (λ c. (out-Command c).has_globals ≡ false) }
 {
-    cover_paths(alloc)?
-        .arg(option(alloc, "workers"))?
-        .arg(option(alloc, "name"))?
-        .arg(option(alloc, "sample"))?
-        .arg(files(alloc))
+    told(alloc, Command::new(alloc, name), options)
 }
 
 fn bare<'a>(alloc: Global) -> Command<'a>
@@ -124,9 +74,9 @@ fn first_commands<'a>(alloc: Global) -> Result<Command<'a>, AllocError>
     ensures app { IfOk result (λ c. app_of c ≡ first_commands_app) }
     ensures local { IfOk result (λ c. (out-Command c).has_globals ≡ false) }
 {
-    let instrument = instrument(alloc)?;
-    let run = run(alloc)?;
-    let merge = merge(alloc)?;
+    let instrument = command(alloc, "instrument", &["dest"])?;
+    let run = command(alloc, "run", &["plan", "destfile", "workers"])?;
+    let merge = command(alloc, "merge", &["destfile"])?;
     bare(alloc)
         .subcommand(instrument)?
         .subcommand(run)?
@@ -137,9 +87,9 @@ fn more_commands<'a>(alloc: Global) -> Result<Command<'a>, AllocError>
     ensures app { IfOk result (λ c. app_of c ≡ more_commands_app) }
     ensures local { IfOk result (λ c. (out-Command c).has_globals ≡ false) }
 {
-    let report = report(alloc)?;
-    let exec_info = exec_info(alloc)?;
-    let class_info = class_info(alloc)?;
+    let report = command(alloc, "report", &["csv", "name", "exec"])?;
+    let exec_info = command(alloc, "execinfo", &[])?;
+    let class_info = command(alloc, "classinfo", &[])?;
     first_commands(alloc)?
         .subcommand(report)?
         .subcommand(exec_info)?
@@ -150,7 +100,10 @@ fn more_commands<'a>(alloc: Global) -> Result<Command<'a>, AllocError>
 fn jcov<'a>(alloc: Global) -> Result<Command<'a>, AllocError>
     ensures { IfOk result (λ c. app_of c ≡ jcov_app) }
 {
-    let cover = cover(alloc)?;
+    let options = [
+        "dest", "plan", "destfile", "csv", "workers", "name", "sample",
+    ];
+    let cover = command(alloc, "cover", &options)?;
     more_commands(alloc)?.subcommand(cover)
 }
 
