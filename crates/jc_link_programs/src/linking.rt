@@ -141,7 +141,8 @@ fn id_clash(classes: &[Linked], pair: Pair) -> LinkClash
     ensures { PairAnswer classes.now (Some result) }
 {
     let Pair { first, second } = pair;
-    let Some(init) = classes[first as usize].probes else {
+    let class = &classes[first as usize];
+    let Some(init) = class.probes else {
         unreachable!();
     };
     LinkClash::SameId {

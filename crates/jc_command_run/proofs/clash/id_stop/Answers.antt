@@ -5,8 +5,8 @@ use Rattle.jc_command_run.specs.PairTexts.{same_id_text}
 use Rattle.jc_command_run.proofs.ClashLaws.{no_path, path_is}
 use Rattle.jc_command_run.proofs.clash.id_stop.Goals as goal
 
-pub returns-in_ok-line : goal.returns-in_ok-line
-returns-in_ok-line c = λ files has.
+pub returns : goal.returns
+returns c = λ files has.
     let first = c.args.first in
     let second = c.args.second in
     let a = path_is c.args.paths.now first no_path c.requires.first in

@@ -15,10 +15,10 @@ pair_clash-requires c =
 pub returns-in-Some : goal.returns-in-Some
 returns-in-Some c =
     let found = subst (λ (l : List Linked). PairAnswer l (Some c.in-Some.clash)) c.deref.ensures
-    (subst (PairAnswer c.deref.result.now) c.in-Some.is c.in_ok-pair_clash.ensures) in
+    (subst (PairAnswer c.deref.result.now) c.in-Some.is c.in_ok-clash.ensures) in
     pair_refused c.classes_of.new.names c.args.files.now c.in_ok-classes.classes c.in-Some.clash c.in_ok-classes.ensures.classes found
 
 pub returns-in-None : goal.returns-in-None
 returns-in-None c =
-    let found = subst (λ (l : List Linked). PairAnswer l None) c.deref.ensures (subst (PairAnswer c.deref.result.now) c.in-None.is c.in_ok-pair_clash.ensures) in
+    let found = subst (λ (l : List Linked). PairAnswer l None) c.deref.ensures (subst (PairAnswer c.deref.result.now) c.in-None.is c.in_ok-clash.ensures) in
     program_is c.args.files.now _ c.requires.few c.in_ok-classes.ensures.classes c.in_ok-classes.ensures.fit found
