@@ -7,7 +7,7 @@ use crate::elements::{Elements, pick};
 use crate::form::Give;
 use crate::locals::{count, load, store};
 use crate::moves::move_state;
-use crate::objects::{build_as, make};
+use crate::objects::{Built, build_as, make};
 use crate::step::{
     Step, class_of, class_step, constant_step, is_aaload, local_step, member_step, multi_step,
     object_step, simple_step, static_step,
@@ -155,8 +155,7 @@ impl<'a> Effects<'a> {
             Some(class) => Ok(build_as(
                 alloc,
                 state,
-                old,
-                class,
+                Built { old, class },
                 &stack[..base - 1],
                 gives,
                 self.body.max_stack,

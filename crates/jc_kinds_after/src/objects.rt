@@ -80,29 +80,33 @@ fn is_one_object(old: Kind, kind: Kind) -> bool
     }
 }
 
+/// What a constructor makes of the type of its object.
+#[derive(Clone, Copy)]
+pub struct Built {
+    /// The type before the constructor is called.
+    pub old: Kind,
+    /// The type from then on.
+    pub class: Kind,
+}
+
 /// What is left of a type when the constructor of an object was called.
-fn built_in(old: Kind, class: Kind, kind: Kind) -> Kind
-    ensures { result ≡ built_kind old class kind }
+fn built_in(built: Built, kind: Kind) -> Kind
+    ensures { result ≡ built_kind built.old built.class kind }
 {
-    if is_one_object(old, kind) {
-        class
+    if is_one_object(built.old, kind) {
+        built.class
     } else {
         kind
     }
 }
 
 /// What is left of the types when the constructor of an object was called.
-fn all_built_in(
-    alloc: Global,
-    old: Kind,
-    class: Kind,
-    kinds: &[Kind],
-) -> Result<Vec<Kind>, AllocError>
-    ensures { IfOk result (λ left. left.items ≡ map (built_kind old class) kinds.now) }
+fn all_built_in(alloc: Global, built: Built, kinds: &[Kind]) -> Result<Vec<Kind>, AllocError>
+    ensures { IfOk result (λ left. left.items ≡ map (built_kind built.old built.class) kinds.now) }
 {
     kinds
         .iter()
-        .map(|kind| built_in(old, class, *kind))
+        .map(|kind| built_in(built, *kind))
         .collect(alloc)
 }
 
@@ -110,19 +114,18 @@ fn all_built_in(
 pub fn build_as(
     alloc: Global,
     state: &State,
-    old: Kind,
-    class: Kind,
+    built: Built,
     rest: &[Kind],
     gives: &[Give],
     most: u16,
 ) -> Result<Option<State>, Memory>
-    ensures { IfOk result (λ o. (names : Names) (name : Seq ℕ) → verification_type names class ≡ object name
-        → option_map (type_state names) o ≡ built_by_name names most old rest.now gives.now name state.now) }
+    ensures { IfOk result (λ o. (names : Names) (name : Seq ℕ) → verification_type names built.class ≡ object name
+        → option_map (type_state names) o ≡ built_by_name names most built.old rest.now gives.now name state.now) }
 {
-    let rest = all_built_in(alloc, old, class, rest)?;
+    let rest = all_built_in(alloc, built, rest)?;
     match move_stack(alloc, List::from_vec(rest), &[], gives, most)? {
         Some(stack) => Ok(Some(State {
-            locals: List::from_vec(all_built_in(alloc, old, class, &state.locals)?),
+            locals: List::from_vec(all_built_in(alloc, built, &state.locals)?),
             stack,
         })),
         None => Ok(None),
