@@ -19,7 +19,7 @@ use Rattle.jc_frames.specs.Frames.{Ground, Before, is_new}
 use Rattle.jc_frames.specs.Running.{found_as}
 use Rattle.jc_frames.specs.Table.{StandsFor, TableFault, stands_for, at_fault, outcome_of}
 use Rattle.jc_frames.specs.WellMade.{AreOffsets, HasNew}
-use Rattle.jc_frames.proofs.TableLaws.{table_good, table_bad, table_again, table_fails, stands_fault}
+use Rattle.jc_frames.proofs.TableLaws.{same_outcome, table_good, table_bad, table_again, table_fails, stands_fault}
 use Rattle.jc_frames.proofs.WalkLaws.{Walking}
 use Rattle.jc_frames.proofs.WellMadeLaws.{frames_well_made}
 
@@ -40,15 +40,15 @@ frames_pushed a b frames new f is g all last = subst (AreNumberedFrames (length 
 
 -- ---- one frame more
 
-pub built_more : (m g : Ground) (later : Names) (entry : TypeState) (table : List ℕ) (count this : ℕ) (frames new : List FrameAt) (built : FrameAt)
+pub built_more : (g : Ground) (later : Names) (entry : TypeState) (table : List ℕ) (count this : ℕ) (frames new : List FrameAt) (built : FrameAt)
     (running : Running) (frame : Frame) (b : Before) (rest : List ℕ)
-    → m ≡ g → new ≡ frames ++ built ∷ [] → type_state_at later built ≡ (found_as m later running frame).frame
+    → new ≡ frames ++ built ∷ [] → type_state_at later built ≡ (found_as g later running frame).frame
     → Walking g entry table count this (map (type_state_at later) frames ++ (found_as g later running frame).frame ∷ []) b rest
     → Walking g entry table count this (map (type_state_at later) new) b rest
-built_more m g later entry table count this frames new built running frame b rest is pushed same w =
+built_more g later entry table count this frames new built running frame b rest pushed same w =
     let At : List TypeStateAt → Type 0 = λ done. Walking g entry table count this done b rest in
     subst At (sym (ap (map (type_state_at later)) pushed ∙ map-append (type_state_at later) frames (built ∷ [])
-    ∙ ap (λ (x : TypeStateAt). map (type_state_at later) frames ++ x ∷ []) (same ∙ ap (λ (x : Ground). (found_as x later running frame).frame) is))) w
+    ∙ ap (λ (x : TypeStateAt). map (type_state_at later) frames ++ x ∷ []) same)) w
 
 -- ---- the answers
 
@@ -56,30 +56,30 @@ pub refusal_at : (old mid : Names) (entry : State) (g : Ground) (table : List �
     → refusal ≡ bad_frame place → outcome_of g (type_state mid entry) table ≡ at_fault place → FailsAt (outcome_of g (type_state old entry) table) (fails.Said refusal)
 refusal_at old mid entry g table place refusal grows n is e = (place, is, ap (λ (s : TypeState). outcome_of g s table) (sym (seen_grown old mid entry grows n)) ∙ e)
 
-module _ {X : Type 0} (g : Ground) (entry : TypeState) (table : List ℕ) where
-  pub refuses : (r : Result X (Fail Refusal)) → IfErr r (FailsAt (outcome_of g entry table)) → IfErr r (IsFrameRefusal g entry table)
+module _ {X : Type 0} {m g : Ground} (is : m ≡ g) (entry : TypeState) (table : List ℕ) where
+  pub refuses : (r : Result X (Fail Refusal)) → IfErr r (FailsAt (outcome_of m entry table)) → IfErr r (IsFrameRefusal g entry table)
   refuses (Ok x) h = h
   refuses (Err fails.Memory) h = h
-  refuses (Err (fails.Said refusal)) h = (h.0, h.1, table_bad g entry table h.0 h.2)
+  refuses (Err (fails.Said refusal)) h = (h.0, h.1, table_bad g entry table h.0 (sym (same_outcome is entry table) ∙ h.2))
 
-  pub stands_memory : (r : Result X (Fail Refusal)) (frames : List TypeStateAt) → StandsFor g entry table frames → IfErr r (FailsAt (outcome_of g entry table))
+  pub stands_memory : (r : Result X (Fail Refusal)) (frames : List TypeStateAt) → StandsFor g entry table frames → IfErr r (FailsAt (outcome_of m entry table))
       → IfErr r (λ e. e ≡ fails.Memory)
   stands_memory (Ok x) frames stands h = h
   stands_memory (Err fails.Memory) frames stands h = refl
-  stands_memory (Err (fails.Said refusal)) frames stands h = absurd (stands_fault (sym (table_again g entry table frames stands) ∙ h.2))
+  stands_memory (Err (fails.Said refusal)) frames stands h = absurd (stands_fault (sym (same_outcome is entry table ∙ table_again g entry table frames stands) ∙ h.2))
 
   pub fault_refused : (view : X → List TypeStateAt) (r : Result X (Fail Refusal)) (place : ℕ) → TableFault g entry table place
-      → IfOk r (λ x. outcome_of g entry table ≡ stands_for (view x)) → IfOk r (λ x. ⊥)
-  fault_refused view (Ok x) place bad h = stands_fault (sym h ∙ table_fails g entry table place bad)
+      → IfOk r (λ x. outcome_of m entry table ≡ stands_for (view x)) → IfOk r (λ x. ⊥)
+  fault_refused view (Ok x) place bad h = stands_fault (sym h ∙ same_outcome is entry table ∙ table_fails g entry table place bad)
   fault_refused view (Err e) place bad h = h
 
-  pub stands : (view : X → List TypeStateAt) (r : Result X (Fail Refusal)) → IfOk r (λ x. outcome_of g entry table ≡ stands_for (view x)) → IfOk r (λ x. StandsFor g entry table (view x))
-  stands view (Ok x) h = table_good g entry table (view x) h
+  pub stands : (view : X → List TypeStateAt) (r : Result X (Fail Refusal)) → IfOk r (λ x. outcome_of m entry table ≡ stands_for (view x)) → IfOk r (λ x. StandsFor g entry table (view x))
+  stands view (Ok x) h = table_good g entry table (view x) (sym (same_outcome is entry table) ∙ h)
   stands view (Err e) h = h
 
   pub made : (frames : X → List FrameAt) (names : Names) (r : Result X (Fail Refusal)) → AreOffsets (length g.code) g.starts → AllByRecursion (HasNew g) entry.locals
-      → IfOk r (λ x. outcome_of g entry table ≡ stands_for (map (type_state_at names) (frames x))) → IfOk r (λ x. AreFramesFrom 0 g.code g.max_locals g.max_stack (frames x))
-  made frames names (Ok x) o new h = frames_well_made g names entry table (frames x) o new (table_good g entry table (map (type_state_at names) (frames x)) h)
+      → IfOk r (λ x. outcome_of m entry table ≡ stands_for (map (type_state_at names) (frames x))) → IfOk r (λ x. AreFramesFrom 0 g.code g.max_locals g.max_stack (frames x))
+  made frames names (Ok x) o new h = frames_well_made g names entry table (frames x) o new (stands (λ y. map (type_state_at names) (frames y)) (Ok x) h)
   made frames names (Err e) o new h = h
 
 -- the objects of the state in which the method begins that aren't initialized have a `new`

@@ -22,6 +22,9 @@ stands_is a b e = cc
 pub fault_is : (a b : ℕ) → at_fault a ≡ at_fault b → a ≡ b
 fault_is a b e = cc
 
+pub same_outcome : {m g : Ground} → m ≡ g → (entry : TypeState) (table : List ℕ) → outcome_of m entry table ≡ outcome_of g entry table
+same_outcome is entry table = ap (λ (x : Ground). outcome_of x entry table) is
+
 -- ---- one frame
 
 -- a frame that is read and says something is one that stands in front

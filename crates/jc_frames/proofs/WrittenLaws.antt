@@ -57,11 +57,11 @@ module _ (names : Names) where
   pair_slots kinds.Long e = refl
   pair_slots k e = absurd cc
 
-  paired : (ks : List Kind) → made.ArePaired ks → ArePaired (map (verification_type names) ks)
+  pub paired : (ks : List Kind) → made.ArePaired ks → ArePaired (map (verification_type names) ks)
   paired [] p = tt
   paired (k ∷ ks) p = (λ pair. top_begins names ks (p.0 (pair_slots k pair)), paired ks p.1)
 
-  slots_are : (ks : List Kind) → slots (map (verification_type names) ks) ≡ sum_by made.kind_slots ks
+  pub slots_are : (ks : List Kind) → slots (map (verification_type names) ks) ≡ sum_by made.kind_slots ks
   slots_are [] = refl
   slots_are (k ∷ ks) = ap₂ (λ (a b : ℕ). a + b) (one k) (slots_are ks) ∙ sym (sum_by-cons made.kind_slots k ks)
     where

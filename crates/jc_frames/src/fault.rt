@@ -45,26 +45,6 @@ pub fn frame_fault(
     ensures faulty { (names : Names) (place : ℕ) → let g = ground pool.now code.now starts.now (length entry.now.locals) max_stack in
         TableFault g (type_state names entry.now) table.now place → IfOk result (λ fault. fault ≡ Some place) }
 {
-    found_fault(alloc, table, entry, max_stack, code, starts, pool)
-}
-
-/// The same, as reading finds it out.
-fn found_fault(
-    alloc: Global,
-    table: &[u8],
-    entry: &State,
-    max_stack: u16,
-    code: &[Insn],
-    starts: &[u32],
-    pool: &Pool,
-) -> Result<Option<u32>, Memory>
-    requires table { length table.now ≤ most_read }
-    requires locals { length entry.now.locals < 2 ^ 32 }
-    requires few { length starts.now < 2 ^ 32 }
-    requires offsets { AreOffsets (length code.now) starts.now }
-    ensures { (names : Names) → let g = ground pool.now code.now starts.now (length entry.now.locals) max_stack in
-        IfOk result (λ fault. fault ≡ fault_of (outcome_of g (type_state names entry.now) table.now)) }
-{
     let method = Method::new(
         alloc,
         entry.locals.len() as u32,
@@ -73,13 +53,29 @@ fn found_fault(
         starts,
         pool,
     )?;
+    found_fault(alloc, &method, table, entry)
+}
+
+/// The same, as reading finds it out.
+fn found_fault(
+    alloc: Global,
+    method: &Method<'_>,
+    table: &[u8],
+    entry: &State,
+) -> Result<Option<u32>, Memory>
+    requires table { length table.now ≤ most_read }
+    requires locals { length entry.now.locals < 2 ^ 32 }
+    requires as_many { method.now.max_locals ≡ length entry.now.locals }
+    ensures { (names : Names)
+        → IfOk result (λ fault. fault ≡ fault_of (outcome_of method.now (type_state names entry.now) table.now)) }
+{
     let mut running = Running::first(alloc, entry)?;
     let mut reader = Reader::new(table);
     let Some(count) = table_count(&mut reader) else {
         return Ok(Some(0));
     };
     'checking: for number in 0..count {
-        match next_frame(alloc, &method, &mut reader, &mut running)? {
+        match next_frame(alloc, method, &mut reader, &mut running)? {
             Some(_) => {}
             None => return Ok(Some(u32::from(number))),
         }

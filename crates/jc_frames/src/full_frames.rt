@@ -20,6 +20,14 @@ use std::collections::HashMap;
 /// The tag of a full frame.
 const FULL_FRAME: u8 = 255;
 
+/// What frames refer to: the offset of each instruction, the names of classes by number, and the pool.
+#[derive(Clone, Copy)]
+struct FrameReferences<'a> {
+    starts: &'a [u32],
+    names: &'a Names,
+    pool: &'a Pool,
+}
+
 /// The first place of a class that the pool has, by the number of its name. Each is looked up once, since its name
 /// may be long.
 fn class_place(
@@ -47,20 +55,18 @@ fn class_place(
 /// Puts a verification type at the end: its tag, and the place or the offset that it names.
 fn put_kind(
     kind: Kind,
-    starts: &[u32],
-    names: &Names,
+    refers: &FrameReferences<'_>,
     known: &mut HashMap<u32, u16>,
-    pool: &Pool,
     into: &mut Vec<u8>,
 ) -> Result<(), Memory>
-    requires number { IsNumbered (length names.now) kind }
-    requires place { IsPlaced (length starts.now) kind }
-    requires short { AreShort starts.now }
-    requires stands { AllByRecursion (HasPlace pool.now) (class_name (verification_type names.now kind)) }
-    requires known { AreFirstPlaces pool.now names.now known.old }
-    ensures text { (p : Places) → ArePlacesIn pool.now starts.now p
-        → OnOk result (into.new.items ≡ into.old.items ++ type_text p (verification_type names.now kind)) }
-    ensures known { OnOk result (AreFirstPlaces pool.now names.now known.new) }
+    requires number { IsNumbered (length refers.now.names.now) kind }
+    requires place { IsPlaced (length refers.now.starts.now) kind }
+    requires short { AreShort refers.now.starts.now }
+    requires stands { AllByRecursion (HasPlace refers.now.pool.now) (class_name (verification_type refers.now.names.now kind)) }
+    requires known { AreFirstPlaces refers.now.pool.now refers.now.names.now known.old }
+    ensures text { (p : Places) → ArePlacesIn refers.now.pool.now refers.now.starts.now p
+        → OnOk result (into.new.items ≡ into.old.items ++ type_text p (verification_type refers.now.names.now kind)) }
+    ensures known { OnOk result (AreFirstPlaces refers.now.pool.now refers.now.names.now known.new) }
 {
     match kind {
         Kind::Top => put_u8(into, 0),
@@ -71,13 +77,13 @@ fn put_kind(
         Kind::Null => put_u8(into, 5),
         Kind::UninitThis => put_u8(into, 6),
         Kind::Object(number) => {
-            let place = class_place(number, names, known, pool)?;
+            let place = class_place(number, refers.names, known, refers.pool)?;
             put_u8(into, 7)?;
             put_short(into, place)
         }
         Kind::Uninit(at) => {
             put_u8(into, 8)?;
-            put_short(into, starts[at as usize] as u16)
+            put_short(into, refers.starts[at as usize] as u16)
         }
     }
 }
@@ -85,23 +91,21 @@ fn put_kind(
 /// Puts verification types at the end, one behind the other.
 fn put_listed_kinds(
     kinds: &[Kind],
-    starts: &[u32],
-    names: &Names,
+    refers: &FrameReferences<'_>,
     known: &mut HashMap<u32, u16>,
-    pool: &Pool,
     into: &mut Vec<u8>,
 ) -> Result<(), Memory>
-    requires numbers { All (IsNumbered (length names.now)) kinds.now }
-    requires places { All (IsPlaced (length starts.now)) kinds.now }
-    requires short { AreShort starts.now }
-    requires stand { AllByRecursion (HasPlace pool.now) (class_names (map (verification_type names.now) kinds.now)) }
-    requires known { AreFirstPlaces pool.now names.now known.old }
-    ensures text { (p : Places) → ArePlacesIn pool.now starts.now p
-        → OnOk result (into.new.items ≡ into.old.items ++ flat_map (type_text p) (map (verification_type names.now) kinds.now)) }
-    ensures known { OnOk result (AreFirstPlaces pool.now names.now known.new) }
+    requires numbers { All (IsNumbered (length refers.now.names.now)) kinds.now }
+    requires places { All (IsPlaced (length refers.now.starts.now)) kinds.now }
+    requires short { AreShort refers.now.starts.now }
+    requires stand { AllByRecursion (HasPlace refers.now.pool.now) (class_names (map (verification_type refers.now.names.now) kinds.now)) }
+    requires known { AreFirstPlaces refers.now.pool.now refers.now.names.now known.old }
+    ensures text { (p : Places) → ArePlacesIn refers.now.pool.now refers.now.starts.now p
+        → OnOk result (into.new.items ≡ into.old.items ++ flat_map (type_text p) (map (verification_type refers.now.names.now) kinds.now)) }
+    ensures known { OnOk result (AreFirstPlaces refers.now.pool.now refers.now.names.now known.new) }
 {
     'writing: for kind in kinds {
-        put_kind(*kind, starts, names, known, pool, into)?;
+        put_kind(*kind, refers, known, into)?;
     }
     Ok(())
 }
@@ -109,24 +113,22 @@ fn put_listed_kinds(
 /// Puts the number of verification types at the end, and the types.
 fn put_kinds(
     kinds: &[Kind],
-    starts: &[u32],
-    names: &Names,
+    refers: &FrameReferences<'_>,
     known: &mut HashMap<u32, u16>,
-    pool: &Pool,
     into: &mut Vec<u8>,
 ) -> Result<(), Memory>
     requires few { length kinds.now ≤ 65535 }
-    requires numbers { All (IsNumbered (length names.now)) kinds.now }
-    requires places { All (IsPlaced (length starts.now)) kinds.now }
-    requires short { AreShort starts.now }
-    requires stand { AllByRecursion (HasPlace pool.now) (class_names (map (verification_type names.now) kinds.now)) }
-    requires known { AreFirstPlaces pool.now names.now known.old }
-    ensures text { (p : Places) → ArePlacesIn pool.now starts.now p
-        → OnOk result (into.new.items ≡ into.old.items ++ types_text p (map (verification_type names.now) kinds.now)) }
-    ensures known { OnOk result (AreFirstPlaces pool.now names.now known.new) }
+    requires numbers { All (IsNumbered (length refers.now.names.now)) kinds.now }
+    requires places { All (IsPlaced (length refers.now.starts.now)) kinds.now }
+    requires short { AreShort refers.now.starts.now }
+    requires stand { AllByRecursion (HasPlace refers.now.pool.now) (class_names (map (verification_type refers.now.names.now) kinds.now)) }
+    requires known { AreFirstPlaces refers.now.pool.now refers.now.names.now known.old }
+    ensures text { (p : Places) → ArePlacesIn refers.now.pool.now refers.now.starts.now p
+        → OnOk result (into.new.items ≡ into.old.items ++ types_text p (map (verification_type refers.now.names.now) kinds.now)) }
+    ensures known { OnOk result (AreFirstPlaces refers.now.pool.now refers.now.names.now known.new) }
 {
     put_short(into, kinds.len() as u16)?;
-    put_listed_kinds(kinds, starts, names, known, pool, into)
+    put_listed_kinds(kinds, refers, known, into)
 }
 
 /// Puts a full frame at the end, whose delta counts from a base: the values in local variables without the `Top`s at
@@ -135,50 +137,46 @@ fn put_frame(
     alloc: Global,
     frame: &FrameAt,
     base: u32,
-    starts: &[u32],
-    names: &Names,
+    refers: &FrameReferences<'_>,
     known: &mut HashMap<u32, u16>,
-    pool: &Pool,
     into: &mut Vec<u8>,
 ) -> Result<(), Memory>
-    requires fits { FitsFull (length starts.now) (length names.now) frame.now }
-    requires short { AreShort starts.now }
-    requires base { base ≤ slice_index starts.now frame.now.at }
-    requires stand { AllByRecursion (HasPlace pool.now) (named_by (type_state_at names.now frame.now)) }
-    requires known { AreFirstPlaces pool.now names.now known.old }
-    ensures text { (p : Places) → ArePlacesIn pool.now starts.now p
-        → OnOk result (into.new.items ≡ into.old.items ++ full_text p base (type_state_at names.now frame.now)) }
-    ensures known { OnOk result (AreFirstPlaces pool.now names.now known.new) }
+    requires fits { FitsFull (length refers.now.starts.now) (length refers.now.names.now) frame.now }
+    requires short { AreShort refers.now.starts.now }
+    requires base { base ≤ slice_index refers.now.starts.now frame.now.at }
+    requires stand { AllByRecursion (HasPlace refers.now.pool.now) (named_by (type_state_at refers.now.names.now frame.now)) }
+    requires known { AreFirstPlaces refers.now.pool.now refers.now.names.now known.old }
+    ensures text { (p : Places) → ArePlacesIn refers.now.pool.now refers.now.starts.now p
+        → OnOk result (into.new.items ≡ into.old.items ++ full_text p base (type_state_at refers.now.names.now frame.now)) }
+    ensures known { OnOk result (AreFirstPlaces refers.now.pool.now refers.now.names.now known.new) }
 {
-    let delta = starts[frame.at as usize] - base;
+    let delta = refers.starts[frame.at as usize] - base;
     put_u8(into, FULL_FRAME)?;
     put_short(into, delta as u16)?;
     let locals = kinds_in_locals(alloc, &frame.state.locals)?;
-    put_kinds(&locals, starts, names, known, pool, into)?;
-    put_kinds(&frame.state.stack, starts, names, known, pool, into)
+    put_kinds(&locals, refers, known, into)?;
+    put_kinds(&frame.state.stack, refers, known, into)
 }
 
 /// Puts full frames at the end, one behind the other.
 fn put_frames(
     alloc: Global,
     frames: &[FrameAt],
-    starts: &[u32],
-    names: &Names,
-    pool: &Pool,
+    refers: &FrameReferences<'_>,
     into: &mut Vec<u8>,
 ) -> Result<(), Memory>
-    requires each { AllByRecursion (FitsFull (length starts.now) (length names.now)) frames.now }
-    requires short { AreShort starts.now }
-    requires rising { OffsetsRise starts.now 0 frames.now }
-    requires stand { AllByRecursion (HasPlace pool.now) (named_by_all (map (type_state_at names.now) frames.now)) }
-    ensures { (p : Places) → ArePlacesIn pool.now starts.now p
-        → OnOk result (into.new.items ≡ into.old.items ++ full_texts p 0 (map (type_state_at names.now) frames.now)) }
+    requires each { AllByRecursion (FitsFull (length refers.now.starts.now) (length refers.now.names.now)) frames.now }
+    requires short { AreShort refers.now.starts.now }
+    requires rising { OffsetsRise refers.now.starts.now 0 frames.now }
+    requires stand { AllByRecursion (HasPlace refers.now.pool.now) (named_by_all (map (type_state_at refers.now.names.now) frames.now)) }
+    ensures { (p : Places) → ArePlacesIn refers.now.pool.now refers.now.starts.now p
+        → OnOk result (into.new.items ≡ into.old.items ++ full_texts p 0 (map (type_state_at refers.now.names.now) frames.now)) }
 {
     let mut known = HashMap::new(alloc);
     let mut base = 0;
     'writing: for frame in frames {
-        put_frame(alloc, frame, base, starts, names, &mut known, pool, into)?;
-        base = starts[frame.at as usize] + 1;
+        put_frame(alloc, frame, base, refers, &mut known, into)?;
+        base = refers.starts[frame.at as usize] + 1;
     }
     Ok(())
 }
@@ -187,18 +185,16 @@ fn put_frames(
 fn put_table(
     alloc: Global,
     frames: &[FrameAt],
-    starts: &[u32],
-    names: &Names,
-    pool: &Pool,
+    refers: &FrameReferences<'_>,
     into: &mut Vec<u8>,
 ) -> Result<(), Memory>
-    requires written { CanBeWritten starts.now (length names.now) frames.now }
-    requires stand { AllByRecursion (HasPlace pool.now) (named_by_all (map (type_state_at names.now) frames.now)) }
-    ensures { (p : Places) → ArePlacesIn pool.now starts.now p
-        → OnOk result (into.new.items ≡ into.old.items ++ table_text p (map (type_state_at names.now) frames.now)) }
+    requires written { CanBeWritten refers.now.starts.now (length refers.now.names.now) frames.now }
+    requires stand { AllByRecursion (HasPlace refers.now.pool.now) (named_by_all (map (type_state_at refers.now.names.now) frames.now)) }
+    ensures { (p : Places) → ArePlacesIn refers.now.pool.now refers.now.starts.now p
+        → OnOk result (into.new.items ≡ into.old.items ++ table_text p (map (type_state_at refers.now.names.now) frames.now)) }
 {
     put_short(into, frames.len() as u16)?;
-    put_frames(alloc, frames, starts, names, pool, into)
+    put_frames(alloc, frames, refers, into)
 }
 
 /// Writes a StackMapTable at the end, without the name and the length of the attribute (JVM Specification 4.7.4): the
@@ -227,7 +223,12 @@ pub fn write_taken(
     ensures kept { OnErr result (into.new.items ≡ into.old.items) }
 {
     let mut table = Vec::new(alloc);
-    put_table(alloc, frames, starts, names, pool, &mut table)?;
+    let refers = FrameReferences {
+        starts,
+        names,
+        pool,
+    };
+    put_table(alloc, frames, &refers, &mut table)?;
     put_bytes(into, &table)
 }
 

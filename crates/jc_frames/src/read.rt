@@ -72,33 +72,6 @@ pub fn read_frames(
     ensures names { IfOk result (λ frames. names.new ≡ met names.old (frame_names (map (type_state_at names.new) frames.items))) }
     ensures grows { Grows names.old names.new }
 {
-    found_frames(alloc, table, entry, max_stack, code, starts, pool, names)
-}
-
-/// The frames of a table, as the walk over it finds them out.
-fn found_frames(
-    alloc: Global,
-    table: &[u8],
-    entry: &State,
-    max_stack: u16,
-    code: &[Insn],
-    starts: &[u32],
-    pool: &Pool,
-    names: &mut Names,
-) -> Result<Vec<FrameAt>, Fail<Refusal>>
-    requires table { length table.now ≤ most_read }
-    requires locals { length entry.now.locals < 2 ^ 32 }
-    requires few { length starts.now < 2 ^ 32 }
-    requires offsets { AreOffsets (length code.now) starts.now }
-    requires numbered { IsNumberedState (length names.old) entry.now }
-    ensures frames { IfOk result (λ frames. outcome_of (ground pool.now code.now starts.now (length entry.now.locals) max_stack)
-        (type_state names.old entry.now) table.now ≡ stands_for (map (type_state_at names.new) frames.items)) }
-    ensures numbered { IfOk result (λ frames. AreNumberedFrames (length names.new) frames.items) }
-    ensures refused { IfErr result (FailsAt (outcome_of (ground pool.now code.now starts.now (length entry.now.locals) max_stack)
-        (type_state names.old entry.now) table.now)) }
-    ensures names { IfOk result (λ frames. names.new ≡ met names.old (frame_names (map (type_state_at names.new) frames.items))) }
-    ensures grows { Grows names.old names.new }
-{
     let method = Method::new(
         alloc,
         entry.locals.len() as u32,
@@ -107,6 +80,28 @@ fn found_frames(
         starts,
         pool,
     )?;
+    found_frames(alloc, &method, table, entry, names)
+}
+
+/// The frames of a table, as the walk over it finds them out.
+fn found_frames(
+    alloc: Global,
+    method: &Method<'_>,
+    table: &[u8],
+    entry: &State,
+    names: &mut Names,
+) -> Result<Vec<FrameAt>, Fail<Refusal>>
+    requires table { length table.now ≤ most_read }
+    requires locals { length entry.now.locals < 2 ^ 32 }
+    requires as_many { method.now.max_locals ≡ length entry.now.locals }
+    requires numbered { IsNumberedState (length names.old) entry.now }
+    ensures frames { IfOk result (λ frames. outcome_of method.now (type_state names.old entry.now) table.now
+        ≡ stands_for (map (type_state_at names.new) frames.items)) }
+    ensures numbered { IfOk result (λ frames. AreNumberedFrames (length names.new) frames.items) }
+    ensures refused { IfErr result (FailsAt (outcome_of method.now (type_state names.old entry.now) table.now)) }
+    ensures names { IfOk result (λ frames. names.new ≡ met names.old (frame_names (map (type_state_at names.new) frames.items))) }
+    ensures grows { Grows names.old names.new }
+{
     let mut running = Running::first(alloc, entry)?;
     let mut known = HashMap::new(alloc);
     let mut frames = Vec::new(alloc);
@@ -115,9 +110,9 @@ fn found_frames(
         return Err(Fail::Said(bad_frame(0)));
     };
     'reading: for number in 0..count {
-        match next_frame(alloc, &method, &mut reader, &mut running)? {
+        match next_frame(alloc, method, &mut reader, &mut running)? {
             Some(frame) => {
-                frames.push(built_frame(alloc, &method, &running, &frame, &mut known, names)?)?;
+                frames.push(built_frame(alloc, method, &running, &frame, &mut known, names)?)?;
             }
             None => return Err(Fail::Said(bad_frame(u32::from(number)))),
         }

@@ -21,24 +21,24 @@ put_kinds-requires-clause-few c =
 
 pub put_kinds-requires-clause-numbers : goal.put_kinds-requires-clause-numbers
 put_kinds-requires-clause-numbers c =
-    let Each : List Kind → Type 0 = λ l. All (IsNumbered (length c.args.names.now)) l in
-    subst Each (sym c.deref-2.ensures.value) (c.in_ok-locals.ensures.numbered (length c.args.names.now)
-    (subst Each (sym c.deref.ensures) (All-from_recursion (IsNumbered (length c.args.names.now)) c.args.frame.now.state.locals c.requires.fits.numbered.locals)))
+    let Each : List Kind → Type 0 = λ l. All (IsNumbered (length c.args.refers.now.names.now)) l in
+    subst Each (sym c.deref-2.ensures.value) (c.in_ok-locals.ensures.numbered (length c.args.refers.now.names.now)
+    (subst Each (sym c.deref.ensures) (All-from_recursion (IsNumbered (length c.args.refers.now.names.now)) c.args.frame.now.state.locals c.requires.fits.numbered.locals)))
 
 pub put_kinds-requires-clause-places : goal.put_kinds-requires-clause-places
 put_kinds-requires-clause-places c =
-    let Each : List Kind → Type 0 = λ l. All (IsPlaced (length c.args.starts.now)) l in
-    subst Each (sym c.deref-2.ensures.value) (c.in_ok-locals.ensures.placed (length c.args.starts.now)
-    (subst Each (sym c.deref.ensures) (All-from_recursion (IsPlaced (length c.args.starts.now)) c.args.frame.now.state.locals c.requires.fits.local_places)))
+    let Each : List Kind → Type 0 = λ l. All (IsPlaced (length c.args.refers.now.starts.now)) l in
+    subst Each (sym c.deref-2.ensures.value) (c.in_ok-locals.ensures.placed (length c.args.refers.now.starts.now)
+    (subst Each (sym c.deref.ensures) (All-from_recursion (IsPlaced (length c.args.refers.now.starts.now)) c.args.frame.now.state.locals c.requires.fits.local_places)))
 
 pub put_kinds-requires-clause-stand : goal.put_kinds-requires-clause-stand
 put_kinds-requires-clause-stand c =
-    let names = c.args.names.now in
+    let names = c.args.refers.now.names.now in
     let locals = c.args.frame.now.state.locals in
     let values : map (verification_type names) c.deref-2.result.now ≡ values_in (map (verification_type names) locals) =
     ap (map (verification_type names)) c.deref-2.ensures.value ∙ c.in_ok-locals.ensures.values names ∙ ap (λ (l : List Kind). values_in (map (verification_type names) l)) c.deref.ensures in
-    subst (λ (l : List VerificationType). AllByRecursion (HasPlace c.args.pool.now) (class_names l)) (sym values)
-    (both_parts (HasPlace c.args.pool.now) (class_names (values_in (map (verification_type names) locals)))
+    subst (λ (l : List VerificationType). AllByRecursion (HasPlace c.args.refers.now.pool.now) (class_names l)) (sym values)
+    (both_parts (HasPlace c.args.refers.now.pool.now) (class_names (values_in (map (verification_type names) locals)))
     (class_names (map (verification_type names) c.args.frame.now.state.stack)) c.requires.stand).0
 
 pub put_kinds-requires-2-clause-few : goal.put_kinds-requires-2-clause-few
@@ -49,25 +49,25 @@ put_kinds-requires-2-clause-few c =
 
 pub put_kinds-requires-2-clause-numbers : goal.put_kinds-requires-2-clause-numbers
 put_kinds-requires-2-clause-numbers c =
-    let Each : List Kind → Type 0 = λ l. All (IsNumbered (length c.args.names.now)) l in
-    subst Each (sym c.deref-3.ensures) (All-from_recursion (IsNumbered (length c.args.names.now)) c.args.frame.now.state.stack c.requires.fits.numbered.stack)
+    let Each : List Kind → Type 0 = λ l. All (IsNumbered (length c.args.refers.now.names.now)) l in
+    subst Each (sym c.deref-3.ensures) (All-from_recursion (IsNumbered (length c.args.refers.now.names.now)) c.args.frame.now.state.stack c.requires.fits.numbered.stack)
 
 pub put_kinds-requires-2-clause-places : goal.put_kinds-requires-2-clause-places
 put_kinds-requires-2-clause-places c =
-    let Each : List Kind → Type 0 = λ l. All (IsPlaced (length c.args.starts.now)) l in
-    subst Each (sym c.deref-3.ensures) (All-from_recursion (IsPlaced (length c.args.starts.now)) c.args.frame.now.state.stack c.requires.fits.stack_places)
+    let Each : List Kind → Type 0 = λ l. All (IsPlaced (length c.args.refers.now.starts.now)) l in
+    subst Each (sym c.deref-3.ensures) (All-from_recursion (IsPlaced (length c.args.refers.now.starts.now)) c.args.frame.now.state.stack c.requires.fits.stack_places)
 
 pub put_kinds-requires-2-clause-stand : goal.put_kinds-requires-2-clause-stand
 put_kinds-requires-2-clause-stand c =
-    let names = c.args.names.now in
+    let names = c.args.refers.now.names.now in
     let state = c.args.frame.now.state in
-    subst (λ (l : List Kind). AllByRecursion (HasPlace c.args.pool.now) (class_names (map (verification_type names) l))) (sym c.deref-3.ensures)
-    (both_parts (HasPlace c.args.pool.now) (class_names (values_in (map (verification_type names) state.locals)))
+    subst (λ (l : List Kind). AllByRecursion (HasPlace c.args.refers.now.pool.now) (class_names (map (verification_type names) l))) (sym c.deref-3.ensures)
+    (both_parts (HasPlace c.args.refers.now.pool.now) (class_names (values_in (map (verification_type names) state.locals)))
     (class_names (map (verification_type names) state.stack)) c.requires.stand).1
 
 pub returns-clause-text : goal.returns-clause-text
 returns-clause-text c p are =
-    let names = c.args.names.now in
+    let names = c.args.refers.now.names.now in
     let state = c.args.frame.now.state in
     let old = c.args.into.now.items in
     let a = c.put_u8.new.into.items in

@@ -7,8 +7,9 @@ use Rattle.jc_frames.proofs.full_frames.put_listed_kinds.Given as goal
 
 abbrev pub invariant-writing : goal.invariant-writing
 invariant-writing l = record {
-  text : (p : Places) → ArePlacesIn l.pool l.starts p
-      → l.into.items ++ flat_map (type_text p) (map (verification_type l.names) (drop l.kind-index l.kinds)) ≡ l.fn.into.items ++ flat_map (type_text p) (map (verification_type l.names) l.kinds);
-  stand : AllByRecursion (HasPlace l.pool) (class_names (map (verification_type l.names) (drop l.kind-index l.kinds)));
-  known : AreFirstPlaces l.pool l.names l.known;
+  text : (p : Places) → ArePlacesIn l.refers.pool.now l.refers.starts.now p
+      → l.into.items ++ flat_map (type_text p) (map (verification_type l.refers.names.now) (drop l.kind-index l.kinds))
+      ≡ l.fn.into.items ++ flat_map (type_text p) (map (verification_type l.refers.names.now) l.kinds);
+  stand : AllByRecursion (HasPlace l.refers.pool.now) (class_names (map (verification_type l.refers.names.now) (drop l.kind-index l.kinds)));
+  known : AreFirstPlaces l.refers.pool.now l.refers.names.now l.known;
 }
