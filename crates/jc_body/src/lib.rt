@@ -9,6 +9,7 @@ mod faults;
 mod form;
 mod items;
 mod laws;
+mod method;
 mod places;
 mod reading;
 mod stack_map;

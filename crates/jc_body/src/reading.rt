@@ -25,6 +25,7 @@ use crate::code::{bad_code, read_coded};
 use crate::coded::Coded;
 use crate::faults::{first_fault, slots_of_arguments};
 use crate::items::Tables;
+use crate::method::Method;
 use crate::places::{Offsets, handlers_of, lines_of, numbers_of, offsets_of, vars_of};
 use crate::stack_map::frames_of;
 use crate::tables::read_tables;
@@ -38,33 +39,31 @@ use std::alloc::Global;
 /// The body that is made of what was read of a method, in which no fault was found, without its frames.
 fn assembled(
     alloc: Global,
-    class: &ClassFile,
-    number: u16,
-    method: &Member,
+    method: &Method<'_>,
     coded: Coded,
     offsets: &Offsets<'_>,
     tables: &Tables,
 ) -> Result<Body, Memory>
-    requires class { HasClass class.now.pool class.now.this_class }
-    requires name { HasText class.now.pool method.now.name }
-    requires desc { HasMethodDescriptor class.now.pool method.now.desc }
-    requires arguments { IsNowhere (ArgumentsOutside class.now.pool method.now coded) }
+    requires name { HasText method.now.class.now.pool method.now.member.now.name }
+    requires desc { HasMethodDescriptor method.now.class.now.pool method.now.member.now.desc }
+    requires arguments { IsNowhere (ArgumentsOutside method.now.class.now.pool method.now.member.now coded) }
     requires offsets { Numbers coded offsets.now }
-    ensures parts { (names : AllNames) (owner : Seq ℕ) (frames : Seq Frame) → IsNamed class.now owner
-        → HasNumberedFrames names class.now.pool owner method.now coded frames
-        → IfOk result (HasPartsWith names class.now number method.now coded tables.now frames) }
+    ensures parts { (names : AllNames) (frames : Seq Frame)
+        → HasNumberedFrames names method.now.class.now.pool method.now.owner.now method.now.member.now coded frames
+        → IfOk result (HasPartsWith names method.now.class.now method.now.number method.now.member.now coded tables.now frames) }
     ensures texts { IfOk result HasShortParts }
 {
-    let pool = &class.pool;
+    let pool = &method.class.pool;
+    let member = method.member;
     let max_locals = coded.items.max_locals;
-    let desc = text_at(pool, method.desc);
+    let desc = text_at(pool, member.desc);
     Ok(Body {
-        method: number,
-        owner: Bytes::copy_of(alloc, class_name_at(pool, class.this_class))?,
-        name: Bytes::copy_of(alloc, text_at(pool, method.name))?,
+        method: method.number,
+        owner: Bytes::copy_of(alloc, method.owner)?,
+        name: Bytes::copy_of(alloc, text_at(pool, member.name))?,
         desc: Bytes::copy_of(alloc, desc)?,
-        flags: method.flags,
-        arg_slots: slots_of_arguments(method.flags, desc) as u16,
+        flags: member.flags,
+        arg_slots: slots_of_arguments(member.flags, desc) as u16,
         max_stack: coded.items.max_stack,
         max_locals,
         handlers: handlers_of(alloc, offsets, &coded.items.rows)?,
@@ -107,34 +106,30 @@ fn with_counted_lists(body: Body) -> Result<Body, Memory>
 /// found.
 fn with_tables(
     alloc: Global,
-    class: &ClassFile,
-    number: u16,
-    method: &Member,
+    method: &Method<'_>,
     coded: Coded,
     offsets: &Offsets<'_>,
     names: &mut Names,
 ) -> Result<Body, Fail<Refusal>>
-    requires class { HasClass class.now.pool class.now.this_class }
-    requires name { HasText class.now.pool method.now.name }
-    requires desc { HasMethodDescriptor class.now.pool method.now.desc }
-    requires coded { IsCoded class.now.pool method.now coded }
+    requires name { HasText method.now.class.now.pool method.now.member.now.name }
+    requires desc { HasMethodDescriptor method.now.class.now.pool method.now.member.now.desc }
+    requires coded { IsCoded method.now.class.now.pool method.now.member.now coded }
     requires sizes { All (λ a. length a.body ≤ most_read) coded.items.attributes }
     requires few { length coded.insns ≤ 65535 }
     requires offsets { Numbers coded offsets.now }
-    requires before { AreNowhere (map (λ F. F coded) (insn_faults class.now.major class.now.pool ++ row_faults class.now.pool method.now)) }
-    ensures body { IfOk result (IsBody names.new class.now number method.now) }
+    requires before { AreNowhere (map (λ F. F coded) (insn_faults method.now.class.now.major method.now.class.now.pool
+        ++ row_faults method.now.class.now.pool method.now.member.now)) }
+    ensures body { IfOk result (IsBody names.new method.now.class.now method.now.number method.now.member.now) }
     ensures sizes { IfOk result HasSmallParts }
-    ensures refused { (owner : Seq ℕ) → class_name_of class.now.pool class.now.this_class ≡ Some owner
-        → IfErr result (λ e. Said e (IsRefusal class.now.major class.now.pool owner method.now number)) }
+    ensures refused { (owner : Seq ℕ) → IsNamed method.now.class.now owner → IfErr result (λ e. Said e
+        (IsRefusal method.now.class.now.major method.now.class.now.pool owner method.now.member.now method.now.number)) }
     ensures grows { Grows names.old names.new }
 {
-    let Some(tables) = read_tables(alloc, &class.pool, &coded.items.attributes)? else {
-        return Err(Fail::Said(bad_code(number, 0)));
+    let Some(tables) = read_tables(alloc, &method.class.pool, &coded.items.attributes)? else {
+        return Err(Fail::Said(bad_code(method.number, 0)));
     };
-    let pool = &class.pool;
-    let owner = class_name_at(pool, class.this_class);
-    let frames = frames_of(alloc, pool, owner, number, method, &coded, names)?;
-    let mut body = assembled(alloc, class, number, method, coded, offsets, &tables)?;
+    let frames = frames_of(alloc, method, &coded, names)?;
+    let mut body = assembled(alloc, method, coded, offsets, &tables)?;
     body.frames = frames;
     Ok(with_counted_lists(body)?)
 }
@@ -142,28 +137,26 @@ fn with_tables(
 /// The body of a method with this code.
 fn body_of(
     alloc: Global,
-    class: &ClassFile,
-    number: u16,
-    method: &Member,
+    method: &Method<'_>,
     coded: Coded,
     names: &mut Names,
 ) -> Result<Body, Fail<Refusal>>
-    requires class { HasClass class.now.pool class.now.this_class }
-    requires name { HasText class.now.pool method.now.name }
-    requires desc { HasMethodDescriptor class.now.pool method.now.desc }
-    requires sizes { All (λ a. length a.body ≤ most_read) method.now.attributes }
-    requires coded { IsCoded class.now.pool method.now coded }
-    ensures body { IfOk result (IsBody names.new class.now number method.now) }
+    requires name { HasText method.now.class.now.pool method.now.member.now.name }
+    requires desc { HasMethodDescriptor method.now.class.now.pool method.now.member.now.desc }
+    requires sizes { All (λ a. length a.body ≤ most_read) method.now.member.now.attributes }
+    requires coded { IsCoded method.now.class.now.pool method.now.member.now coded }
+    ensures body { IfOk result (IsBody names.new method.now.class.now method.now.number method.now.member.now) }
     ensures sizes { IfOk result HasSmallParts }
-    ensures refused { (owner : Seq ℕ) → class_name_of class.now.pool class.now.this_class ≡ Some owner
-        → IfErr result (λ e. Said e (IsRefusal class.now.major class.now.pool owner method.now number)) }
+    ensures refused { (owner : Seq ℕ) → IsNamed method.now.class.now owner → IfErr result (λ e. Said e
+        (IsRefusal method.now.class.now.major method.now.class.now.pool owner method.now.member.now method.now.number)) }
     ensures grows { Grows names.old names.new }
 {
+    let class = method.class;
     let numbers = numbers_of(alloc, &coded)?;
     let offsets = offsets_of(&numbers, &coded);
-    match first_fault(class.major, &class.pool, method, &coded, &offsets) {
-        Some(place) => Err(Fail::Said(bad_code(number, place))),
-        None => with_tables(alloc, class, number, method, coded, &offsets, names),
+    match first_fault(class.major, &class.pool, method.member, &coded, &offsets) {
+        Some(place) => Err(Fail::Said(bad_code(method.number, place))),
+        None => with_tables(alloc, method, coded, &offsets, names),
     }
 }
 
@@ -188,7 +181,15 @@ fn answer(
 {
     match read_coded(alloc, &class.pool, number, method)? {
         None => Ok(None),
-        Some(coded) => Ok(Some(body_of(alloc, class, number, method, coded, names)?)),
+        Some(coded) => {
+            let method = Method {
+                class,
+                owner: class_name_at(&class.pool, class.this_class),
+                number,
+                member: method,
+            };
+            Ok(Some(body_of(alloc, &method, coded, names)?))
+        }
     }
 }
 

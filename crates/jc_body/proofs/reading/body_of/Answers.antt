@@ -17,33 +17,34 @@ short pool method coded sizes is =
     items_short pool most_read is.items.bytes coded.items bytes is.items.text.text
 
 pub numbers_of-requires-clause-starts : goal.numbers_of-requires-clause-starts
-numbers_of-requires-clause-starts c = starts_of c.args.class.now.pool c.args.method.now c.args.coded c.requires.coded
+numbers_of-requires-clause-starts c = starts_of _ _ _ c.requires.coded
 
 pub numbers_of-requires-clause-within : goal.numbers_of-requires-clause-within
-numbers_of-requires-clause-within c = starts_within c.args.class.now.pool c.args.method.now c.args.coded c.requires.coded
+numbers_of-requires-clause-within c = starts_within _ _ _ c.requires.coded
 
 pub numbers_of-requires-clause-few : goal.numbers_of-requires-clause-few
-numbers_of-requires-clause-few c = insns_short c.args.class.now.pool c.args.method.now c.args.coded c.requires.coded
+numbers_of-requires-clause-few c = insns_short _ _ _ c.requires.coded
 
 pub offsets_of-offsets-requires-clause-few : goal.offsets_of-offsets-requires-clause-few
-offsets_of-offsets-requires-clause-few c = insns_short c.args.class.now.pool c.args.method.now c.args.coded c.requires.coded
+offsets_of-offsets-requires-clause-few c = insns_short _ _ _ c.requires.coded
 
 pub first_fault-requires-clause-starts : goal.first_fault-requires-clause-starts
-first_fault-requires-clause-starts c = starts_of c.args.class.now.pool c.args.method.now c.args.coded c.requires.coded
+first_fault-requires-clause-starts c = starts_of _ _ _ c.requires.coded
 
 pub first_fault-requires-clause-few : goal.first_fault-requires-clause-few
-first_fault-requires-clause-few c = insns_short c.args.class.now.pool c.args.method.now c.args.coded c.requires.coded
+first_fault-requires-clause-few c = insns_short _ _ _ c.requires.coded
 
 pub first_fault-requires-clause-rows : goal.first_fault-requires-clause-rows
-first_fault-requires-clause-rows c = (short c.args.class.now.pool c.args.method.now c.args.coded c.requires.sizes c.requires.coded).rows
+first_fault-requires-clause-rows c = (short _ _ _ c.requires.sizes c.requires.coded).rows
 
 pub with_tables-requires-clause-sizes : goal.with_tables-requires-clause-sizes
-with_tables-requires-clause-sizes c = (short c.args.class.now.pool c.args.method.now c.args.coded c.requires.sizes c.requires.coded).attributes
+with_tables-requires-clause-sizes c = (short _ _ _ c.requires.sizes c.requires.coded).attributes
 
 pub with_tables-requires-clause-few : goal.with_tables-requires-clause-few
-with_tables-requires-clause-few c = insns_short c.args.class.now.pool c.args.method.now c.args.coded c.requires.coded
+with_tables-requires-clause-few c = insns_short _ _ _ c.requires.coded
 
 pub returns-in-Some-clause-refused : goal.returns-in-Some-clause-refused
 returns-in-Some-clause-refused c = λ owner owner_is.
-    front_refusal c.args.class.now.major c.args.class.now.pool owner c.args.method.now c.args.number c.args.coded c.requires.coded c.bad_code.result
-    c.first_fault.result c.in-Some.place (search rules) c.bad_code.ensures c.first_fault.ensures
+    let method = c.args.method.now in
+    front_refusal method.class.now.major method.class.now.pool owner method.member.now method.number c.args.coded c.requires.coded
+    c.bad_code.result c.first_fault.result c.in-Some.place (search rules) c.bad_code.ensures c.first_fault.ensures

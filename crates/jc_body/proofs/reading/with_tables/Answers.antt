@@ -11,33 +11,37 @@ use Rattle.jc_body.proofs.reading.with_tables.Goals as goal
 
 pub returns-in_default-clause-refused : goal.returns-in_default-clause-refused
 returns-in_default-clause-refused c = λ owner owner_is.
-    table_refusal c.args.class.now.major c.args.class.now.pool owner c.args.method.now c.args.number c.args.coded c.requires.coded c.bad_code.result
-    c.in_ok-tables.field-0 c.requires.before (search rules) c.bad_code.ensures (search rules)
+    let method = c.args.method.now in
+    table_refusal method.class.now.major method.class.now.pool owner method.member.now method.number c.args.coded c.requires.coded
+    c.bad_code.result c.in_ok-tables.field-0 c.requires.before (search rules) c.bad_code.ensures (search rules)
 
 pub returns-in_err-frames-clause-refused : goal.returns-in_err-frames-clause-refused
 returns-in_err-frames-clause-refused c = λ owner owner_is.
+    let method = c.args.method.now in
     let p = err_from_is_err_and c.from_residual-in_err-frames.result c.from_residual-in_err-frames.ensures.1 in
-    let same = same_Some _ _ (sym c.class_name_at-owner.ensures.text ∙ owner_is) in
-    let said = subst (λ (o : List ℕ). Said c.in_err-frames.field-0.0 (IsFrameRefusal c.args.class.now.pool o c.args.method.now c.args.coded c.args.number)) same c.in_err-frames.ensures.refused in
-    rw (p.1, p.2) (frame_refusals c.args.class.now.major c.args.class.now.pool owner c.args.method.now c.args.number c.args.coded c.requires.coded
-    c.in_err-frames.field-0.0 c.in_ok-tables.field-0 c.in-Some.tables c.requires.before (search rules) (search rules) said)
+    let same = same_Some _ _ (sym method.named ∙ owner_is) in
+    let said = subst (λ (o : List ℕ). Said c.in_err-frames.field-0.0 (IsFrameRefusal method.class.now.pool o method.member.now c.args.coded method.number))
+    same c.in_err-frames.ensures.refused in
+    rw (p.1, p.2) (frame_refusals method.class.now.major method.class.now.pool owner method.member.now method.number c.args.coded
+    c.requires.coded c.in_err-frames.field-0.0 c.in_ok-tables.field-0 c.in-Some.tables c.requires.before (search rules) (search rules) said)
 
 pub returns-clause-body : goal.returns-clause-body
 returns-clause-body c =
-    let class = c.args.class.now in
-    let owner = c.class_name_at-owner.result.now in
+    let method = c.args.method.now in
+    let class = method.class.now in
     let found = c.in_ok-frames.ensures.frames in
-    let none = nothing_wrong class.major class.pool owner c.args.method.now c.args.number c.args.coded c.requires.coded c.in_ok-tables.field-0
-    c.in-Some.tables c.requires.before (search rules) (search rules) found.no_fault found.narrow in
-    let made = c.in_ok-body.ensures.parts c.frames_of.new.names owner c.in_ok-frames.frames c.class_name_at-owner.ensures.text (found.frames_are, found.numbers) in
+    let none = nothing_wrong class.major class.pool method.owner.now method.member.now method.number c.args.coded c.requires.coded
+    c.in_ok-tables.field-0 c.in-Some.tables c.requires.before (search rules) (search rules) found.no_fault found.narrow in
+    let made = c.in_ok-body.ensures.parts c.frames_of.new.names c.in_ok-frames.frames (found.frames_are, found.numbers) in
     let same = sym c.in_ok-with_counted_lists.ensures.same in
-    let parts = subst (HasParts c.frames_of.new.names class c.args.number c.args.method.now c.args.coded c.in-Some.tables) same made in
+    let parts = subst (HasParts c.frames_of.new.names class method.number method.member.now c.args.coded c.in-Some.tables) same made in
     record {
       coded = c.args.coded;
       is = c.requires.coded;
       no_subroutine = none.0;
-      no_fault = subst (λ (o : List ℕ). AreNowhere (faults class.major class.pool o c.args.method.now)) (same_Some _ _ (sym c.class_name_at-owner.ensures.text ∙ parts.owner)) none.1;
+      no_fault = subst (λ (o : List ℕ). AreNowhere (faults class.major class.pool o method.member.now)) (same_Some _ _ (sym method.named ∙ parts.owner)) none.1;
       tables = c.in-Some.tables;
-      are_tables = tables_are class.major class.pool owner c.args.method.now c.args.number c.args.coded c.requires.coded c.in_ok-tables.field-0 c.in-Some.tables (search rules) (search rules);
+      are_tables = tables_are class.major class.pool method.owner.now method.member.now method.number c.args.coded c.requires.coded
+          c.in_ok-tables.field-0 c.in-Some.tables (search rules) (search rules);
       parts = parts;
     }
