@@ -39,14 +39,7 @@ use Rattle.jc_bytes.proofs.OptionLaws.{some_there}
 
 held_moved : (names : List (List ℕ)) (image : ℕ → ℕ) (kind : Kind) → verification_type names (image_kind image kind) ≡ renamed image (verification_type names kind)
 held_moved names image kinds.Top = refl
-held_moved names image kinds.Int = refl
-held_moved names image kinds.Float = refl
-held_moved names image kinds.Double = refl
-held_moved names image kinds.Long = refl
-held_moved names image kinds.Null = refl
-held_moved names image kinds.UninitThis = refl
-held_moved names image (kinds.Object n) = refl
-held_moved names image (kinds.Uninit i) = refl
+held_moved names image kind = refl
 
 pub all_moved : (names : List (List ℕ)) (image : ℕ → ℕ) (xs : List Kind)
     → map (verification_type names) (map (image_kind image) xs) ≡ map (renamed image) (map (verification_type names) xs)

@@ -166,16 +166,8 @@ module _ (first : ℕ) (f : Framing) (is : IsFraming first f) where
       by : (fl : Flow) (o : Option ℕ) → (fl ≡ flows.Branches → ⊥)
           → frame_if (is_further b first states f.array i o fl) (frame (image_of b first false i + 1) (moved (state_behind b states i (late_probe b first i)))) ≡ []
       by flows.Branches o differs = absurd (differs refl)
-      by flows.GoesOn None differs = refl
-      by flows.GoesOn (Some id) differs = refl
-      by flows.Jumps None differs = refl
-      by flows.Jumps (Some id) differs = refl
-      by flows.Switches None differs = refl
-      by flows.Switches (Some id) differs = refl
-      by flows.Returns None differs = refl
-      by flows.Returns (Some id) differs = refl
-      by flows.Throws None differs = refl
-      by flows.Throws (Some id) differs = refl
+      by fl None differs = refl
+      by fl (Some id) differs = refl
 
   -- the frames of an instruction, put one after the other
   pub all_put : (i : ℕ) (leads lands : ℕ) (s : State) (inverse lead framed led landed : Bool) (old one two new arms : List FrameAt) → i < length b.code

@@ -10,7 +10,7 @@ use Rattle.jc_methods.specs.declared.kind.State.{State}
 use Rattle.jc_methods.specs.declared.body.Body.{Body}
 use Rattle.jc_methods.specs.declared.body.Handler.{Handler}
 use Rattle.jc_plan.specs.Probed.{probe_of}
-use Rattle.jc_emit.specs.Items.{Item, init_call, init_store, image, probe_array, probe_id, probe_one, probe_store, hop, insn_of, twin_items, lead_of, land_of}
+use Rattle.jc_emit.specs.Items.{Item, init_call, image, insn_of, twin_items, lead_of, land_of}
 use Rattle.jc_emit.specs.TwinTables.{moved_row}
 use Rattle.jc_emit.specs.Local.{OkRow, no_ids, unchanged_items}
 use Rattle.jc_emit.specs.Twin.{Twin}
@@ -30,13 +30,7 @@ rest_of_all P x xs all = λ k d lt. all (suc k) d (omega arith)
 
 pub insn_is : (call v : ℕ) (x : Item) → IsInsnOf call v x (insn_of call v x)
 insn_is call v init_call = refl
-insn_is call v init_store = refl
-insn_is call v (image insn at early) = refl
-insn_is call v (probe_array id at late) = refl
-insn_is call v (probe_id id at late) = refl
-insn_is call v (probe_one id at late) = refl
-insn_is call v (probe_store id at late) = refl
-insn_is call v (hop to at due) = refl
+insn_is call v x = refl
 
 -- code that is that of the items has the instruction of each
 pub insns_of : (call v : ℕ) (items : List Item) (code : List Insn) → code ≡ map (insn_of call v) items → AreInsnsOf call v items code
@@ -52,7 +46,7 @@ rows_kept Kept Is new kept [] all = tt
 rows_kept Kept Is new kept (h ∷ hs) all =
     (kept h (first_of_all Is h hs all), rows_kept Kept Is new kept hs (rest_of_all Is h hs all))
 
-pub seen : (names new_names : List (List ℕ)) (states : List State) (first : ℕ) (b b' : Body) → IsWellMadeOfAnySize b
+abbrev pub seen : (names new_names : List (List ℕ)) (states : List State) (first : ℕ) (b b' : Body) → IsWellMadeOfAnySize b
     → (t : Twin names new_names states first b b') → IsSeen first b b' t.marks
 seen names new_names states first b b' well t =
     let marks = marks_known b first t.wide t.call b'.code t.marks well.code t.code in

@@ -207,14 +207,7 @@ module _ (names new_names : Names) (states : List State) (first : ℕ) (wide : B
     where
       one : (k : Kind) → width (verification_type names k) ≡ kind_slots k
       one kinds.Long = refl
-      one kinds.Double = refl
-      one kinds.Top = refl
-      one kinds.Int = refl
-      one kinds.Float = refl
-      one kinds.Null = refl
-      one kinds.UninitThis = refl
-      one (kinds.Object n) = refl
-      one (kinds.Uninit i) = refl
+      one k = refl
 
   frame_low : (i : ℕ) (s : TypeState) → frame_at (frames_of names b) i ≡ Some s → slots s.stack ≤ b.max_stack
   frame_low i s e =

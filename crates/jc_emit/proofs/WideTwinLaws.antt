@@ -5,7 +5,7 @@ use Rattle.std.proofs.lemmas.Bool.{and_parts, or_left, cases_Bool, cases_lt, not
 use Rattle.jc_bytes.specs.PlainLists.{pieces}
 use Rattle.jc_methods.specs.Flow.{flow_of}
 use Rattle.jc_methods.specs.WellMade.{IsCode, AreFramesFrom, IsWellMadeOfAnySize}
-use Rattle.jc_methods.specs.VerificationTypes.{Names, VerificationType, verification_type, type_state, object, uninit, top, int, float, double, long, null, uninit_this}
+use Rattle.jc_methods.specs.VerificationTypes.{Names, VerificationType, verification_type, type_state, object, top}
 use Rattle.jc_methods.specs.declared.kind.State.{State}
 use Rattle.jc_methods.specs.declared.body.Body.{Body}
 use Rattle.jc_methods.specs.declared.body.FrameAt.{FrameAt}
@@ -37,14 +37,7 @@ use Rattle.jc_bytes.proofs.BooleanLaws.{none_in}
 
 image_twice : (g f : ℕ → ℕ) (h : VerificationType) → renamed g (renamed f h) ≡ renamed (λ i. g (f i)) h
 image_twice g f top = refl
-image_twice g f int = refl
-image_twice g f float = refl
-image_twice g f double = refl
-image_twice g f long = refl
-image_twice g f null = refl
-image_twice g f uninit_this = refl
-image_twice g f (object name) = refl
-image_twice g f (uninit i) = refl
+image_twice g f h = refl
 
 images_twice : (g f : ℕ → ℕ) (xs : List VerificationType) → map (renamed g) (map (renamed f) xs) ≡ map (renamed (λ i. g (f i))) xs
 images_twice g f [] = refl

@@ -83,8 +83,8 @@ fn instrumented(
         extra,
     } = write_code(alloc, body, plan, &places)?;
     let framing = Framing::of(alloc, body, plan, &places, states, array)?;
-    let frames = framing.layout_frames(alloc, false)?;
-    let wide_frames = framing.wide_frames(alloc)?;
+    let frames = framing.layout_frames(false)?;
+    let wide_frames = framing.wide_frames()?;
     let MovedTables {
         handlers,
         lines,

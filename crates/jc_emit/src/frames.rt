@@ -151,6 +151,7 @@ fn is_further(framed: bool, lead: bool) -> bool
 /// What the frames of the instrumented code of a method are made from.
 #[derive(Drop)]
 pub(crate) struct Framing<'a> {
+    alloc: Global,
     body: &'a Body,
     plan: &'a Plan,
     places: &'a Places,
@@ -182,6 +183,7 @@ impl<'a> Framing<'a> {
     {
         let framed = framed(alloc, &body.frames, body.code.len())?;
         Ok(Framing {
+            alloc,
             body,
             plan,
             places,
@@ -220,14 +222,14 @@ impl<'a> Framing<'a> {
     }
 
     /// The shifted form of a state without so many of its topmost stack entries.
-    fn moved(&self, alloc: Global, state: &State, operands: usize) -> Result<State, Memory>
+    fn moved(&self, state: &State, operands: usize) -> Result<State, Memory>
         requires framing { (first : ℕ) × IsFraming first self.now }
         requires state { IsState self.now.body.now.code self.now.body.now.max_locals self.now.body.now.max_stack state.now }
         ensures { (first : ℕ) → IsFraming first self.now → IfOk result (λ s. s
             ≡ moved_state self.now.body.now first self.now.states.now self.now.array (without operands state.now)) }
     {
         shifted(
-            alloc,
+            self.alloc,
             state,
             operands,
             self.body.arg_slots,
@@ -239,7 +241,6 @@ impl<'a> Framing<'a> {
     /// Puts a frame at a place of the new code, if a test holds.
     fn put_if(
         &self,
-        alloc: Global,
         test: bool,
         place: u32,
         state: &State,
@@ -254,13 +255,13 @@ impl<'a> Framing<'a> {
         if !test {
             return Ok(());
         }
-        let state = self.moved(alloc, state, operands)?;
+        let state = self.moved(state, operands)?;
         frames.push(FrameAt { at: place, state })?;
         Ok(())
     }
 
     /// Puts the frames at the arm places of a switch.
-    fn put_arms_at(&self, alloc: Global, at: usize, frames: &mut Vec<FrameAt>) -> Result<(), Memory>
+    fn put_arms_at(&self, at: usize, frames: &mut Vec<FrameAt>) -> Result<(), Memory>
         requires framing { (first : ℕ) × IsFraming first self.now }
         requires at { at < length self.now.body.now.code }
         ensures { (first : ℕ) → IsFraming first self.now → OnOk result (frames.new.items
@@ -269,9 +270,9 @@ impl<'a> Framing<'a> {
         let insn = &self.body.code[at];
         match insn.flow() {
             Flow::Switches => {
-                let state = self.moved(alloc, &self.states[at], operands(insn))?;
+                let state = self.moved(&self.states[at], operands(insn))?;
                 let first = self.places.images[at] + 1;
-                put_arms(alloc, first, &self.plan.out[at], &state, frames)?;
+                put_arms(self.alloc, first, &self.plan.out[at], &state, frames)?;
                 Ok(())
             }
             _ => Ok(()),
@@ -279,7 +280,7 @@ impl<'a> Framing<'a> {
     }
 
     /// Puts the frames of what belongs to an instruction.
-    fn put_at(&self, alloc: Global, at: usize, frames: &mut Vec<FrameAt>) -> Result<(), Memory>
+    fn put_at(&self, at: usize, frames: &mut Vec<FrameAt>) -> Result<(), Memory>
         requires framing { (first : ℕ) × IsFraming first self.now }
         requires at { at < length self.now.body.now.code }
         ensures { (first : ℕ) → IsFraming first self.now → OnOk result (frames.new.items
@@ -289,15 +290,15 @@ impl<'a> Framing<'a> {
         let inverse = self.has_inverse(at);
         let state = &self.states[at];
         let led = is_led(inverse, lead);
-        self.put_if(alloc, led, self.places.leads[at], state, 0, frames)?;
+        self.put_if(led, self.places.leads[at], state, 0, frames)?;
         let landed = is_landed(self.framed[at], inverse, lead);
-        self.put_if(alloc, landed, self.places.lands[at], state, 0, frames)?;
-        self.put_arms_at(alloc, at, frames)?;
+        self.put_if(landed, self.places.lands[at], state, 0, frames)?;
+        self.put_arms_at(at, frames)?;
         Ok(())
     }
 
     /// Puts the frame that the wide layout needs behind a conditional jump, where none stands.
-    fn put_behind(&self, alloc: Global, at: usize, frames: &mut Vec<FrameAt>) -> Result<(), Memory>
+    fn put_behind(&self, at: usize, frames: &mut Vec<FrameAt>) -> Result<(), Memory>
         requires framing { (first : ℕ) × IsFraming first self.now }
         requires at { at < length self.now.body.now.code }
         requires tests { flow_of (insn_at self.now.body.now.code at) ≡ flows.Branches }
@@ -308,20 +309,20 @@ impl<'a> Framing<'a> {
         match self.late_probe(at) {
             Some(_) => {
                 let taken = operands(&self.body.code[at]);
-                self.put_if(alloc, true, behind, &self.states[at], taken, frames)?;
+                self.put_if(true, behind, &self.states[at], taken, frames)?;
                 Ok(())
             }
             None => {
                 let next = at + 1;
                 let further = is_further(self.framed[next], self.plan.lead[next].is_some());
-                self.put_if(alloc, further, behind, &self.states[next], 0, frames)?;
+                self.put_if(further, behind, &self.states[next], 0, frames)?;
                 Ok(())
             }
         }
     }
 
     /// Puts the further frame of the wide layout of what belongs to an instruction, if there is one.
-    fn put_wide_at(&self, alloc: Global, at: usize, frames: &mut Vec<FrameAt>) -> Result<(), Memory>
+    fn put_wide_at(&self, at: usize, frames: &mut Vec<FrameAt>) -> Result<(), Memory>
         requires framing { (first : ℕ) × IsFraming first self.now }
         requires at { at < length self.now.body.now.code }
         ensures { (first : ℕ) → IsFraming first self.now → OnOk result (frames.new.items
@@ -329,7 +330,7 @@ impl<'a> Framing<'a> {
     {
         match self.body.code[at].flow() {
             Flow::Branches => {
-                self.put_behind(alloc, at, frames)?;
+                self.put_behind(at, frames)?;
                 Ok(())
             }
             _ => Ok(()),
@@ -337,47 +338,41 @@ impl<'a> Framing<'a> {
     }
 
     /// Puts the frames of a layout of what belongs to an instruction.
-    fn put_layout_at(
-        &self,
-        alloc: Global,
-        wide: bool,
-        at: usize,
-        frames: &mut Vec<FrameAt>,
-    ) -> Result<(), Memory>
+    fn put_layout_at(&self, wide: bool, at: usize, frames: &mut Vec<FrameAt>) -> Result<(), Memory>
         requires framing { (first : ℕ) × IsFraming first self.now }
         requires at { at < length self.now.body.now.code }
         ensures { (first : ℕ) → IsFraming first self.now → OnOk result (frames.new.items
             ≡ frames.old.items ++ layout_frames_at self.now.body.now first self.now.states.now self.now.array wide at) }
     {
-        self.put_at(alloc, at, frames)?;
+        self.put_at(at, frames)?;
         if wide {
-            self.put_wide_at(alloc, at, frames)?;
+            self.put_wide_at(at, frames)?;
         }
         Ok(())
     }
 
     /// The frames of a layout, in rising order.
-    pub(crate) fn layout_frames(&self, alloc: Global, wide: bool) -> Result<Vec<FrameAt>, Memory>
+    pub(crate) fn layout_frames(&self, wide: bool) -> Result<Vec<FrameAt>, Memory>
         requires { (first : ℕ) × IsFraming first self.now }
         ensures { (first : ℕ) → IsFraming first self.now → IfOk result (λ frames. frames.items
             ≡ layout_frames self.now.body.now first self.now.states.now self.now.array wide) }
     {
-        let mut frames = Vec::new(alloc);
+        let mut frames = Vec::new(self.alloc);
         'framing: for at in 0..self.body.code.len() {
-            self.put_layout_at(alloc, wide, at, &mut frames)?;
+            self.put_layout_at(wide, at, &mut frames)?;
         }
         Ok(frames)
     }
 
     /// The further frames that the wide layout needs, in rising order.
-    pub(crate) fn wide_frames(&self, alloc: Global) -> Result<Vec<FrameAt>, Memory>
+    pub(crate) fn wide_frames(&self) -> Result<Vec<FrameAt>, Memory>
         requires { (first : ℕ) × IsFraming first self.now }
         ensures { (first : ℕ) → IsFraming first self.now → IfOk result (λ frames. frames.items
             ≡ pieces (wide_frames_at self.now.body.now first self.now.states.now self.now.array) (length self.now.body.now.code)) }
     {
-        let mut frames = Vec::new(alloc);
+        let mut frames = Vec::new(self.alloc);
         'framing: for at in 0..self.body.code.len() {
-            self.put_wide_at(alloc, at, &mut frames)?;
+            self.put_wide_at(at, &mut frames)?;
         }
         Ok(frames)
     }

@@ -22,25 +22,39 @@ use jc_bytes::{Memory, TryClone};
 use jc_methods::{Body, Flow, Insn, Plan};
 use std::alloc::Global;
 
+/// What the code of an instrumented method is made from.
+#[derive(Clone, Copy)]
+struct CodeSource<'a> {
+    body: &'a Body,
+    plan: &'a Plan,
+    places: &'a Places,
+}
+
+/// A conditional jump of a method, and the probe of its jump.
+#[derive(Clone, Copy)]
+struct ConditionalJump<'a> {
+    insn: &'a Insn,
+    late: Option<u32>,
+}
+
 /// The image of a conditional jump: with a probe of its jump the inverse, which leads to where the
 /// fall-through leads, so that the probe is passed only where the jump is taken.
 fn test_image(
     alloc: Global,
     places: &Places,
     at: u32,
-    insn: &Insn,
-    late: Option<u32>,
+    jump: ConditionalJump<'_>,
 ) -> Result<Insn, Memory>
-    requires test { flow_of insn.now ≡ flows.Branches }
-    requires formed { IsWellFormed insn.now }
+    requires test { flow_of jump.insn.now ≡ flows.Branches }
+    requires formed { IsWellFormed jump.insn.now }
     requires next { at + 1 < length places.now.leads.items }
-    requires within { LeadsWithin (length places.now.lands.items) insn.now }
+    requires within { LeadsWithin (length places.now.lands.items) jump.insn.now }
     ensures { IfOk result (λ image. image
-        ≡ test_image (slice_index places.now.lands.items) (slice_index places.now.leads.items (at + 1)) insn.now late) }
+        ≡ test_image (slice_index places.now.lands.items) (slice_index places.now.leads.items (at + 1)) jump.entry.insn.now jump.entry.late) }
 {
-    match late {
-        Some(_) => inverted(alloc, insn, places.leads[at as usize + 1]),
-        None => led(alloc, &places.lands, insn),
+    match jump.late {
+        Some(_) => inverted(alloc, jump.insn, places.leads[at as usize + 1]),
+        None => led(alloc, &places.lands, jump.insn),
     }
 }
 
@@ -52,20 +66,19 @@ fn put_test(
     slot: u16,
     places: &Places,
     at: u32,
-    insn: &Insn,
-    late: Option<u32>,
+    jump: ConditionalJump<'_>,
 ) -> Result<(), Memory>
-    requires test { flow_of insn.now ≡ flows.Branches }
-    requires formed { IsWellFormed insn.now }
+    requires test { flow_of jump.insn.now ≡ flows.Branches }
+    requires formed { IsWellFormed jump.insn.now }
     requires next { at + 1 < length places.now.leads.items }
-    requires within { LeadsWithin (length places.now.lands.items) insn.now }
-    requires pushed { IsPushed late }
+    requires within { LeadsWithin (length places.now.lands.items) jump.insn.now }
+    requires pushed { IsPushed jump.late }
     ensures { (b : MethodBody) (first : ℕ) → ArePlaces b first places.now
-        → OnOk result (Grows slot written.old written.new (tests_part b first false at insn.now late)) }
+        → OnOk result (Grows slot written.old written.new (tests_part b first false at jump.entry.insn.now jump.entry.late)) }
 {
-    written.put_image(test_image(alloc, places, at, insn, late)?, at)?;
-    let to = jump_target(insn);
-    written.put_behind(slot, late, to, places.lands[to as usize])?;
+    written.put_image(test_image(alloc, places, at, jump)?, at)?;
+    let to = jump_target(jump.insn);
+    written.put_behind(slot, jump.late, to, places.lands[to as usize])?;
     Ok(())
 }
 
@@ -75,26 +88,44 @@ fn put_switch(
     alloc: Global,
     written: &mut Written,
     table: &mut [u32],
-    body: &Body,
-    plan: &Plan,
-    places: &Places,
+    source: CodeSource<'_>,
     at: usize,
 ) -> Result<(), Memory>
-    requires given { CanWrite body.now plan.now places.now }
-    requires at { at < length body.now.code }
-    requires switch { flow_of (insn_at body.now.code at) ≡ flows.Switches }
-    requires table { length table.old ≡ length body.now.code + 1 }
+    requires given { CanWrite source.body.now source.plan.now source.places.now }
+    requires at { at < length source.body.now.code }
+    requires switch { flow_of (insn_at source.body.now.code at) ≡ flows.Switches }
+    requires table { length table.old ≡ length source.body.now.code + 1 }
     ensures table { length table.new ≡ length table.old }
-    ensures code { (first : ℕ) → plan.now ≡ plan_of body.now first → OnOk result (Grows body.now.arg_slots written.old written.new
-        (image_part body.now first false at (insn_at body.now.code at) flows.Switches)) }
+    ensures code { (first : ℕ) → source.entry.plan.now ≡ plan_of source.entry.body.now first
+        → OnOk result (Grows source.entry.body.now.arg_slots written.old written.new
+        (image_part source.entry.body.now first false at (insn_at source.entry.body.now.code at) flows.Switches)) }
 {
-    let insn = &body.code[at];
-    let ids = plan.out[at].as_slice();
+    let insn = &source.body.code[at];
+    let ids = source.plan.out[at].as_slice();
     let targets = insn.distinct_targets(alloc)?;
-    set_arms(table, &places.lands, places.images[at] + 1, &targets, ids);
+    set_arms(
+        table,
+        &source.places.lands,
+        source.places.images[at] + 1,
+        &targets,
+        ids,
+    );
     written.put_image(led(alloc, table, insn)?, at as u32)?;
-    put_arms(written, body.arg_slots, &places.lands, &targets, ids)?;
+    put_arms(
+        written,
+        source.body.arg_slots,
+        &source.places.lands,
+        &targets,
+        ids,
+    )?;
     Ok(())
+}
+
+/// How many local variables the method has.
+fn local_count(body: &Body) -> u16
+    ensures { result ≡ body.now.max_locals }
+{
+    body.max_locals
 }
 
 /// Puts what belongs to an instruction from its image on.
@@ -102,45 +133,44 @@ fn put_main(
     alloc: Global,
     written: &mut Written,
     table: &mut [u32],
-    body: &Body,
-    plan: &Plan,
-    places: &Places,
+    source: CodeSource<'_>,
     at: usize,
 ) -> Result<(), Memory>
-    requires given { CanWrite body.now plan.now places.now }
-    requires at { at < length body.now.code }
-    requires table { length table.old ≡ length body.now.code + 1 }
+    requires given { CanWrite source.body.now source.plan.now source.places.now }
+    requires at { at < length source.body.now.code }
+    requires table { length table.old ≡ length source.body.now.code + 1 }
     ensures table { length table.new ≡ length table.old }
-    ensures code { (first : ℕ) → plan.now ≡ plan_of body.now first → OnOk result (Grows body.now.arg_slots written.old written.new
-        (image_part body.now first false at (insn_at body.now.code at) (flow_of (insn_at body.now.code at)))) }
+    ensures code { (first : ℕ) → source.entry.plan.now ≡ plan_of source.entry.body.now first
+        → OnOk result (Grows source.entry.body.now.arg_slots written.old written.new
+        (image_part source.entry.body.now first false at (insn_at source.entry.body.now.code at) (flow_of (insn_at source.entry.body.now.code at)))) }
 {
-    let insn = &body.code[at];
+    let insn = &source.body.code[at];
     match insn.flow() {
         Flow::GoesOn => {
             // A local variable of the method is below their number, which fits its type.
-            let _count = body.max_locals;
-            written.put_image(moved(alloc, insn, body.arg_slots)?, at as u32)?;
+            let _count = local_count(source.body);
+            written.put_image(moved(alloc, insn, source.body.arg_slots)?, at as u32)?;
             Ok(())
         }
         Flow::Branches => {
-            let late = late_id(Flow::Branches, plan.out[at].as_slice());
+            let late = late_id(Flow::Branches, source.plan.out[at].as_slice());
+            let jump = ConditionalJump { insn, late };
             put_test(
                 alloc,
                 written,
-                body.arg_slots,
-                places,
+                source.body.arg_slots,
+                source.places,
                 at as u32,
-                insn,
-                late,
+                jump,
             )?;
             Ok(())
         }
         Flow::Jumps => {
-            written.put_image(led(alloc, &places.lands, insn)?, at as u32)?;
+            written.put_image(led(alloc, &source.places.lands, insn)?, at as u32)?;
             Ok(())
         }
         Flow::Switches => {
-            put_switch(alloc, written, table, body, plan, places, at)?;
+            put_switch(alloc, written, table, source, at)?;
             Ok(())
         }
         Flow::Returns | Flow::Throws => {
@@ -156,22 +186,20 @@ fn put_segment(
     alloc: Global,
     written: &mut Written,
     table: &mut [u32],
-    body: &Body,
-    plan: &Plan,
-    places: &Places,
+    source: CodeSource<'_>,
     at: usize,
 ) -> Result<(), Memory>
-    requires given { CanWrite body.now plan.now places.now }
-    requires at { at < length body.now.code }
-    requires table { length table.old ≡ length body.now.code + 1 }
+    requires given { CanWrite source.body.now source.plan.now source.places.now }
+    requires at { at < length source.body.now.code }
+    requires table { length table.old ≡ length source.body.now.code + 1 }
     ensures table { length table.new ≡ length table.old }
-    ensures code { (first : ℕ) → plan.now ≡ plan_of body.now first
-        → OnOk result (Grows body.now.arg_slots written.old written.new (segment body.now first false at)) }
+    ensures code { (first : ℕ) → source.entry.plan.now ≡ plan_of source.entry.body.now first
+        → OnOk result (Grows source.entry.body.now.arg_slots written.old written.new (segment source.entry.body.now first false at)) }
 {
-    written.put_front(body.arg_slots, plan.lead[at], at as u32)?;
-    let early = early_id(body.code[at].flow(), plan.out[at].as_slice());
-    written.put_front(body.arg_slots, early, at as u32)?;
-    put_main(alloc, written, table, body, plan, places, at)?;
+    written.put_front(source.body.arg_slots, source.plan.lead[at], at as u32)?;
+    let early = early_id(source.body.code[at].flow(), source.plan.out[at].as_slice());
+    written.put_front(source.body.arg_slots, early, at as u32)?;
+    put_main(alloc, written, table, source, at)?;
     Ok(())
 }
 
@@ -199,7 +227,8 @@ pub(crate) fn write_code(
     written.put_prelude(body.arg_slots)?;
     let mut table = Vec::from_slice(alloc, &places.lands)?;
     'writing: for at in 0..body.code.len() {
-        put_segment(alloc, &mut written, &mut table, body, plan, places, at)?;
+        let source = CodeSource { body, plan, places };
+        put_segment(alloc, &mut written, &mut table, source, at)?;
     }
     Ok(written)
 }

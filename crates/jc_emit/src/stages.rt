@@ -81,7 +81,7 @@ pub fn emit_parts(
     let array = names.number(alloc, PROBE_ARRAY)?;
     let places = Places::of(alloc, body, plan)?;
     let framing = Framing::of(alloc, body, plan, &places, states, array)?;
-    let frames = framing.layout_frames(alloc, wide)?;
+    let frames = framing.layout_frames(wide)?;
     let tables = moved_tables(alloc, body, &places)?;
     Ok(EmittedParts {
         frames: List::from_vec(frames),

@@ -17,35 +17,35 @@ use Rattle.jc_emit.proofs.SegmentLaws.{table_is, led_agrees, leads_at, outs_push
 use Rattle.jc_emit.proofs.segments.put_main.Goals as goal
 
 pub overflow_cast-at : goal.overflow_cast-at
-overflow_cast-at c = omega (arith, c.requires.at, few_insns c.args.body.now.code, c.requires.given.made.code.few)
+overflow_cast-at c = omega (arith, c.requires.at, few_insns c.args.source.body.now.code, c.requires.given.made.code.few)
 
 pub bounds-deref-at-in-Branches : goal.bounds-deref-at-in-Branches
 bounds-deref-at-in-Branches c =
     let plan = c.requires.given.planned in
-    omega (arith, c.requires.at, ap length c.deref-in-Branches.ensures, length_outs c.args.body.now plan.0 c.args.plan.now plan.1)
+    omega (arith, c.requires.at, ap length c.deref-in-Branches.ensures, length_outs c.args.source.body.now plan.0 c.args.source.plan.now plan.1)
 
 pub overflow_cast-at-in-Branches : goal.overflow_cast-at-in-Branches
-overflow_cast-at-in-Branches c = omega (arith, c.requires.at, few_insns c.args.body.now.code, c.requires.given.made.code.few)
+overflow_cast-at-in-Branches c = omega (arith, c.requires.at, few_insns c.args.source.body.now.code, c.requires.given.made.code.few)
 
 pub put_test-requires-clause-pushed : goal.put_test-requires-clause-pushed
 put_test-requires-clause-pushed c =
     let plan = c.requires.given.planned in
-    let b = c.args.body.now in
+    let b = c.args.source.body.now in
     let at = c.args.at in
-    let ids = outs_seen b plan.0 c.args.plan.now plan.1 _ at c.index-deref-at-in-Branches.result c.as_slice.result.now c.requires.at
+    let ids = outs_seen b plan.0 c.args.source.plan.now plan.1 _ at c.index-deref-at-in-Branches.result c.as_slice.result.now c.requires.at
     c.deref-in-Branches.ensures c.index-deref-at-in-Branches.is c.as_slice.ensures in
     subst IsPushed (sym (c.late_id-late.ensures ∙ ap (λ (l : List (Option ℕ)). get_or l 1 None) ids))
-    (outs_pushed b plan.0 c.args.plan.now plan.1 c.requires.given.next at (insn_at b.code at) 1)
+    (outs_pushed b plan.0 c.args.source.plan.now plan.1 c.requires.given.next at (insn_at b.code at) 1)
 
 pub overflow_cast-at-in-Jumps : goal.overflow_cast-at-in-Jumps
-overflow_cast-at-in-Jumps c = omega (arith, c.requires.at, few_insns c.args.body.now.code, c.requires.given.made.code.few)
+overflow_cast-at-in-Jumps c = omega (arith, c.requires.at, few_insns c.args.source.body.now.code, c.requires.given.made.code.few)
 
 pub overflow_cast-at-in-Returns : goal.overflow_cast-at-in-Returns
-overflow_cast-at-in-Returns c = omega (arith, c.requires.at, few_insns c.args.body.now.code, c.requires.given.made.code.few)
+overflow_cast-at-in-Returns c = omega (arith, c.requires.at, few_insns c.args.source.body.now.code, c.requires.given.made.code.few)
 
 pub returns-in_ok-put_image-in-GoesOn-clause-code : goal.returns-in_ok-put_image-in-GoesOn-clause-code
 returns-in_ok-put_image-in-GoesOn-clause-code c = λ first plan.
-    let b = c.args.body.now in
+    let b = c.args.source.body.now in
     let at = c.args.at in
     let v = b.arg_slots in
     let old = c.args.written.now in
@@ -58,7 +58,7 @@ returns-in_ok-put_image-in-GoesOn-clause-code c = λ first plan.
 
 pub returns-in_ok-put_test-in-Branches-clause-code : goal.returns-in_ok-put_test-in-Branches-clause-code
 returns-in_ok-put_test-in-Branches-clause-code c = λ first plan.
-    let b = c.args.body.now in
+    let b = c.args.source.body.now in
     let at = c.args.at in
     let v = b.arg_slots in
     let old = c.args.written.now in
@@ -66,7 +66,7 @@ returns-in_ok-put_test-in-Branches-clause-code c = λ first plan.
     let insn = insn_seen b.code _ at c.index-deref-at.result c.requires.at c.deref.ensures c.index-deref-at.is in
     let flow : flow_of (insn_at b.code at) ≡ flows.Branches = ap flow_of (sym insn) ∙ sym c.flow.ensures ∙ c.in-Branches.is in
     let outs = out_probes b first at (insn_at b.code at) in
-    let ids = outs_seen b first c.args.plan.now plan _ at c.index-deref-at-in-Branches.result c.as_slice.result.now c.requires.at
+    let ids = outs_seen b first c.args.source.plan.now plan _ at c.index-deref-at-in-Branches.result c.as_slice.result.now c.requires.at
     c.deref-in-Branches.ensures c.index-deref-at-in-Branches.is c.as_slice.ensures in
     let late : c.late_id-late.result ≡ late_probe b first at =
     c.late_id-late.ensures ∙ ap (λ (l : List (Option ℕ)). get_or l 1 None) ids ∙ ap (λ f. late_in f outs) (sym flow) ∙ late_read b first at in
@@ -76,7 +76,7 @@ returns-in_ok-put_test-in-Branches-clause-code c = λ first plan.
 
 pub returns-in_ok-put_image-in-Jumps-clause-code : goal.returns-in_ok-put_image-in-Jumps-clause-code
 returns-in_ok-put_image-in-Jumps-clause-code c = λ first plan.
-    let b = c.args.body.now in
+    let b = c.args.source.body.now in
     let at = c.args.at in
     let v = b.arg_slots in
     let old = c.args.written.now in
@@ -87,7 +87,7 @@ returns-in_ok-put_image-in-Jumps-clause-code c = λ first plan.
     let insn = insn_seen b.code _ at c.index-deref-at.result c.requires.at c.deref.ensures c.index-deref-at.is in
     let flow : flow_of (insn_at b.code at) ≡ flows.Jumps = ap flow_of (sym insn) ∙ sym c.flow.ensures ∙ c.in-Jumps.is in
     let tells : IsTableOf land lands =
-    subst (IsTableOf land) (sym c.deref-in-Jumps.ensures.value) (table_is land (length b.code) c.args.places.now.lands.items are.lands) in
+    subst (IsTableOf land) (sym c.deref-in-Jumps.ensures.value) (table_is land (length b.code) c.args.source.places.now.lands.items are.lands) in
     let within = leads_at b at c.requires.at c.requires.given.made (length lands) (ap length c.deref-in-Jumps.ensures.value ∙ are.lands.size) in
     let led =
     c.in_ok-led-in-Jumps.ensures ∙ ap (with_places (slice_index lands)) insn ∙ led_agrees land lands (insn_at b.code at) tells within in
@@ -97,7 +97,7 @@ returns-in_ok-put_image-in-Jumps-clause-code c = λ first plan.
 
 pub returns-in_ok-put_image-in-Returns-clause-code : goal.returns-in_ok-put_image-in-Returns-clause-code
 returns-in_ok-put_image-in-Returns-clause-code c = λ first plan.
-    let b = c.args.body.now in
+    let b = c.args.source.body.now in
     let at = c.args.at in
     let v = b.arg_slots in
     let old = c.args.written.now in

@@ -16,51 +16,51 @@ use Rattle.jc_emit.proofs.segments.put_segment.Goals as goal
 pub bounds-deref-at : goal.bounds-deref-at
 bounds-deref-at c =
     let plan = c.requires.given.planned in
-    omega (arith, c.requires.at, ap length c.deref.ensures, length_leads c.args.body.now plan.0 c.args.plan.now plan.1)
+    omega (arith, c.requires.at, ap length c.deref.ensures, length_leads c.args.source.body.now plan.0 c.args.source.plan.now plan.1)
 
 pub overflow_cast-at : goal.overflow_cast-at
-overflow_cast-at c = omega (arith, c.requires.at, few_insns c.args.body.now.code, c.requires.given.made.code.few)
+overflow_cast-at c = omega (arith, c.requires.at, few_insns c.args.source.body.now.code, c.requires.given.made.code.few)
 
 pub put_front-requires : goal.put_front-requires
 put_front-requires c =
     let plan = c.requires.given.planned in
-    let b = c.args.body.now in
+    let b = c.args.source.body.now in
     let at = c.args.at in
     subst IsPushed
-    (sym (ap (λ (l : List (Option ℕ)). get_or l at None) c.deref.ensures ∙ lead_here b plan.0 c.args.plan.now plan.1 at None c.requires.at))
-    (lead_pushed b plan.0 c.args.plan.now plan.1 c.requires.given.next at)
+    (sym (ap (λ (l : List (Option ℕ)). get_or l at None) c.deref.ensures ∙ lead_here b plan.0 c.args.source.plan.now plan.1 at None c.requires.at))
+    (lead_pushed b plan.0 c.args.source.plan.now plan.1 c.requires.given.next at)
 
 pub bounds-deref-at-3 : goal.bounds-deref-at-3
 bounds-deref-at-3 c =
     let plan = c.requires.given.planned in
-    omega (arith, c.requires.at, ap length c.deref-3.ensures, length_outs c.args.body.now plan.0 c.args.plan.now plan.1)
+    omega (arith, c.requires.at, ap length c.deref-3.ensures, length_outs c.args.source.body.now plan.0 c.args.source.plan.now plan.1)
 
 pub overflow_cast-at-2 : goal.overflow_cast-at-2
-overflow_cast-at-2 c = omega (arith, c.requires.at, few_insns c.args.body.now.code, c.requires.given.made.code.few)
+overflow_cast-at-2 c = omega (arith, c.requires.at, few_insns c.args.source.body.now.code, c.requires.given.made.code.few)
 
 pub put_front-requires-2 : goal.put_front-requires-2
 put_front-requires-2 c =
     let plan = c.requires.given.planned in
-    let b = c.args.body.now in
+    let b = c.args.source.body.now in
     let at = c.args.at in
-    let ids = outs_seen b plan.0 c.args.plan.now plan.1 _ at c.index-deref-at-2.result c.as_slice.result.now c.requires.at c.deref-3.ensures c.index-deref-at-2.is c.as_slice.ensures in
+    let ids = outs_seen b plan.0 c.args.source.plan.now plan.1 _ at c.index-deref-at-2.result c.as_slice.result.now c.requires.at c.deref-3.ensures c.index-deref-at-2.is c.as_slice.ensures in
     subst IsPushed (sym c.early_id-early.ensures)
     (early_pushed c.flow.result c.as_slice.result.now
-    (λ k. subst (λ (l : List (Option ℕ)). IsPushed (get_or l k None)) (sym ids) (outs_pushed b plan.0 c.args.plan.now plan.1 c.requires.given.next at (insn_at b.code at) k)))
+    (λ k. subst (λ (l : List (Option ℕ)). IsPushed (get_or l k None)) (sym ids) (outs_pushed b plan.0 c.args.source.plan.now plan.1 c.requires.given.next at (insn_at b.code at) k)))
 
 pub returns-clause-code : goal.returns-clause-code
 returns-clause-code c = λ first plan.
-    let b = c.args.body.now in
+    let b = c.args.source.body.now in
     let at = c.args.at in
     let v = b.arg_slots in
     let old = c.args.written.now in
     let led = c.put_front.new.self in
     let front = c.put_front-2.new.self in
     let new = c.put_main.new.written in
-    let ids = outs_seen b first c.args.plan.now plan _ at c.index-deref-at-2.result c.as_slice.result.now c.requires.at c.deref-3.ensures c.index-deref-at-2.is c.as_slice.ensures in
+    let ids = outs_seen b first c.args.source.plan.now plan _ at c.index-deref-at-2.result c.as_slice.result.now c.requires.at c.deref-3.ensures c.index-deref-at-2.is c.as_slice.ensures in
     let insn = insn_seen b.code _ at c.index-deref-at.result c.requires.at c.deref-2.ensures c.index-deref-at.is in
     let lead : get_or c.deref.result.now at None ≡ lead_probe b first at =
-    ap (λ (l : List (Option ℕ)). get_or l at None) c.deref.ensures ∙ lead_here b first c.args.plan.now plan at None c.requires.at in
+    ap (λ (l : List (Option ℕ)). get_or l at None) c.deref.ensures ∙ lead_here b first c.args.source.plan.now plan at None c.requires.at in
     let early : c.early_id-early.result ≡ early_probe b first at =
     c.early_id-early.ensures
     ∙ ap₂ (λ (f : Flow) (o : List (Option ℕ)). early_in f o) (c.flow.ensures ∙ ap flow_of insn) ids

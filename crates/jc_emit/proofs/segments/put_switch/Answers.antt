@@ -22,12 +22,12 @@ use Rattle.jc_emit.proofs.segments.put_switch.Goals as goal
 pub bounds-deref-at-2 : goal.bounds-deref-at-2
 bounds-deref-at-2 c =
     let plan = c.requires.given.planned in
-    omega (arith, c.requires.at, ap length c.deref-2.ensures, length_outs c.args.body.now plan.0 c.args.plan.now plan.1)
+    omega (arith, c.requires.at, ap length c.deref-2.ensures, length_outs c.args.source.body.now plan.0 c.args.source.plan.now plan.1)
 
 pub overflow_add-index : goal.overflow_add-index
 overflow_add-index c =
     let plan = c.requires.given.planned in
-    let b = c.args.body.now in
+    let b = c.args.source.body.now in
     let at = c.args.at in
     let images = (c.requires.given.placed plan.0 plan.1).images in
     let here = place_seen (image_of b plan.0 false) (length b.code) _ at c.index.result.now images c.requires.at c.index.ensures in
@@ -36,7 +36,7 @@ overflow_add-index c =
 pub set_arms-requires-clause-within : goal.set_arms-requires-clause-within
 set_arms-requires-clause-within c =
     let plan = c.requires.given.planned in
-    let b = c.args.body.now in
+    let b = c.args.source.body.now in
     let at = c.args.at in
     let insn = insn_seen b.code _ at c.index-deref-at.result c.requires.at c.deref.ensures c.index-deref-at.is in
     let targets = c.deref-4.ensures ∙ c.in_ok-targets.ensures ∙ ap (λ (i : Insn). first_seen (targets_of i)) insn in
@@ -47,25 +47,25 @@ set_arms-requires-clause-within c =
 pub set_arms-requires-clause-ids : goal.set_arms-requires-clause-ids
 set_arms-requires-clause-ids c =
     let plan = c.requires.given.planned in
-    let b = c.args.body.now in
+    let b = c.args.source.body.now in
     let at = c.args.at in
     let insn = insn_seen b.code _ at c.index-deref-at.result c.requires.at c.deref.ensures c.index-deref-at.is in
     let targets = c.deref-4.ensures ∙ c.in_ok-targets.ensures ∙ ap (λ (i : Insn). first_seen (targets_of i)) insn in
-    let ids = outs_seen b plan.0 c.args.plan.now plan.1 _ at c.index-deref-at-2.result c.as_slice-ids.result.now c.requires.at c.deref-2.ensures c.index-deref-at-2.is c.as_slice-ids.ensures in
+    let ids = outs_seen b plan.0 c.args.source.plan.now plan.1 _ at c.index-deref-at-2.result c.as_slice-ids.result.now c.requires.at c.deref-2.ensures c.index-deref-at-2.is c.as_slice-ids.ensures in
     ap length ids ∙ switch_ids b plan.0 at c.requires.switch ∙ ap length (sym targets)
 
 pub set_arms-requires-clause-few : goal.set_arms-requires-clause-few
 set_arms-requires-clause-few c =
     let plan = c.requires.given.planned in
-    let b = c.args.body.now in
+    let b = c.args.source.body.now in
     let at = c.args.at in
-    let ids = outs_seen b plan.0 c.args.plan.now plan.1 _ at c.index-deref-at-2.result c.as_slice-ids.result.now c.requires.at c.deref-2.ensures c.index-deref-at-2.is c.as_slice-ids.ensures in
+    let ids = outs_seen b plan.0 c.args.source.plan.now plan.1 _ at c.index-deref-at-2.result c.as_slice-ids.result.now c.requires.at c.deref-2.ensures c.index-deref-at-2.is c.as_slice-ids.ensures in
     omega (arith, ap length ids, few_outs b plan.0 c.requires.given.made.code at c.requires.at)
 
 pub set_arms-requires-clause-small : goal.set_arms-requires-clause-small
 set_arms-requires-clause-small c =
     let plan = c.requires.given.planned in
-    let b = c.args.body.now in
+    let b = c.args.source.body.now in
     let at = c.args.at in
     let images = (c.requires.given.placed plan.0 plan.1).images in
     let here = place_seen (image_of b plan.0 false) (length b.code) _ at c.index.result.now images c.requires.at c.index.ensures in
@@ -73,19 +73,19 @@ set_arms-requires-clause-small c =
 
 pub led-requires : goal.led-requires
 led-requires c =
-    let b = c.args.body.now in
+    let b = c.args.source.body.now in
     let at = c.args.at in
     let insn = insn_seen b.code _ at c.index-deref-at.result c.requires.at c.deref.ensures c.index-deref-at.is in
     let size = c.set_arms.ensures.size ∙ c.requires.table in
     subst (LeadsWithin (length c.set_arms.new.table)) (sym insn) (leads_at b at c.requires.at c.requires.given.made (length c.set_arms.new.table) size)
 
 pub overflow_cast-at : goal.overflow_cast-at
-overflow_cast-at c = omega (arith, c.requires.at, few_insns c.args.body.now.code, c.requires.given.made.code.few)
+overflow_cast-at c = omega (arith, c.requires.at, few_insns c.args.source.body.now.code, c.requires.given.made.code.few)
 
 pub put_arms-requires-clause-within : goal.put_arms-requires-clause-within
 put_arms-requires-clause-within c =
     let plan = c.requires.given.planned in
-    let b = c.args.body.now in
+    let b = c.args.source.body.now in
     let at = c.args.at in
     let insn = insn_seen b.code _ at c.index-deref-at.result c.requires.at c.deref.ensures c.index-deref-at.is in
     let targets = c.deref-6.ensures ∙ c.in_ok-targets.ensures ∙ ap (λ (i : Insn). first_seen (targets_of i)) insn in
@@ -96,26 +96,26 @@ put_arms-requires-clause-within c =
 pub put_arms-requires-clause-ids : goal.put_arms-requires-clause-ids
 put_arms-requires-clause-ids c =
     let plan = c.requires.given.planned in
-    let b = c.args.body.now in
+    let b = c.args.source.body.now in
     let at = c.args.at in
     let insn = insn_seen b.code _ at c.index-deref-at.result c.requires.at c.deref.ensures c.index-deref-at.is in
     let targets = c.deref-6.ensures ∙ c.in_ok-targets.ensures ∙ ap (λ (i : Insn). first_seen (targets_of i)) insn in
-    let ids = outs_seen b plan.0 c.args.plan.now plan.1 _ at c.index-deref-at-2.result c.as_slice-ids.result.now c.requires.at c.deref-2.ensures c.index-deref-at-2.is c.as_slice-ids.ensures in
+    let ids = outs_seen b plan.0 c.args.source.plan.now plan.1 _ at c.index-deref-at-2.result c.as_slice-ids.result.now c.requires.at c.deref-2.ensures c.index-deref-at-2.is c.as_slice-ids.ensures in
     ap length ids ∙ switch_ids b plan.0 at c.requires.switch ∙ ap length (sym targets)
 
 pub put_arms-requires-clause-pushed : goal.put_arms-requires-clause-pushed
 put_arms-requires-clause-pushed c =
     let plan = c.requires.given.planned in
-    let b = c.args.body.now in
+    let b = c.args.source.body.now in
     let at = c.args.at in
-    let ids = outs_seen b plan.0 c.args.plan.now plan.1 _ at c.index-deref-at-2.result c.as_slice-ids.result.now c.requires.at c.deref-2.ensures c.index-deref-at-2.is c.as_slice-ids.ensures in
+    let ids = outs_seen b plan.0 c.args.source.plan.now plan.1 _ at c.index-deref-at-2.result c.as_slice-ids.result.now c.requires.at c.deref-2.ensures c.index-deref-at-2.is c.as_slice-ids.ensures in
     λ number.
     subst (λ (l : List (Option ℕ)). IsPushed (get_or l number None)) (sym ids)
-    (outs_pushed b plan.0 c.args.plan.now plan.1 c.requires.given.next at (insn_at b.code at) number)
+    (outs_pushed b plan.0 c.args.source.plan.now plan.1 c.requires.given.next at (insn_at b.code at) number)
 
 pub returns-clause-code : goal.returns-clause-code
 returns-clause-code c = λ first plan.
-    let b = c.args.body.now in
+    let b = c.args.source.body.now in
     let at = c.args.at in
     let v = b.arg_slots in
     let old = c.args.written.now in
@@ -129,11 +129,11 @@ returns-clause-code c = λ first plan.
     let insn = insn_seen b.code _ at c.index-deref-at.result c.requires.at c.deref.ensures c.index-deref-at.is in
     let targets = c.deref-4.ensures ∙ c.in_ok-targets.ensures ∙ ap (λ (i : Insn). first_seen (targets_of i)) insn in
     let targets_again = c.deref-6.ensures ∙ c.in_ok-targets.ensures ∙ ap (λ (i : Insn). first_seen (targets_of i)) insn in
-    let ids = outs_seen b first c.args.plan.now plan _ at c.index-deref-at-2.result c.as_slice-ids.result.now c.requires.at c.deref-2.ensures c.index-deref-at-2.is c.as_slice-ids.ensures in
+    let ids = outs_seen b first c.args.source.plan.now plan _ at c.index-deref-at-2.result c.as_slice-ids.result.now c.requires.at c.deref-2.ensures c.index-deref-at-2.is c.as_slice-ids.ensures in
     let tells : IsTableOf land lands =
-    subst (IsTableOf land) (sym c.deref-3.ensures.value) (table_is land (length b.code) c.args.places.now.lands.items are.lands) in
+    subst (IsTableOf land) (sym c.deref-3.ensures.value) (table_is land (length b.code) c.args.source.places.now.lands.items are.lands) in
     let tells_again : IsTableOf land c.deref-5.result.now =
-    subst (IsTableOf land) (sym c.deref-5.ensures.value) (table_is land (length b.code) c.args.places.now.lands.items are.lands) in
+    subst (IsTableOf land) (sym c.deref-5.ensures.value) (table_is land (length b.code) c.args.source.places.now.lands.items are.lands) in
     let within = leads_at b at c.requires.at c.requires.given.made (length lands) (ap length c.deref-3.ensures.value ∙ are.lands.size) in
     let place : here ≡ image_of b first false at + 1 =
     ap (λ k. k + 1) (place_seen (image_of b first false) (length b.code) _ at c.index.result.now are.images c.requires.at c.index.ensures) in
