@@ -1,5 +1,5 @@
 -- What a body uses, of a class whose pool was read from bytes: few entries, whose texts are short.
-use Rattle.std.proofs.Common.{◌≡◌, ◌⊎◌, inl, inr, ℕ, suc, ◌+◌, ◌<◌, ◌≤◌, Bool, true, false, cond, List, [], ◌∷◌, length, get_or, Option, Some, None, slice_get, refl, sym, ◌∙◌, subst, arith, nat_eq}
+use Rattle.std.proofs.Common.{◌≡◌, ◌⊎◌, inl, inr, ℕ, ℤ, suc, ◌+◌, ◌<◌, ◌≤◌, Bool, true, false, cond, List, [], ◌∷◌, length, get_or, Option, Some, None, slice_get, refl, sym, ◌∙◌, subst, arith, nat_eq}
 use Rattle.std.specs.Prelude.{All}
 use Rattle.std.specs.List.{list_any}
 use Rattle.std.specs.Option.{option_and_then}
@@ -16,7 +16,7 @@ use Rattle.jc_pool.specs.Pool.{PoolValue}
 use Rattle.jc_body.specs.BodyOf.{AreRisingFrom, AreUsesOf}
 use Rattle.jc_body.proofs.UsesLaws.{entry_used}
 use Rattle.jc_body.specs.Sizes.{IsOfShortTexts}
-use Rattle.jc_body.specs.Standing.{Found, of_member, of_class, of_constant, found_in, found_at, what_of_member, what_of_constant, what_of, what_at}
+use Rattle.jc_body.specs.Standing.{of_member, found_in, found_at, what_of_member, what_of_constant, what_of, what_at}
 use Rattle.jc_instrument.proofs.PoolTextLaws.{IsReadPool, class_short, member_short, none_past}
 
 -- ---- how many there are
@@ -44,42 +44,43 @@ member_what_short m short = by (nat_eq m.tag 9) (nat_eq m.tag 17) (nat_eq m.tag 
     by false false true = (short.name, short.desc)
     by false false false = (short.class, short.name, short.desc)
 
-constant_short : (c : ConstText) (what : What) → what_of_constant c ≡ Some what → HasShortTexts what
-constant_short (constants.Int value) what is = subst HasShortTexts (same_Some _ what is) tt
-constant_short (constants.Long value) what is = subst HasShortTexts (same_Some _ what is) tt
-constant_short constants.Float what is = subst HasShortTexts (same_Some _ what is) tt
-constant_short constants.Double what is = subst HasShortTexts (same_Some _ what is) tt
-constant_short constants.Text what is = subst HasShortTexts (same_Some _ what is) tt
-constant_short constants.Handle what is = subst HasShortTexts (same_Some _ what is) tt
-constant_short constants.MethodKind what is = subst HasShortTexts (same_Some _ what is) tt
-constant_short c what is = absurd (none-some what is)
+-- what is true of each number, and of the rest that names no text, is true of what a constant stands for
+pub constant_is : (Is : What → Type 0) → ((value : ℤ) → Is (whats.Int value)) → ((value : ℤ) → Is (whats.Long value)) → Is whats.Float → Is whats.Double
+    → Is whats.Text → Is whats.Handle → Is whats.MethodKind → (c : ConstText) (what : What) → what_of_constant c ≡ Some what → Is what
+constant_is Is int long float double text handle type (constants.Int value) what is = subst Is (same_Some _ what is) (int value)
+constant_is Is int long float double text handle type (constants.Long value) what is = subst Is (same_Some _ what is) (long value)
+constant_is Is int long float double text handle type constants.Float what is = subst Is (same_Some _ what is) float
+constant_is Is int long float double text handle type constants.Double what is = subst Is (same_Some _ what is) double
+constant_is Is int long float double text handle type constants.Text what is = subst Is (same_Some _ what is) text
+constant_is Is int long float double text handle type constants.Handle what is = subst Is (same_Some _ what is) handle
+constant_is Is int long float double text handle type constants.MethodKind what is = subst Is (same_Some _ what is) type
+constant_is Is int long float double text handle type c what is = absurd (none-some what is)
 
-what_short : (found : Found) (what : What) → IsOfShortTexts found → what_of found ≡ Some what → HasShortTexts what
-what_short (of_member m) what short is = subst HasShortTexts (same_Some _ what is) (member_what_short m short)
-what_short (of_class name) what short is = subst HasShortTexts (same_Some _ what is) short
-what_short (of_constant c) what short is = constant_short c what is
+-- what is true of what each member, class and constant of the pool stands for is true of all that a body may use
+module _ (Is : What → Type 0) (pool : PoolValue)
+    (member : (place : ℕ) (m : PoolMember) → member_of pool place ≡ Some m → Is (what_of_member m))
+    (class : (place : ℕ) (name : List ℕ) → class_name_of pool place ≡ Some name → Is (whats.Class name))
+    (constant : (c : ConstText) (what : What) → what_of_constant c ≡ Some what → Is what) where
+  by_found : (place : ℕ) (m : Option PoolMember) (name : Option (List ℕ)) (c : Option ConstText) → member_of pool place ≡ m
+      → class_name_of pool place ≡ name → (what : What) → option_and_then what_of (found_in m name c) ≡ Some what → Is what
+  by_found place (Some m) name c is named what e = subst Is (same_Some _ what e) (member place m is)
+  by_found place None (Some name) c is named what e = subst Is (same_Some _ what e) (class place name named)
+  by_found place None None (Some c) is named what e = constant c what e
+  by_found place None None None is named what e = absurd (none-some what e)
+
+  pub what_at_is : (place : ℕ) (what : What) → what_at pool place ≡ Some what → Is what
+  unfolding found_at
+  what_at_is place what is = by_found place (member_of pool place) (class_name_of pool place) (const_of pool place) refl refl what is
+
+pub cond_what : (t : Bool) (o : Option What) (what : What) → cond t o None ≡ Some what → o ≡ Some what
+cond_what true o what e = e
+cond_what false o what e = absurd (none-some what e)
 
 module _ (pool : PoolValue) (read : IsReadPool pool) where
-  abbrev WhereFound : Option Found → Type 0
-  WhereFound o = (found : Found) → o ≡ Some found → IsOfShortTexts found
-
-  found_short : (place : ℕ) (m : Option PoolMember) (name : Option (List ℕ)) (c : Option ConstText) → member_of pool place ≡ m
-      → class_name_of pool place ≡ name → WhereFound (found_in m name c)
-  found_short place (Some m) name c is named found e =
-      subst IsOfShortTexts (same_Some (of_member m) found e) (member_short pool read.small place m is)
-  found_short place None (Some name) c is named found e =
-      subst IsOfShortTexts (same_Some (of_class name) found e) (class_short pool read.small place name named)
-  found_short place None None (Some c) is named found e = subst IsOfShortTexts (same_Some (of_constant c) found e) tt
-  found_short place None None None is named found e = absurd (none-some found e)
-
   what_at_short : (place : ℕ) (what : What) → what_at pool place ≡ Some what → HasShortTexts what
-  unfolding found_at
-  what_at_short place what is = by (found_at pool place)
-      (found_short place (member_of pool place) (class_name_of pool place) (const_of pool place) refl refl) is
-    where
-      by : (o : Option Found) → WhereFound o → option_and_then what_of o ≡ Some what → HasShortTexts what
-      by None short e = absurd (none-some what e)
-      by (Some found) short e = what_short found what (short found refl) e
+  what_at_short =
+      what_at_is HasShortTexts pool (λ place m is. member_what_short m (member_short pool read.small place m is)) (class_short pool read.small)
+      (constant_is HasShortTexts (λ value. tt) (λ value. tt) tt tt tt tt tt)
 
   what_at_within : (place : ℕ) (what : What) → what_at pool place ≡ Some what → place < length pool
   unfolding found_at
@@ -95,12 +96,8 @@ module _ (pool : PoolValue) (read : IsReadPool pool) where
     stands : (k : ℕ) (d : Use) → k < length uses → what_at pool (get_or uses k d).place ≡ Some (get_or uses k d).what
     stands k d less =
         let u = get_or uses k d in
-        (cond_what (list_any (nat_eq u.place) places) (what_at pool u.place) u.what
-        (sym (are.each u.place) ∙ entry_used 0 uses are.rising k d less))
-      where
-        cond_what : (t : Bool) (o : Option What) (what : What) → cond t o None ≡ Some what → o ≡ Some what
-        cond_what true o what e = e
-        cond_what false o what e = absurd (none-some what e)
+        cond_what (list_any (nat_eq u.place) places) (what_at pool u.place) u.what
+        (sym (are.each u.place) ∙ entry_used 0 uses are.rising k d less)
 
     pub uses_short : All (λ u. HasShortTexts u.what) uses
     uses_short k d less = what_at_short (get_or uses k d).place (get_or uses k d).what (stands k d less)

@@ -50,8 +50,17 @@ fn put_code(alloc: Global, pool: &Pool, method: &mut Member, text: Bytes)
     method.attributes = List::from_vec(attributes);
 }
 
+/// Bodies whose probes are planned, and the class from which those are read again that weren't kept.
+#[derive(Drop)]
+pub struct PlannedBodies<'a> {
+    /// The bodies, in the order of their methods.
+    pub bodies: List<PlannedBody>,
+    /// The class as it was given, where a body wasn't kept.
+    pub source: &'a Option<ClassFile>,
+}
+
 /// The methods of a class, in which those of the bodies have their instrumented code. Body after body is written and dropped,
-/// and the pool takes the classes that the frames of each name. Bodies that weren't kept are read again from `source`.
+/// and the pool takes the classes that the frames of each name.
 ///
 /// # Errors
 ///
@@ -60,19 +69,21 @@ fn put_code(alloc: Global, pool: &Pool, method: &mut Member, text: Bytes)
 pub fn put_codes(
     alloc: Global,
     methods: List<Member>,
-    bodies: List<PlannedBody>,
-    source: &Option<ClassFile>,
+    all: PlannedBodies<'_>,
     places: &CodePlaces,
     names: &mut Names,
     pool: &mut Pool,
 ) -> Result<List<Member>, Fail<PoolFull>>
-    requires ready { AreReadyFrom names.old source.now bodies }
-    requires coded { AreCoded pool.old methods bodies }
-    ensures put { (others : ClassNames) (array : ℕ) (works : Seq BodyWithStates) → ArePlannedWorks names.old others array source.now bodies works
+    requires ready { AreReadyFrom names.old all.source.now all.bodies }
+    requires coded { AreCoded pool.old methods all.bodies }
+    ensures put { (others : ClassNames) (array : ℕ) (works : Seq BodyWithStates)
+        → ArePlannedWorks names.old others array all.entry.source.now all.entry.bodies works
         → IfOk result (ArePut pool.old places.now others array works methods pool.new) }
-    ensures refused { (others : ClassNames) (array : ℕ) (works : Seq BodyWithStates) → ArePlannedWorks names.old others array source.now bodies works
+    ensures refused { (others : ClassNames) (array : ℕ) (works : Seq BodyWithStates)
+        → ArePlannedWorks names.old others array all.entry.source.now all.entry.bodies works
         → IfErr result (RefusesClasses pool.old (named_by_all (all_frames others array works)) pool.new) }
 {
+    let PlannedBodies { bodies, source } = all;
     let mut methods = methods.into_vec();
     'putting: for planned in bodies.into_vec() {
         let number = usize::from(method_of(&planned));

@@ -19,7 +19,7 @@ ghost use Rattle.jc_instrument.specs.TwinText.{IsWrittenFor};
 ghost use Rattle.jc_instrument.specs.Writing.{ArePlannedWorks, IsFullFor, IsTwinFrom};
 
 use crate::again::source_of;
-use crate::members::{data_member, init_member, put_codes};
+use crate::members::{PlannedBodies, data_member, init_member, put_codes};
 use crate::needs::{MemberPlaces, take_members};
 use crate::ready_class::ReadyClass;
 use jc_bytes::{Fail, Names, Refusal, RefusalKind};
@@ -101,15 +101,8 @@ fn twin_class(
         methods,
         attributes,
     } = class;
-    let mut methods = put_codes(
-        alloc,
-        methods,
-        bodies,
-        source,
-        &places.codes,
-        names,
-        &mut pool,
-    )?;
+    let all = PlannedBodies { bodies, source };
+    let mut methods = put_codes(alloc, methods, all, &places.codes, names, &mut pool)?;
     fields.push(data_member(alloc, &places.members))?;
     methods.push(init_member(alloc, &places.members, probes)?)?;
     Ok(ClassFile {
@@ -126,29 +119,37 @@ fn twin_class(
     })
 }
 
-/// The instrumented class of a class of this name, which has this id and whose bodies are ready. Its pool takes what the
-/// added members need, and then the classes that frames name, body after body. `source` is the class as it was given.
+/// The id and the name of a class.
+#[derive(Clone, Copy, Debug, PartialEq, Eq)]
+pub struct ClassIdentity<'a> {
+    /// The id: that of the bytes that were given.
+    pub id: u64,
+    /// The name.
+    pub name: &'a [u8],
+}
+
+/// The instrumented class of a class with this id and this name, whose bodies are ready. Its pool takes what the added
+/// members need, and then the classes that frames name, body after body. `source` is the class as it was given.
 fn written_twin(
     alloc: Global,
-    id: u64,
-    owner: &[u8],
+    identity: ClassIdentity<'_>,
     class: ClassFile,
     ready: ReadyClass,
     source: &Option<ClassFile>,
     names: &mut Names,
 ) -> Result<ClassFile, Fail<PoolFull>>
     requires class { IsClassFile class }
-    requires owner { name_of class ≡ owner.now }
-    requires short { IsShortText owner.now }
+    requires name { name_of class ≡ identity.name.now }
+    requires short { IsShortText identity.name.now }
     requires ready { IsReadyClass names.old class ready }
     requires source { source.now ≡ source_of ready.bodies class }
     requires sizes { All (λ m. BodiesWithin most_read m.attributes) class.methods }
     requires few { ready.probes ≤ 32767 }
-    ensures twin { IfOk result (IsWrittenFor id class) }
-    ensures refused { IfErr result (IsFullFor id class) }
+    ensures twin { IfOk result (IsWrittenFor identity.entry.id class) }
+    ensures refused { IfErr result (IsFullFor identity.entry.id class) }
 {
     let mut class = class;
-    let members = take_members(alloc, owner, id, &mut class.pool)?;
+    let members = take_members(alloc, identity.name, identity.id, &mut class.pool)?;
     let codes = code_places(&class.pool, &members);
     let places = TwinPlaces { members, codes };
     twin_class(alloc, class, ready, source, names, &places)
@@ -157,32 +158,30 @@ fn written_twin(
 /// The same, with a class that is dropped then.
 fn twin_from(
     alloc: Global,
-    id: u64,
-    owner: &[u8],
+    identity: ClassIdentity<'_>,
     class: ClassFile,
     ready: ReadyClass,
     source: Option<ClassFile>,
     names: &mut Names,
 ) -> Result<ClassFile, Fail<PoolFull>>
     requires class { IsClassFile class }
-    requires owner { name_of class ≡ owner.now }
-    requires short { IsShortText owner.now }
+    requires name { name_of class ≡ identity.name.now }
+    requires short { IsShortText identity.name.now }
     requires ready { IsReadyClass names.old class ready }
     requires source { source ≡ source_of ready.bodies class }
     requires sizes { All (λ m. BodiesWithin most_read m.attributes) class.methods }
     requires few { ready.probes ≤ 32767 }
-    ensures twin { IfOk result (IsWrittenFor id class) }
-    ensures refused { IfErr result (IsFullFor id class) }
+    ensures twin { IfOk result (IsWrittenFor identity.entry.id class) }
+    ensures refused { IfErr result (IsFullFor identity.entry.id class) }
 {
-    written_twin(alloc, id, owner, class, ready, &source, names)
+    written_twin(alloc, identity, class, ready, &source, names)
 }
 
-/// The instrumented class of a class of this name, which has this id and whose bodies are ready; or, where its pool would
-/// be full, the refusal. These are the bytes of the class, from which bodies are read again that weren't kept.
+/// The instrumented class of a class with this id and this name, whose bodies are ready; or, where its pool would be full,
+/// the refusal. These are the bytes of the class, from which bodies are read again that weren't kept.
 pub fn grown_twin(
     alloc: Global,
-    id: u64,
-    owner: &[u8],
+    identity: ClassIdentity<'_>,
     bytes: &[u8],
     class: ClassFile,
     ready: ReadyClass,
@@ -191,16 +190,16 @@ pub fn grown_twin(
     requires few_bytes { length bytes.now ≤ most_read }
     requires read { ClassText bytes.now class }
     requires class { IsClassFile class }
-    requires owner { name_of class ≡ owner.now }
-    requires short { IsShortText owner.now }
+    requires name { name_of class ≡ identity.name.now }
+    requires short { IsShortText identity.name.now }
     requires ready { IsReadyClass names.old class ready }
     requires sizes { All (λ m. BodiesWithin most_read m.attributes) class.methods }
     requires few { ready.probes ≤ 32767 }
-    ensures twin { IfOk result (IsWrittenFor id class) }
-    ensures refused { IfErr result (λ e. Said e (HasFullPool id class)) }
+    ensures twin { IfOk result (IsWrittenFor identity.entry.id class) }
+    ensures refused { IfErr result (λ e. Said e (HasFullPool identity.entry.id class)) }
 {
     let source = source_of(alloc, bytes, &ready.bodies)?;
-    match twin_from(alloc, id, owner, class, ready, source, names) {
+    match twin_from(alloc, identity, class, ready, source, names) {
         Ok(twin) => Ok(twin),
         Err(Fail::Memory) => Err(Fail::Memory),
         Err(Fail::Said(_)) => Err(Fail::Said(Refusal {

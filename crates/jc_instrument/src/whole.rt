@@ -27,7 +27,7 @@ use crate::alone::{interface_refusal, is_left_alone};
 use crate::class::class_refusal;
 use crate::described::class_name_at;
 use crate::ready_class::{ReadyClass, ready_class};
-use crate::twin::grown_twin;
+use crate::twin::{ClassIdentity, grown_twin};
 use jc_bytes::{Bytes, Fail, List, Memory, Names, Refusal, are_bytes};
 use jc_class::{Attribute, ClassFile, Member, class_id, read_class, write_class};
 use std::alloc::Global;
@@ -134,12 +134,11 @@ fn class_bytes(alloc: Global, twin: ClassFile) -> Result<Bytes, Memory>
     Ok(List::from_vec(bytes))
 }
 
-/// The bytes of the instrumented class of a class of these bytes and this name, which has this id and whose bodies are
-/// ready; or, where its pool would be full, the refusal.
+/// The bytes of the instrumented class of a class of these bytes, with this id and this name, whose bodies are ready; or,
+/// where its pool would be full, the refusal.
 fn twin_bytes(
     alloc: Global,
-    id: u64,
-    name: &[u8],
+    identity: ClassIdentity<'_>,
     bytes: &[u8],
     class: ClassFile,
     ready: ReadyClass,
@@ -148,15 +147,15 @@ fn twin_bytes(
     requires few_bytes { length bytes.now ≤ most_read }
     requires read { ClassText bytes.now class }
     requires class { IsClassFile class }
-    requires name { class_name_of class.pool class.this_class ≡ Some name.now }
-    requires short { IsShortText name.now }
+    requires name { class_name_of class.pool class.this_class ≡ Some identity.name.now }
+    requires short { IsShortText identity.name.now }
     requires ready { IsReadyClass names.old class ready }
     requires sizes { All (λ m. BodiesWithin most_read m.attributes) class.methods }
     requires few { ready.probes ≤ 32767 }
-    ensures text { IfOk result (IsTwinText id class) }
-    ensures refused { IfErr result (λ e. Said e (HasFullPool id class)) }
+    ensures text { IfOk result (IsTwinText identity.entry.id class) }
+    ensures refused { IfErr result (λ e. Said e (HasFullPool identity.entry.id class)) }
 {
-    let twin = grown_twin(alloc, id, name, bytes, class, ready, names)?;
+    let twin = grown_twin(alloc, identity, bytes, class, ready, names)?;
     Ok(class_bytes(alloc, twin)?)
 }
 
@@ -179,7 +178,8 @@ fn changed(
     let mut names = Names::new(alloc)?;
     let NamedClass { ready, name } = named_class(alloc, &class, &mut names)?;
     let probes = ready.probes;
-    let bytes = twin_bytes(alloc, id, &name, bytes, class, ready, &mut names)?;
+    let identity = ClassIdentity { id, name: &name };
+    let bytes = twin_bytes(alloc, identity, bytes, class, ready, &mut names)?;
     Ok(Instrumented {
         bytes,
         id,

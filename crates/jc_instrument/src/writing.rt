@@ -14,7 +14,7 @@ use crate::ready::ReadyBody;
 use jc_bytes::{Bytes, Fail, List, Memory, Names};
 use jc_emit::{EmittedParts, emit_parts};
 use jc_frames::take_classes;
-use jc_instrument_code::{CodePlaces, CodeTables, write_laid};
+use jc_instrument_code::{CodePlaces, CodeTables, NamedFrames, write_laid};
 use jc_layout::Laid;
 use jc_pool::{Pool, PoolFull};
 use std::alloc::Global;
@@ -46,8 +46,12 @@ fn code_text(
         lines: &moved.lines,
         vars: &moved.vars,
         kind_vars: &moved.kind_vars,
+        frames: NamedFrames {
+            frames: &parts.frames,
+            names,
+        },
     };
-    write_laid(alloc, &tables, laid, &parts.frames, names, places, pool)
+    write_laid(alloc, &tables, laid, places, pool)
 }
 
 /// What the Code attribute of the method of this body holds, instrumented. Before it is written the pool takes the

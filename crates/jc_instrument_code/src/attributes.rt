@@ -9,12 +9,11 @@ ghost use Rattle.jc_instrument_code.specs.LaidText.{laid_attributes, tables_seen
 ghost use Rattle.jc_instrument_code.specs.TwinCode.{places_by};
 ghost use Rattle.jc_instrument_code.specs.declared.code.CodePlaces.{CodePlaces as CodeTextPlaces};
 
-use crate::code::{CodePlaces, CodeTables};
+use crate::code::{CodePlaces, CodeTables, NamedFrames};
 use crate::numbers::put_header;
 use crate::parts::{part_count, put_line_tables, put_var_tables};
-use jc_bytes::{Memory, Names, put_bytes, put_short};
+use jc_bytes::{Memory, put_bytes, put_short};
 use jc_frames::write_taken;
-use jc_methods::FrameAt;
 use jc_pool::Pool;
 use std::alloc::Global;
 
@@ -26,21 +25,20 @@ fn put_frames(
     alloc: Global,
     into: &mut Vec<u8>,
     name: u16,
-    frames: &[FrameAt],
+    frames: NamedFrames<'_>,
     starts: &[u32],
-    names: &Names,
     pool: &Pool,
 ) -> Result<(), Memory>
-    requires written { CanBeWritten starts.now (length names.now) frames.now }
-    requires stand { AllByRecursion (HasPlace pool.now) (named_by_all (map (type_state_at names.now) frames.now)) }
+    requires written { CanBeWritten starts.now (length frames.names.now) frames.frames.now }
+    requires stand { AllByRecursion (HasPlace pool.now) (named_by_all (map (type_state_at frames.names.now) frames.frames.now)) }
     ensures { OnOk result (into.new.items ≡ into.old.items ++ flat_map attribute_text
-        (frame_attributes name (places_by pool.now (slice_index starts.now)) (map (type_state_at names.now) frames.now))) }
+        (frame_attributes name (places_by pool.now (slice_index starts.now)) (map (type_state_at frames.entry.names.now) frames.entry.frames.now))) }
 {
-    if frames.is_empty() {
+    if frames.frames.is_empty() {
         return Ok(());
     }
     let mut table = Vec::new(alloc);
-    write_taken(alloc, frames, starts, names, pool, &mut table)?;
+    write_taken(alloc, frames.frames, starts, frames.names, pool, &mut table)?;
     let Ok(size) = u32::try_from(table.len()) else {
         return Err(Memory);
     };
@@ -50,15 +48,15 @@ fn put_frames(
 }
 
 /// How many attributes a Code attribute has.
-fn attribute_count(tables: &CodeTables, frames: &[FrameAt]) -> usize
+fn attribute_count(tables: &CodeTables) -> usize
     ensures { (pool : PoolValue) (places : CodeTextPlaces) (names : ClassNames) (starts : List ℕ)
-        → result ≡ length (laid_attributes pool places names (tables_seen tables.now) starts frames.now) }
+        → result ≡ length (laid_attributes pool places names (tables_seen tables.now) starts tables.now.frames.frames.now) }
 {
     let line_tables = part_count(tables.lines.len());
     let all_tables = line_tables
         + part_count(tables.vars.len())
         + part_count(tables.kind_vars.len());
-    if frames.is_empty() {
+    if tables.frames.frames.is_empty() {
         return all_tables;
     }
     all_tables + 1
@@ -73,24 +71,22 @@ pub fn put_attributes(
     alloc: Global,
     into: &mut Vec<u8>,
     tables: &CodeTables,
-    frames: &[FrameAt],
     starts: &[u32],
-    names: &Names,
     places: &CodePlaces,
     pool: &Pool,
 ) -> Result<(), Memory>
-    requires written { CanBeWritten starts.now (length names.now) frames.now }
-    requires stand { AllByRecursion (HasPlace pool.now) (named_by_all (map (type_state_at names.now) frames.now)) }
+    requires written { CanBeWritten starts.now (length tables.now.frames.names.now) tables.now.frames.frames.now }
+    requires stand { AllByRecursion (HasPlace pool.now) (named_by_all (map (type_state_at tables.now.frames.names.now) tables.now.frames.frames.now)) }
     ensures { OnOk result (into.new.items ≡ into.old.items ++ counted_text attribute_text
-        (laid_attributes pool.now places.now names.now (tables_seen tables.now) starts.now frames.now)) }
+        (laid_attributes pool.now places.now tables.now.frames.names.now (tables_seen tables.now) starts.now tables.now.frames.frames.now)) }
 {
-    let Ok(count) = u16::try_from(attribute_count(tables, frames)) else {
+    let Ok(count) = u16::try_from(attribute_count(tables)) else {
         return Err(Memory);
     };
     put_short(into, count)?;
     put_line_tables(into, places.lines, tables.lines, starts)?;
     put_var_tables(into, places.vars, tables.vars, starts)?;
     put_var_tables(into, places.kind_vars, tables.kind_vars, starts)?;
-    put_frames(alloc, into, places.frames, frames, starts, names, pool)?;
+    put_frames(alloc, into, places.frames, tables.frames, starts, pool)?;
     Ok(())
 }

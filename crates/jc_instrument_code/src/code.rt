@@ -36,6 +36,15 @@ pub struct CodePlaces {
     pub frames: u16,
 }
 
+/// Frames, and the names of the classes that they name.
+#[derive(Clone, Copy, Debug)]
+pub struct NamedFrames<'a> {
+    /// The frames, which name classes by their numbers.
+    pub frames: &'a [FrameAt],
+    /// The names of the classes.
+    pub names: &'a Names,
+}
+
 /// The tables of instrumented code, and its sizes.
 #[derive(Clone, Copy, Debug)]
 pub struct CodeTables<'a> {
@@ -51,6 +60,8 @@ pub struct CodeTables<'a> {
     pub vars: &'a [VarAt],
     /// The entries of the tables of the types of local variables.
     pub kind_vars: &'a [VarAt],
+    /// The frames of the layout of the code.
+    pub frames: NamedFrames<'a>,
 }
 
 /// Puts the bytes of the code at the end, in which the first instruction calls the method at this
@@ -74,7 +85,7 @@ fn put_code(into: &mut Vec<u8>, code: &[u8], method: u16) -> Result<(), Memory>
 /// LocalVariableTypeTable and StackMapTable, each left out where it has no entries (4.7.4, 4.7.12 to
 /// 4.7.14). Of the first three there is one for each 65,535 entries, and the last one may have fewer.
 ///
-/// `frames` has the frames of the layout. The classes that they name stand in the pool.
+/// The classes that the frames name stand in the pool.
 ///
 /// # Errors
 ///
@@ -84,17 +95,15 @@ pub fn write_laid(
     alloc: Global,
     tables: &CodeTables,
     laid: &Laid,
-    frames: &[FrameAt],
-    names: &Names,
     places: &CodePlaces,
     pool: &Pool,
 ) -> Result<Bytes, Memory>
     requires rows { length tables.now.handlers.now ≤ 65535 }
     requires size { length laid.now.code ≤ 65535 }
-    requires frames { CanBeWritten laid.now.starts (length names.now) frames.now }
-    requires classes { AllByRecursion (HasPlace pool.now) (named_by_all (map (type_state_at names.now) frames.now)) }
+    requires frames { CanBeWritten laid.now.starts (length tables.now.frames.names.now) tables.now.frames.frames.now }
+    requires classes { AllByRecursion (HasPlace pool.now) (named_by_all (map (type_state_at tables.now.frames.names.now) tables.now.frames.frames.now)) }
     ensures text { IfOk result (λ text. text
-        ≡ laid_text pool.now places.now names.now (tables_seen tables.now) laid.now frames.now) }
+        ≡ laid_text pool.now places.now tables.now.frames.names.now (tables_seen tables.now) laid.now tables.now.frames.frames.now) }
     ensures size { IfOk result (λ text. length text ≤ 4294967295) }
 {
     let starts = laid.starts.as_slice();
@@ -107,9 +116,7 @@ pub fn write_laid(
     )?;
     put_code(&mut text, &laid.code, places.method)?;
     put_rows(&mut text, tables.handlers, starts)?;
-    put_attributes(
-        alloc, &mut text, tables, frames, starts, names, places, pool,
-    )?;
+    put_attributes(alloc, &mut text, tables, starts, places, pool)?;
     if text.len() > MOST_BYTES {
         return Err(Memory);
     }
@@ -131,18 +138,17 @@ pub fn write_code(
     alloc: Global,
     emitted: &Emitted,
     laid: &Laid,
-    frames: &[FrameAt],
-    names: &Names,
+    frames: NamedFrames<'_>,
     places: &CodePlaces,
     pool: &mut Pool,
 ) -> Result<Bytes, Memory>
     requires laid { IsLaid emitted.now laid.now }
     requires rows { length emitted.now.handlers ≤ 65535 }
-    requires frames { AreFrames emitted.now (length names.now) frames.now }
-    requires classes { HaveClasses pool.old names.now emitted.now }
+    requires frames { AreFrames emitted.now (length frames.names.now) frames.frames.now }
+    requires classes { HaveClasses pool.old frames.names.now emitted.now }
     requires names { AreNamed pool.old emitted.now places.now }
     ensures text { IfOk result (λ text. text
-        ≡ twin_code pool.old places.now.method places.now.frames names.now emitted.now) }
+        ≡ twin_code pool.old places.now.method places.now.frames frames.entry.names.now emitted.now) }
     ensures size { IfOk result (λ text. length text ≤ 4294967295) }
     // The pool has all that is named, and stays as it is.
     ensures kept { OnOk result (pool.new ≡ pool.old) }
@@ -155,6 +161,7 @@ pub fn write_code(
         lines: &emitted.lines,
         vars: &emitted.vars,
         kind_vars: &emitted.kind_vars,
+        frames,
     };
-    write_laid(alloc, &tables, laid, frames, names, places, pool)
+    write_laid(alloc, &tables, laid, places, pool)
 }

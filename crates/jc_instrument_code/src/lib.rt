@@ -11,7 +11,7 @@ mod parts;
 mod tables;
 mod texts;
 
-pub use code::{CodePlaces, CodeTables, write_code, write_laid};
+pub use code::{CodePlaces, CodeTables, NamedFrames, write_code, write_laid};
 pub use init::{AddedPlaces, write_init};
 pub use laws::{each_layout_can_be_written, first_places};
 pub use merging::{frames_of, merged_frames};

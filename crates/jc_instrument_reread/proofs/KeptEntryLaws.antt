@@ -63,20 +63,7 @@ module _ (old new : PoolValue) (more : Extends old new) where
   ref_in_kept (entry.Fieldref class sig) place m at is = in_kept (entry.Fieldref class sig) place m at is
   ref_in_kept (entry.Methodref class sig) place m at is = in_kept (entry.Methodref class sig) place m at is
   ref_in_kept (entry.InterfaceMethodref class sig) place m at is = in_kept (entry.InterfaceMethodref class sig) place m at is
-  ref_in_kept (entry.Utf8 text) place m at is = absurd (none-some m is)
-  ref_in_kept (entry.Integer value) place m at is = absurd (none-some m is)
-  ref_in_kept (entry.Float bits) place m at is = absurd (none-some m is)
-  ref_in_kept (entry.Long value) place m at is = absurd (none-some m is)
-  ref_in_kept (entry.Double bits) place m at is = absurd (none-some m is)
-  ref_in_kept (entry.Class name) place m at is = absurd (none-some m is)
-  ref_in_kept (entry.String text) place m at is = absurd (none-some m is)
-  ref_in_kept (entry.NameAndType name desc) place m at is = absurd (none-some m is)
-  ref_in_kept (entry.MethodHandle kind reference) place m at is = absurd (none-some m is)
-  ref_in_kept (entry.MethodType desc) place m at is = absurd (none-some m is)
-  ref_in_kept (entry.Dynamic bootstrap sig) place m at is = absurd (none-some m is)
-  ref_in_kept (entry.InvokeDynamic bootstrap sig) place m at is = absurd (none-some m is)
-  ref_in_kept (entry.Module name) place m at is = absurd (none-some m is)
-  ref_in_kept (entry.Package name) place m at is = absurd (none-some m is)
+  ref_in_kept e place m at is = absurd (none-some m is)
 
   reference_kept : (place : ℕ) (m : Member) → reference_of old place ≡ Some m → reference_of new place ≡ Some m
   reference_kept place m is = by (entry_of old place) refl

@@ -26,15 +26,12 @@ use Rattle.jc_insn.specs.Layouts.{laid_code}
 use Rattle.jc_kinds.specs.Answers.{AreStates}
 use Rattle.jc_kinds_after.specs.Shift.{shifted}
 use Rattle.jc_emit.specs.Emission.{emission, widened_frame, HasFrameStates, IsArrayNumber}
-use Rattle.jc_emit.specs.Items.{insn_of, image_of, land_of, lead_of, twin_items}
+use Rattle.jc_emit.specs.Items.{insn_of, image_of, twin_items}
 use Rattle.jc_emit.specs.Shift.{image_kind}
 use Rattle.jc_emit.specs.Straddling.{NoneStraddles}
-use Rattle.jc_emit.specs.TwinFrames.{IsFrame, AreTwinFrames}
-use Rattle.jc_emit.proofs.FrameLaws.{layout_told}
-use Rattle.jc_emit.proofs.WideTwinLaws.{widened_frames}
 use Rattle.jc_layout.specs.LaidBody.{laid_frames, laid_place, with_call}
 use Rattle.jc_layout.specs.Merged.{merged}
-use Rattle.jc_layout.proofs.LaidBodyLaws.{are_widened}
+use Rattle.jc_layout.proofs.LaidBodyLaws.{laid_told}
 use Rattle.jc_layout.proofs.LaidCodeLaws.{called, laid_is}
 use Rattle.jc_instrument_reread.proofs.AskedFrameLaws.{asked_good}
 use Rattle.jc_instrument_reread.proofs.PoolInsnLaws.{same_there}
@@ -50,14 +47,7 @@ frames_of wide e = if wide then merged e.frames e.wide_frames else e.frames
 
 kind_same : (code : List Insn) (k : Kind) → image_kind (laid_place false code) k ≡ k
 kind_same code kinds.Top = refl
-kind_same code kinds.Int = refl
-kind_same code kinds.Float = refl
-kind_same code kinds.Double = refl
-kind_same code kinds.Long = refl
-kind_same code kinds.Null = refl
-kind_same code kinds.UninitThis = refl
-kind_same code (kinds.Object n) = refl
-kind_same code (kinds.Uninit at) = refl
+kind_same code k = refl
 
 kinds_same : (code : List Insn) (ks : List Kind) → map (image_kind (laid_place false code)) ks ≡ ks
 kinds_same code [] = refl
@@ -79,14 +69,7 @@ laid_are true e = refl
 
 kind_numbered : (names : ℕ) (f : ℕ → ℕ) (k : Kind) → IsNumbered names k → IsNumbered names (image_kind f k)
 kind_numbered names f (kinds.Object n) is = is
-kind_numbered names f (kinds.Uninit at) is = tt
-kind_numbered names f kinds.Top is = tt
-kind_numbered names f kinds.Int is = tt
-kind_numbered names f kinds.Float is = tt
-kind_numbered names f kinds.Double is = tt
-kind_numbered names f kinds.Long is = tt
-kind_numbered names f kinds.Null is = tt
-kind_numbered names f kinds.UninitThis is = tt
+kind_numbered names f k is = tt
 
 kinds_numbered : (names : ℕ) (f : ℕ → ℕ) (ks : List Kind) → AllByRecursion (IsNumbered names) ks → AllByRecursion (IsNumbered names) (map (image_kind f) ks)
 kinds_numbered names f [] all = tt
@@ -133,19 +116,6 @@ module _ (names : Names) (b : Body) (first : ℕ) (states : List State) (array :
   unfolding emission
   insns_are wide call = ap (with_call call) (laid_is b first wide well.code) ∙ called b first wide call
 
-  abbrev Told : Bool → List FrameAt → Type 0
-  Told wide frames =
-      AreTwinFrames names names b.arg_slots (image_of b first wide)
-      (IsFrame b first states (image_of b first wide) (land_of b first wide) (lead_of b first wide) wide) frames
-
-  narrow_told : Told false (emission b first states array).frames
-  unfolding emission
-  narrow_told = layout_told b first states array names well.code well.frames fit array_is
-
-  told : (wide : Bool) → Told wide (laid_frames wide (emission b first states array))
-  told false = narrow_told
-  told true = widened_frames b first states array names well fit array_is _ (are_widened b first states array names well fit array_is)
-
   module _ (wide : Bool) (call : ℕ) (g : Ground) (code_is : g.code ≡ map (insn_of call b.arg_slots) (twin_items b first wide))
       (locals_are : g.max_locals ≡ b.max_locals + 1) (stack_is : g.max_stack ≡ b.max_stack + 3) where
     count_is : length g.code ≡ length (twin_items b first wide)
@@ -158,7 +128,7 @@ module _ (names : Names) (b : Body) (first : ℕ) (states : List State) (array :
 
     one_fine : (f : FrameAt) → Contains (laid_frames wide (emission b first states array)) f → IsFine g (type_state_at names f)
     one_fine f c =
-        let asked = (told wide).each f c in
+        let asked = (laid_told b first states array names well fit array_is wide).each f c in
         let good = asked_good names b first states well are fit free wide f.at asked.0 asked.1 in
         let said = shifted_sayable names b (image_of b first wide) (HasNewAt g) asked.0 well.arguments_fit new_there good.1 in
         let count = count_is in
@@ -179,6 +149,6 @@ module _ (names : Names) (b : Body) (first : ℕ) (states : List State) (array :
         → AllByRecursion (HasPlace g.pool) (named_by_all (map (type_state_at names) (frames_of wide (emission b first states array))))
         → AreWritable g p (map (type_state_at names) (laid_frames wide (emission b first states array)))
     laid_writable p size starts few start class few_locals few_stack stand =
-        are_writable g p size starts few start class few_locals few_stack names (laid_frames wide e) ((told wide).rising)
+        are_writable g p size starts few start class few_locals few_stack names (laid_frames wide e) ((laid_told b first states array names well fit array_is wide).rising)
         (all_listed names (IsFine g) (laid_frames wide e) one_fine)
         (subst (AllByRecursion (HasPlace g.pool)) (sym (laid_named wide names e)) stand)

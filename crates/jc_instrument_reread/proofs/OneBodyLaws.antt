@@ -1,5 +1,5 @@
 -- A method has one body, whatever the names with which it was read and whatever faults it was found to be without.
-use Rattle.std.proofs.Common.{◌≡◌, ℕ, List, map, Some, sym, ◌∙◌, subst}
+use Rattle.std.proofs.Common.{◌≡◌, ℕ, List, map, Some, sym, ◌∙◌, ap, subst}
 use Rattle.jc_methods.specs.VerificationTypes.{Names, type_state_at}
 use Rattle.jc_methods.specs.WellMade.{TakeSlots}
 use Rattle.jc_methods.specs.declared.body.Body.{Body}
@@ -13,6 +13,7 @@ use Rattle.jc_body.specs.declared.coded.Coded.{Coded}
 use Rattle.jc_body.specs.declared.items.Tables.{Tables}
 use Rattle.jc_body.proofs.ArgumentLaws.{one_take}
 use Rattle.jc_body.proofs.CodedLaws.{one_coded}
+use Rattle.jc_body.proofs.MadeLaws.{made_of, is_made}
 use Rattle.jc_body.proofs.StackMapLaws.{one_list}
 use Rattle.jc_body.proofs.TablesLaws.{one_tables}
 use Rattle.jc_body.proofs.UsesLaws.{one_uses}
@@ -30,34 +31,12 @@ same_parts names others c number method coded tables a b p q =
     let owner = same_text (sym p.owner ∙ q.owner) in
     let name = same_text (sym p.name ∙ q.name) in
     let desc = same_text (sym p.desc ∙ q.desc) in
-    let flags = p.flags ∙ sym q.flags in
     let slots = one_take method.flags b.desc a.arg_slots b.arg_slots (subst (λ (d : List ℕ). TakeSlots method.flags d a.arg_slots) desc p.arg_slots) q.arg_slots in
-    let max_stack = p.max_stack ∙ sym q.max_stack in
-    let max_locals = p.max_locals ∙ sym q.max_locals in
-    let code = p.code ∙ sym q.code in
-    let handlers = p.handlers ∙ sym q.handlers in
-    let lines = p.lines ∙ sym q.lines in
-    let vars = p.vars ∙ sym q.vars in
-    let kind_vars = p.kind_vars ∙ sym q.kind_vars in
     let uses = one_uses c.pool (places_used coded.insns coded.items.rows) a.uses b.uses p.uses q.uses in
     record {
-      rest = λ i. record {
-        method = numbers i;
-        owner = owner i;
-        name = name i;
-        desc = desc i;
-        flags = flags i;
-        arg_slots = slots i;
-        max_stack = max_stack i;
-        max_locals = max_locals i;
-        code = code i;
-        handlers = handlers i;
-        lines = lines i;
-        vars = vars i;
-        kind_vars = kind_vars i;
-        frames = a.frames;
-        uses = uses i;
-      };
+      rest = is_made names c number method coded tables a p
+          ∙ (λ i. made_of method coded tables (numbers i) (owner i) (name i) (desc i) (slots i) a.frames (uses i))
+          ∙ ap (λ (x : Body). record x { frames = a.frames }) (sym (is_made others c number method coded tables b q));
       seen = one_list c.pool b.owner method coded (map (type_state_at names) a.frames) (map (type_state_at others) b.frames)
           (subst (λ (o : List ℕ). HasFrames c.pool o method coded (map (type_state_at names) a.frames)) owner p.frames) q.frames;
     }

@@ -3,7 +3,7 @@ use Rattle.std.proofs.Common.{◌≡◌, ℕ, ◌+◌, ◌-◌, Bool, true, fals
 use Rattle.std.specs.List.{flat_map}
 use Rattle.std.proofs.lemmas.List.{length-map}
 use Rattle.jc_bytes.specs.BigNumbers.{short}
-use Rattle.jc_methods.specs.VerificationTypes.{Names, VerificationType, top, int, float, double, long, null, uninit_this, object, uninit, class_names, verification_type, type_state_at, is_pair}
+use Rattle.jc_methods.specs.VerificationTypes.{Names, VerificationType, top, object, uninit, class_names, verification_type, type_state_at, is_pair}
 use Rattle.jc_methods.specs.declared.body.FrameAt.{FrameAt}
 use Rattle.jc_methods.specs.declared.kind.Kind.{Kind}
 use Rattle.jc_methods.specs.declared.kind.Kind.TheVariants as kinds
@@ -17,26 +17,12 @@ use Rattle.jc_frames.specs.FullTable.{named_by, named_by_all}
 module _ (f : ℕ → ℕ) where
   pub pair_renamed : (h : VerificationType) → is_pair (renamed f h) ≡ is_pair h
   pair_renamed top = refl
-  pair_renamed int = refl
-  pair_renamed float = refl
-  pair_renamed double = refl
-  pair_renamed long = refl
-  pair_renamed null = refl
-  pair_renamed uninit_this = refl
-  pair_renamed (object name) = refl
-  pair_renamed (uninit at) = refl
+  pair_renamed h = refl
 
   last_renamed : (h : VerificationType) (hs : List VerificationType) → without_last_top (renamed f h) (map (renamed f) hs) ≡ map (renamed f) (without_last_top h hs)
   last_renamed top [] = refl
   last_renamed top (x ∷ hs) = refl
-  last_renamed int hs = refl
-  last_renamed float hs = refl
-  last_renamed double hs = refl
-  last_renamed long hs = refl
-  last_renamed null hs = refl
-  last_renamed uninit_this hs = refl
-  last_renamed (object name) hs = refl
-  last_renamed (uninit at) hs = refl
+  last_renamed h hs = refl
 
   trimmed_renamed : (hs : List VerificationType) → trimmed (map (renamed f) hs) ≡ map (renamed f) (trimmed hs)
   trimmed_renamed [] = refl
@@ -56,27 +42,13 @@ module _ (f : ℕ → ℕ) where
   names_renamed : (hs : List VerificationType) → class_names (map (renamed f) hs) ≡ class_names hs
   names_renamed [] = refl
   names_renamed (object name ∷ hs) = ap (λ (l : Names). name ∷ l) (names_renamed hs)
-  names_renamed (top ∷ hs) = names_renamed hs
-  names_renamed (int ∷ hs) = names_renamed hs
-  names_renamed (float ∷ hs) = names_renamed hs
-  names_renamed (double ∷ hs) = names_renamed hs
-  names_renamed (long ∷ hs) = names_renamed hs
-  names_renamed (null ∷ hs) = names_renamed hs
-  names_renamed (uninit_this ∷ hs) = names_renamed hs
-  names_renamed (uninit at ∷ hs) = names_renamed hs
+  names_renamed (h ∷ hs) = names_renamed hs
 
   -- ---- kinds
 
   held_renamed : (names : Names) (k : Kind) → verification_type names (image_kind f k) ≡ renamed f (verification_type names k)
   held_renamed names kinds.Top = refl
-  held_renamed names kinds.Int = refl
-  held_renamed names kinds.Float = refl
-  held_renamed names kinds.Double = refl
-  held_renamed names kinds.Long = refl
-  held_renamed names kinds.Null = refl
-  held_renamed names kinds.UninitThis = refl
-  held_renamed names (kinds.Object n) = refl
-  held_renamed names (kinds.Uninit at) = refl
+  held_renamed names k = refl
 
   pub all_renamed : (names : Names) (ks : List Kind) → map (verification_type names) (map (image_kind f) ks) ≡ map (renamed f) (map (verification_type names) ks)
   all_renamed names [] = refl
@@ -101,15 +73,9 @@ module _ (f : ℕ → ℕ) where
   -- the other places have the offsets of the first ones
   module _ (p q : Places) (class : (name : List ℕ) → q.class name ≡ p.class name) (start : (at : ℕ) → q.start (f at) ≡ p.start at) where
     type_same : (h : VerificationType) → type_text q (renamed f h) ≡ type_text p h
-    type_same top = refl
-    type_same int = refl
-    type_same float = refl
-    type_same double = refl
-    type_same long = refl
-    type_same null = refl
-    type_same uninit_this = refl
     type_same (object name) = ap (λ (n : ℕ). 7 ∷ short n) (class name)
     type_same (uninit at) = ap (λ (n : ℕ). 8 ∷ short n) (start at)
+    type_same h = refl
 
     texts_same : (hs : List VerificationType) → flat_map (type_text q) (map (renamed f) hs) ≡ flat_map (type_text p) hs
     texts_same [] = refl

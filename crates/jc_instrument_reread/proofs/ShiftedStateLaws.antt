@@ -1,12 +1,11 @@
 -- The shifted form of a state of a body is one that a full frame says.
-use Rattle.std.proofs.Common.{◌≡◌, ℕ, zero, suc, ◌+◌, ◌≤◌, true, false, List, [], ◌∷◌, map, get_or, Some, refl, sym, ◌∙◌, ap₂, arith, true≢false}
+use Rattle.std.proofs.Common.{◌≡◌, ℕ, zero, suc, ◌+◌, ◌≤◌, true, false, List, [], ◌∷◌, map, get_or, Some, refl, sym, ◌∙◌, arith, true≢false}
 use Rattle.std.specs.Prelude.{insert, slice_get}
-use Rattle.std.specs.List.{AllByRecursion, sum_by}
+use Rattle.std.specs.List.{AllByRecursion}
 use Rattle.std.proofs.lemmas.List.{length-map}
 use Rattle.std.proofs.lemmas.List.Edits.{length-insert}
 use Rattle.std.proofs.lemmas.List.Elements.{recursion_from_All}
-use Rattle.std.proofs.lemmas.List.Sums.{sum_by-cons}
-use Rattle.jc_methods.specs.VerificationTypes.{Names, VerificationType, top, int, float, double, long, null, uninit_this, object, uninit, verification_type, type_state, is_pair, slots, width}
+use Rattle.jc_methods.specs.VerificationTypes.{Names, VerificationType, top, verification_type, type_state, is_pair}
 use Rattle.jc_methods.specs.Opcode as opcode
 use Rattle.jc_methods.specs.WellMade as made
 use Rattle.jc_methods.specs.declared.insn.Insn.{Insn}
@@ -19,56 +18,16 @@ use Rattle.jc_methods.proofs.WidthLaws.{as_many}
 use Rattle.jc_kinds_after.specs.Shift.{renamed, probes, shifted}
 use Rattle.jc_emit.proofs.StateLaws.{slots-renamed}
 use Rattle.jc_frames.specs.FullFrames.{BeginsWithTop, ArePaired}
-use Rattle.jc_frames.proofs.WrittenLaws.{top_begins}
+use Rattle.jc_frames.proofs.WrittenLaws.{paired, slots_are}
 use Rattle.jc_instrument_reread.proofs.AskedFrameLaws.{IsStateOf}
 use Rattle.jc_instrument_reread.proofs.RenamedLaws.{pair_renamed}
 use Rattle.jc_instrument_reread.proofs.WritableFrameLaws.{PlacedSo, IsSayable}
-
--- ---- kinds by the names of classes
-
-module _ (names : Names) where
-  pair_slots : (k : Kind) → is_pair (verification_type names k) ≡ true → made.kind_slots k ≡ 2
-  pair_slots kinds.Double e = refl
-  pair_slots kinds.Long e = refl
-  pair_slots kinds.Top e = absurd (true≢false (sym e))
-  pair_slots kinds.Int e = absurd (true≢false (sym e))
-  pair_slots kinds.Float e = absurd (true≢false (sym e))
-  pair_slots kinds.Null e = absurd (true≢false (sym e))
-  pair_slots kinds.UninitThis e = absurd (true≢false (sym e))
-  pair_slots (kinds.Object n) e = absurd (true≢false (sym e))
-  pair_slots (kinds.Uninit at) e = absurd (true≢false (sym e))
-
-  paired_held : (ks : List Kind) → made.ArePaired ks → ArePaired (map (verification_type names) ks)
-  paired_held [] p = tt
-  paired_held (k ∷ ks) p = (λ pair. top_begins names ks (p.0 (pair_slots k pair)), paired_held ks p.1)
-
-  slots_held : (ks : List Kind) → slots (map (verification_type names) ks) ≡ sum_by made.kind_slots ks
-  slots_held [] = refl
-  slots_held (k ∷ ks) = ap₂ (λ (a b : ℕ). a + b) (one k) (slots_held ks) ∙ sym (sum_by-cons made.kind_slots k ks)
-    where
-      one : (k : Kind) → width (verification_type names k) ≡ made.kind_slots k
-      one kinds.Top = refl
-      one kinds.Int = refl
-      one kinds.Float = refl
-      one kinds.Double = refl
-      one kinds.Long = refl
-      one kinds.Null = refl
-      one kinds.UninitThis = refl
-      one (kinds.Object n) = refl
-      one (kinds.Uninit at) = refl
 
 -- ---- one more local variable
 
 begins_kept : (h : VerificationType) (hs others : List VerificationType) → BeginsWithTop (h ∷ hs) → BeginsWithTop (h ∷ others)
 begins_kept top hs others b = tt
-begins_kept int hs others b = b
-begins_kept float hs others b = b
-begins_kept double hs others b = b
-begins_kept long hs others b = b
-begins_kept null hs others b = b
-begins_kept uninit_this hs others b = b
-begins_kept (object name) hs others b = b
-begins_kept (uninit at) hs others b = b
+begins_kept h hs others b = b
 
 -- no long or double stands at v - 1
 abbrev IsWholeAt : ℕ → List VerificationType → Type 0
@@ -86,16 +45,8 @@ paired_more (suc v) h (x ∷ hs) single p whole =
     by (suc v) (y ∷ hs) b not = begins_kept y hs (insert hs v h) b
 
 begins_renamed : (f : ℕ → ℕ) (hs : List VerificationType) → BeginsWithTop hs → BeginsWithTop (map (renamed f) hs)
-begins_renamed f [] b = b
 begins_renamed f (top ∷ hs) b = tt
-begins_renamed f (int ∷ hs) b = b
-begins_renamed f (float ∷ hs) b = b
-begins_renamed f (double ∷ hs) b = b
-begins_renamed f (long ∷ hs) b = b
-begins_renamed f (null ∷ hs) b = b
-begins_renamed f (uninit_this ∷ hs) b = b
-begins_renamed f (object name ∷ hs) b = b
-begins_renamed f (uninit at ∷ hs) b = b
+begins_renamed f hs b = b
 
 paired_renamed : (f : ℕ → ℕ) (hs : List VerificationType) → ArePaired hs → ArePaired (map (renamed f) hs)
 paired_renamed f [] p = tt
@@ -118,14 +69,7 @@ module _ (names : Names) (code : List Insn) (image : ℕ → ℕ) (Fact : ℕ �
     (placed : (at place : ℕ) → slice_get code at ≡ Some (insns.OfClass opcode.new place) → Fact (image at)) where
   kind_placed : (k : Kind) → made.IsKind code k → PlacedSo Fact (renamed image (verification_type names k))
   kind_placed (kinds.Uninit at) is = placed at is.0 is.1
-  kind_placed kinds.Top is = tt
-  kind_placed kinds.Int is = tt
-  kind_placed kinds.Float is = tt
-  kind_placed kinds.Double is = tt
-  kind_placed kinds.Long is = tt
-  kind_placed kinds.Null is = tt
-  kind_placed kinds.UninitThis is = tt
-  kind_placed (kinds.Object n) is = tt
+  kind_placed k is = tt
 
   all_placed : (ks : List Kind) → AllByRecursion (made.IsKind code) ks → AllByRecursion (PlacedSo Fact) (map (renamed image) (map (verification_type names) ks))
   all_placed [] all = tt
@@ -139,12 +83,12 @@ shifted_sayable names b image Fact s room placed is =
     let rs = map (renamed image) hs in
     let stack = map (renamed image) (map (verification_type names) s.stack) in
     let count = length-map hs (renamed image) ∙ length-map s.locals (verification_type names) ∙ is.state.locals in
-    let taken = slots-renamed image (map (verification_type names) s.stack) ∙ slots_held names s.stack in
+    let taken = slots-renamed image (map (verification_type names) s.stack) ∙ slots_are names s.stack in
     let most = is.state.stack in
     let above = as_many stack in
     record {
       locals = let more = length-insert rs b.arg_slots probes (omega (arith, count, room)) in omega (arith, more, count);
-      paired = paired_more b.arg_slots probes rs refl (paired_renamed image hs (paired_held names s.locals is.state.pairs))
+      paired = paired_more b.arg_slots probes rs refl (paired_renamed image hs (paired names s.locals is.state.pairs))
           (λ k e. whole_renamed image hs k (is.whole k e));
       stack = omega (arith, taken, most);
       few_stack = omega (arith, taken, most, above);

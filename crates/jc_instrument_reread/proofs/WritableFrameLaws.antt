@@ -5,7 +5,7 @@ use Rattle.std.specs.List.{AllByRecursion}
 use Rattle.std.proofs.lemmas.List.{length-map}
 use Rattle.jc_methods.proofs.StartsLaws.{number_at, rising}
 use Rattle.jc_methods.specs.FrameOrder.{RiseFrom}
-use Rattle.jc_methods.specs.VerificationTypes.{Names, VerificationType, top, int, float, double, long, null, uninit_this, object, uninit, class_names, TypeState, TypeStateAt, slots, type_state_at}
+use Rattle.jc_methods.specs.VerificationTypes.{Names, VerificationType, object, uninit, class_names, TypeState, TypeStateAt, slots, type_state_at}
 use Rattle.jc_methods.specs.Starts.{insn_number, AreStarts}
 use Rattle.jc_methods.specs.declared.body.FrameAt.{FrameAt}
 use Rattle.jc_pool.specs.Adding.{IsFirst}
@@ -85,13 +85,7 @@ module _ (g : Ground) (p : Places) (size : ℕ) (starts : AreStarts (length g.co
   have_places [] s m = tt
   have_places (object name ∷ hs) s m = (place_of name s.0, have_places hs s.1 m.1)
   have_places (uninit at ∷ hs) s m = ((starts_at at m.0.0, m.0.1), have_places hs s m.1)
-  have_places (top ∷ hs) s m = (tt, have_places hs s m.1)
-  have_places (int ∷ hs) s m = (tt, have_places hs s m.1)
-  have_places (float ∷ hs) s m = (tt, have_places hs s m.1)
-  have_places (double ∷ hs) s m = (tt, have_places hs s m.1)
-  have_places (long ∷ hs) s m = (tt, have_places hs s m.1)
-  have_places (null ∷ hs) s m = (tt, have_places hs s m.1)
-  have_places (uninit_this ∷ hs) s m = (tt, have_places hs s m.1)
+  have_places (h ∷ hs) s m = (tt, have_places hs s m.1)
 
   -- ---- frames
 

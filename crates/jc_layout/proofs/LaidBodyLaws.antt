@@ -93,7 +93,7 @@ module _ (b : Body) (first : ℕ) (states : List State) (array : ℕ) (names : L
   unfolding emission
   narrow_frames = layout_told b first states array names well.code well.frames fit named
 
-  laid_told : (wide : Bool) → Frames wide (laid_frames wide (emission b first states array))
+  pub laid_told : (wide : Bool) → Frames wide (laid_frames wide (emission b first states array))
   laid_told false = narrow_frames
   laid_told true = widened_frames b first states array names well fit named _ are_widened
 

@@ -13,8 +13,8 @@ pub returns-in_err-members-clause-refused : goal.returns-in_err-members-clause-r
 returns-in_err-members-clause-refused c =
     let p = err_from_is_err_and c.from_residual.result c.from_residual.ensures.1 in
     rw (p.1, p.2)
-    (members_refused c.args.id c.args.class c.requires.class (ready_works c.args.names.now c.args.class c.args.ready c.requires.ready) c.args.owner.now
-    c.requires.owner c.in_err-members.field-0.0 c.in_err-members.ensures.refused)
+    (members_refused c.args.identity.id c.args.class c.requires.class (ready_works c.args.names.now c.args.class c.args.ready c.requires.ready) c.args.identity.name.now
+    c.requires.name c.in_err-members.field-0.0 c.in_err-members.ensures.refused)
 
 pub twin_class-requires-clause-coded : goal.twin_class-requires-clause-coded
 twin_class-requires-clause-coded c =
@@ -33,9 +33,9 @@ pub returns-clause-twin : goal.returns-clause-twin
 returns-clause-twin c =
     let class = c.args.class in
     let w = ready_works c.args.names.now class c.args.ready c.requires.ready in
-    IfOk-weaker c.twin_class.result _ (IsWrittenFor c.args.id class)
+    IfOk-weaker c.twin_class.result _ (IsWrittenFor c.args.identity.id class)
     (λ twin from.
-    twin_written c.args.id class c.requires.class w c.args.owner.now c.requires.owner c.take_members.new.pool c.in_ok-members.members
+    twin_written c.args.identity.id class c.requires.class w c.args.identity.name.now c.requires.name c.take_members.new.pool c.in_ok-members.members
     c.in_ok-members.ensures.ok c.in_ok-members.ensures.extends c.code_places-codes.ensures.few c.code_places-codes.result
     c.code_places-codes.ensures.texts twin from)
     (c.twin_class.ensures.twin w.others w.array w.works (w.of c.args.source.now (source_is c.args.ready.bodies class c.args.source.now c.requires.source)) w.count)
@@ -44,8 +44,8 @@ pub returns-clause-refused : goal.returns-clause-refused
 returns-clause-refused c =
     let class = c.args.class in
     let w = ready_works c.args.names.now class c.args.ready c.requires.ready in
-    IfErr-weaker c.twin_class.result _ (IsFullFor c.args.id class)
+    IfErr-weaker c.twin_class.result _ (IsFullFor c.args.identity.id class)
     (λ e refused.
-    frames_refused c.args.id class c.requires.class w c.args.owner.now c.requires.owner c.take_members.new.pool c.in_ok-members.members
+    frames_refused c.args.identity.id class c.requires.class w c.args.identity.name.now c.requires.name c.take_members.new.pool c.in_ok-members.members
     c.in_ok-members.ensures.ok e refused)
     (c.twin_class.ensures.refused w.others w.array w.works (w.of c.args.source.now (source_is c.args.ready.bodies class c.args.source.now c.requires.source)))

@@ -12,11 +12,11 @@ use Rattle.jc_instrument_code.proofs.code.write_code.Goals as goal
 
 pub write_laid-requires-clause-frames : goal.write_laid-requires-clause-frames
 write_laid-requires-clause-frames c =
-    can_be_written c.args.emitted.now c.args.laid.now c.requires.laid (length c.args.names.now) c.args.frames.now c.requires.frames
+    can_be_written c.args.emitted.now c.args.laid.now c.requires.laid (length c.args.frames.names.now) c.args.frames.frames.now c.requires.frames
 
 pub write_laid-requires-clause-classes : goal.write_laid-requires-clause-classes
 write_laid-requires-clause-classes c =
-    subst (λ (fs : List FrameAt). AllByRecursion (HasPlace c.args.pool.now) (named_by_all (map (type_state_at c.args.names.now) fs)))
+    subst (λ (fs : List FrameAt). AllByRecursion (HasPlace c.args.pool.now) (named_by_all (map (type_state_at c.args.frames.names.now) fs)))
     (sym c.requires.frames.are) c.requires.classes
 
 pub returns-clause-text : goal.returns-clause-text
@@ -39,5 +39,5 @@ returns-clause-text c =
       max_locals = e.max_locals;
     } in
     subst (λ (all : List ℕ). IfOk c.write_laid.result (λ text. text ≡ all))
-    (laid_text_is c.args.pool.now c.args.names.now c.args.places.now e seen c.args.laid.now c.args.frames.now same c.requires.laid
+    (laid_text_is c.args.pool.now c.args.frames.names.now c.args.places.now e seen c.args.laid.now c.args.frames.frames.now same c.requires.laid
     c.requires.frames.are c.requires.names) c.write_laid.ensures.text
