@@ -4,9 +4,9 @@ ghost use Rattle.std.specs.List.{filter_map};
 ghost use Rattle.jc_workers.specs.Ran.{HitsOf, AreEnds};
 ghost use Rattle.jc_workers.specs.Drawing.{AllDrew};
 
-use crate::pool::Drew;
+use crate::Claims;
+use crate::pool::{Drew, Turn};
 use crate::runner::CaseRunner;
-use crate::{Claims, Drawer};
 use jc_board::{Board, Seat};
 use jc_bytes::Memory;
 use std::alloc::Global;
@@ -50,25 +50,29 @@ fn all_ends<E: Drop>(alloc: Global, ends: Vec<Option<E>>) -> Result<Vec<E>, Memo
     Ok(all)
 }
 
-/// Joins the seats and the drawers, and puts the ends in the order of the cases.
+/// Joins the seats and the drawers with what the workers gave back, and puts the ends in the order of the cases.
 pub fn collect<C: CaseRunner>(
     alloc: Global,
     runner: &C,
     board: &Board,
     claims: Claims,
-    mut seat: Seat,
-    mut drawer: Drawer,
+    own: Turn,
     mut gave: Vec<Result<Drew<C::End>, Memory>>,
 ) -> Result<(Vec<C::End>, Seat), Memory>
 where
     C::End: Drop,
     requires gave { (0 < vec_len gave) × AllDrew board.now.table claims.table (C.cases runner.now) (C.end_of runner.now) (C.hits runner.now) gave.items }
-    requires seat { (seat.table ≡ board.now.table) × (seat.hits ≡ []) × (seat.part + 2048 * vec_len gave ≡ 65536) }
-    requires drawer { (drawer.table ≡ claims.table) × (drawer.numbers ≡ []) × (drawer.budget ≡ 0) × (claims.budget ≡ vec_len gave * (C.cases runner.now + 1)) }
+    requires seat { (own.seat.table ≡ board.now.table) × (own.seat.hits ≡ []) × (own.seat.part + 2048 * vec_len gave ≡ 65536) }
+    requires drawer { (own.drawer.table ≡ claims.table) × (own.drawer.numbers ≡ []) × (own.drawer.budget ≡ 0)
+        × (claims.budget ≡ vec_len gave * (C.cases runner.now + 1)) }
     ensures ends { IfOk result (λ r. AreEnds (C.cases runner.now) (C.end_of runner.now) r.0.items) }
     ensures seat { IfOk result (λ r. (r.1.table ≡ board.now.table) × (r.1.part ≡ 65536)
         × HitsOf (C.cases runner.now) (C.hits runner.now) (λ _. Unit {0}) r.1.hits) }
 {
+    let Turn {
+        mut seat,
+        mut drawer,
+    } = own;
     let mut ends = no_ends(alloc, runner.case_count())?;
     'joining: while let Some(result) = gave.pop() {
         let Drew {

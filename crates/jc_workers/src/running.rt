@@ -7,7 +7,7 @@ ghost use Rattle.jc_workers.specs.Cases.{HaveEntries, IsRunnable, case_at, end_u
 ghost use Rattle.jc_workers.specs.Drawing.{AreTurns, AllDrew};
 
 use crate::plan_runner::PlanRunner;
-use crate::pool::{Drew, Turn, deal, take_turn};
+use crate::pool::{Drew, Turn, Work, deal, take_turn};
 use crate::results::collect;
 use crate::{Claims, Gate};
 use jc_board::{Board, Seat};
@@ -23,24 +23,22 @@ fn take_turns<R: Threads + Sync, G: Gate + Sync>(
     rt: &R,
     alloc: Global,
     runner: &PlanRunner<'_>,
-    cases: usize,
     gate: &G,
-    board: &Board,
-    claims: &Claims,
+    work: &Work<'_>,
     turns: Vec<Turn>,
 ) -> Result<Vec<Result<Drew<CaseEnd>, Memory>>, Memory>
-    requires turns { AreTurns board.now.table claims.now.table (cases + 1) turns.items }
+    requires turns { AreTurns work.now.board.now.table work.now.claims.now.table (work.now.cases + 1) turns.items }
     requires runner { IsRunnable runner.now.program.now runner.now.plan.now runner.now.entries.items }
-    requires cases { (cases ≡ length runner.now.plan.now.cases) × (cases ≤ 256) }
-    requires counts { board.now.counts ≡ probe_counts runner.now.program.now }
+    requires cases { (work.now.cases ≡ length runner.now.plan.now.cases) × (work.now.cases ≤ 256) }
+    requires counts { work.now.board.now.counts ≡ probe_counts runner.now.program.now }
     ensures { IfOk result (λ gave. (vec_len gave ≡ vec_len turns)
-        × AllDrew board.now.table claims.now.table cases (λ k. end_under runner.now.program.now (case_at runner.now.plan.now k))
+        × AllDrew work.now.board.now.table work.now.claims.now.table work.now.cases (λ k. end_under runner.now.program.now (case_at runner.now.plan.now k))
         (HitBy runner.now.program.now runner.now.plan.now) gave.items) }
 {
     Ok(thread::map_vec(
         rt,
         turns,
-        &|turn| take_turn(alloc, runner, cases, gate, board, claims, turn),
+        &|turn| take_turn(alloc, runner, gate, work, turn),
     )?)
 }
 
@@ -74,20 +72,17 @@ pub fn run_cases<R: Threads + Sync, G: Gate + Sync>(
     ensures part { IfOk result (λ r. (r.1.table ≡ board.now.table) × (r.1.part ≡ 65536)) }
     ensures hits { IfOk result (λ r. AreHits program.now plan.now r.1.hits) }
 {
-    let mut seat = seat;
     let workers = workers as usize;
     let cases = plan.cases.len();
     let runner = PlanRunner::new(alloc, program, plan)?;
-    let (claims, mut drawer) = Claims::new(alloc, workers as u64 * (cases as u64 + 1))?;
-    let turns = deal(
-        alloc,
+    let (claims, drawer) = Claims::new(alloc, workers as u64 * (cases as u64 + 1))?;
+    let work = Work {
         cases,
         board,
-        &claims,
-        &mut seat,
-        &mut drawer,
-        workers,
-    )?;
-    let gave = take_turns(rt, alloc, &runner, cases, gate, board, &claims, turns)?;
-    collect(alloc, &runner, board, claims, seat, drawer, gave)
+        claims: &claims,
+    };
+    let mut whole = Turn { seat, drawer };
+    let turns = deal(alloc, &work, &mut whole, workers)?;
+    let gave = take_turns(rt, alloc, &runner, gate, &work, turns)?;
+    collect(alloc, &runner, board, claims, whole, gave)
 }

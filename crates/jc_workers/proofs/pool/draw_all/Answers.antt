@@ -13,7 +13,7 @@ pub drawing-preserved : goal.drawing-preserved
 drawing-preserved g c =
     let i = c.drawing.invariant in
     let runner = c.args.runner.now in
-    let cases = c.args.cases in
+    let cases = c.args.work.now.cases in
     let end_of = g.C.CaseRunner.end_of runner in
     let hit_by = g.C.CaseRunner.hits runner in
     let numbers = c.drawing.drawer.numbers in
@@ -42,9 +42,9 @@ drawing-preserved g c =
 pub returns-clause-drawer : goal.returns-clause-drawer
 returns-clause-drawer g c =
     let i = c.drawing.invariant in
-    let n = c.args.cases in
+    let n = c.args.work.now.cases in
     elim c.drawing-test.branch [
-      | else-drawing-test w ↦ subst (λ (d : DrawerSeen). (d.table ≡ c.args.claims.now.table) × (length d.numbers + d.budget ≡ n + 1) × Passed n d.numbers)
+      | else-drawing-test w ↦ subst (λ (d : DrawerSeen). (d.table ≡ c.args.work.now.claims.now.table) × (length d.numbers + d.budget ≡ n + 1) × Passed n d.numbers)
           (sym w.drawer-is) (
             i.1,
             omega (arith, i.2, i.3),
@@ -55,7 +55,7 @@ returns-clause-drawer g c =
           let k = w.draw-number.result in
           let numbers = c.drawing.drawer.numbers in
           let new = w.draw-number.ensures.numbers in
-          subst (λ (d : DrawerSeen). (d.table ≡ c.args.claims.now.table) × (length d.numbers + d.budget ≡ n + 1) × Passed n d.numbers) (sym w.drawer-is) (
+          subst (λ (d : DrawerSeen). (d.table ≡ c.args.work.now.claims.now.table) × (length d.numbers + d.budget ≡ n + 1) × Passed n d.numbers) (sym w.drawer-is) (
             w.draw-number.ensures.claims ∙ i.1,
             omega (arith, ap length new, length-append numbers (k ∷ []), i.3, i.2, w.draw-number.ensures.budget),
             (k, subst (λ (l : List ℕ). Contains l k) (sym new) (has_new numbers k), w.if-number-cases.true),
@@ -68,7 +68,7 @@ past cases numbers k n high low h = ⊎_elim (λ old. old) (λ e. absurd (omega 
 
 pub returns-clause-ends : goal.returns-clause-ends
 returns-clause-ends g c =
-    let cases = c.args.cases in
+    let cases = c.args.work.now.cases in
     let end_of = g.C.CaseRunner.end_of c.args.runner.now in
     let numbers = c.drawing.drawer.numbers in
     elim c.drawing-test.branch [
@@ -83,7 +83,7 @@ returns-clause-ends g c =
 
 pub returns-clause-hits : goal.returns-clause-hits
 returns-clause-hits g c =
-    let cases = c.args.cases in
+    let cases = c.args.work.now.cases in
     let hit_by = g.C.CaseRunner.hits c.args.runner.now in
     let numbers = c.drawing.drawer.numbers in
     let seat = sym c.into_seat-seat.ensures.seat in

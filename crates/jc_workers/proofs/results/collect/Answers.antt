@@ -27,11 +27,11 @@ joining-init g c =
     let i = c.requires in
     let cases = g.C.CaseRunner.cases c.args.runner.now in
     let empty : Option g.row.C-End.Denot = None in
-    let none : (k : ℕ) → Contains c.args.drawer.numbers k → ⊥ = λ k h. nothing k (subst (λ (l : List ℕ). Contains l k) i.drawer.1 h) in (
+    let none : (k : ℕ) → Contains c.args.own.drawer.numbers k → ⊥ = λ k h. nothing k (subst (λ (l : List ℕ). Contains l k) i.drawer.1 h) in (
       i.seat.0,
       i.seat.2,
-      subst (λ (hs : List (ℕ × ℕ)). HitsOf cases (g.C.CaseRunner.hits c.args.runner.now) (Contains c.args.drawer.numbers) hs) (sym i.seat.1)
-          (no_hits cases (g.C.CaseRunner.hits c.args.runner.now) (Contains c.args.drawer.numbers) none),
+      subst (λ (hs : List (ℕ × ℕ)). HitsOf cases (g.C.CaseRunner.hits c.args.runner.now) (Contains c.args.own.drawer.numbers) hs) (sym i.seat.1)
+          (no_hits cases (g.C.CaseRunner.hits c.args.runner.now) (Contains c.args.own.drawer.numbers) none),
       i.gave.1,
       i.drawer.0,
       omega (arith, ap length i.drawer.1, i.drawer.2, i.drawer.3),
