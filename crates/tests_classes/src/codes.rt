@@ -11,7 +11,7 @@ ghost use Rattle.tests_classes.specs.Standing.{KindStands, FrameStands};
 
 use crate::shown::put_bytes;
 use jc_bytes::Names;
-use jc_instrument_code::{CodePlaces, first_text, write_code};
+use jc_instrument_code::{CodePlaces, NamedFrames, first_text, write_code};
 use jc_layout::Laid;
 use jc_methods::{Emitted, FrameAt, Kind};
 use jc_pool::Pool;
@@ -20,6 +20,14 @@ use tests_lines::Answer;
 
 /// The most rows of an exception table (JVM Specification 4.7.3).
 const MOST_ROWS: usize = 65_535;
+
+/// Instrumented code in its layout, with the classes that its frames name by their numbers.
+#[derive(Clone, Copy)]
+pub struct LaidCode<'a> {
+    pub emitted: &'a Emitted,
+    pub laid: &'a Laid,
+    pub names: &'a Names,
+}
 
 /// Whether the class with this number stands in the pool.
 #[tactic(auto, using(std::proofs::lemmas::Option::get_or_from_slice_get))]
@@ -95,24 +103,28 @@ fn places_of(pool: &Pool, method: u16) -> Option<CodePlaces>
 /// that it names stands.
 pub fn coded(
     alloc: Global,
-    emitted: &Emitted,
-    laid: &Laid,
+    code: LaidCode<'_>,
     frames: &[FrameAt],
-    names: &Names,
     method: u16,
     pool: &mut Pool,
     out: &mut Answer,
 ) -> Option<()>
-    requires laid { IsLaid emitted.now laid.now }
-    requires frames { AreFrames emitted.now (length names.now) frames.now }
+    requires laid { IsLaid code.emitted.now code.laid.now }
+    requires frames { AreFrames code.emitted.now (length code.names.now) frames.now }
 {
+    let LaidCode {
+        emitted,
+        laid,
+        names,
+    } = code;
     let Some(places) = places_of(pool, method) else {
         return out.wrong("not in the pool");
     };
     if emitted.handlers.len() > MOST_ROWS || !frames_stand(pool, names, frames) {
         return out.wrong("not in the pool");
     }
-    let text = write_code(alloc, emitted, laid, frames, names, &places, pool);
+    let named = NamedFrames { frames, names };
+    let text = write_code(alloc, emitted, laid, named, &places, pool);
     let text = out.got(text)?;
     put_bytes(&text, out);
     Some(())

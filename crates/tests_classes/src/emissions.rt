@@ -10,7 +10,7 @@ ghost use Rattle.jc_layout.specs.Merged.{merged};
 ghost use Rattle.jc_plan.specs.Plan.{plan_of};
 ghost use Rattle.tests_classes.specs.Instrumented.{IsInstrumented, FitsInLayout};
 
-use crate::codes::coded;
+use crate::codes::{LaidCode, coded};
 use crate::shown::{put_emitted, put_layout};
 use jc_bytes::{Fail, List, Memory, Names, Refusal, RefusalKind};
 use jc_emit::emit;
@@ -109,7 +109,12 @@ fn in_layout(
     requires fit { FitsInLayout (length names.now) emitted.now }
 {
     let laid = out.accepted(laid_out(alloc, emitted))?;
-    with_frames(alloc, emitted, &laid, names, pool, method, out)
+    let code = LaidCode {
+        emitted,
+        laid: &laid,
+        names,
+    };
+    with_frames(alloc, code, pool, method, out)
 }
 
 /// The frames of both layouts in the order of their places, if the wide one is chosen; else none.
@@ -128,22 +133,21 @@ fn merged(alloc: Global, emitted: &Emitted, wide: bool) -> Result<List<FrameAt>,
 /// Puts a layout of instrumented code with its frames, or its Code attribute.
 fn with_frames(
     alloc: Global,
-    emitted: &Emitted,
-    laid: &Laid,
-    names: &Names,
+    code: LaidCode<'_>,
     pool: &mut Pool,
     method: Option<u16>,
     out: &mut Answer,
 ) -> Option<()>
-    requires laid { IsLaid emitted.now laid.now }
-    requires frames { RiseFrom 0 emitted.now.frames }
-    requires wide_frames { RiseFrom 0 emitted.now.wide_frames }
-    requires fit { AreFrames emitted.now (length names.now) (chosen_frames emitted.now) }
+    requires laid { IsLaid code.emitted.now code.laid.now }
+    requires frames { RiseFrom 0 code.emitted.now.frames }
+    requires wide_frames { RiseFrom 0 code.emitted.now.wide_frames }
+    requires fit { AreFrames code.emitted.now (length code.names.now) (chosen_frames code.emitted.now) }
 {
+    let LaidCode { emitted, laid, .. } = code;
     let merged = out.got(merged(alloc, emitted, laid.wide))?;
     let frames = frames_of(emitted, &merged, laid.wide);
     match method {
         None => put_layout(emitted, laid, frames, out),
-        Some(method) => coded(alloc, emitted, laid, frames, names, method, pool, out),
+        Some(method) => coded(alloc, code, frames, method, pool, out),
     }
 }

@@ -18,6 +18,13 @@ use jc_pool::Pool;
 use std::alloc::Global;
 use tests_lines::{Answer, number};
 
+/// A call on a method: its name, and the words behind the number of the method.
+#[derive(Clone, Copy)]
+struct Call<'a> {
+    command: &'a str,
+    rest: &'a [&'a str],
+}
+
 /// Whether a word is one of the calls below.
 pub fn is_command(word: &str) -> bool {
     matches!(
@@ -72,15 +79,10 @@ fn in_method(
     }
     let mut names = out.got(Names::new(alloc))?;
     match out.accepted(read_body(alloc, class, u32::from(method), &mut names))? {
-        Some(body) => in_body(
-            alloc,
-            &body,
-            &mut names,
-            &mut class.pool,
-            command,
-            rest,
-            out,
-        ),
+        Some(body) => {
+            let call = Call { command, rest };
+            in_body(alloc, &body, &mut names, &mut class.pool, call, out)
+        }
         None => out.wrong("no code"),
     }
 }
@@ -91,14 +93,13 @@ fn in_body(
     body: &Body,
     names: &mut Names,
     pool: &mut Pool,
-    command: &str,
-    rest: &[&str],
+    call: Call<'_>,
     out: &mut Answer,
 ) -> Option<()>
     requires body { IsWellMade body.now }
     requires frames { AreNumberedFrames (length names.old) body.now.frames }
 {
-    match (command, rest) {
+    match (call.command, call.rest) {
         ("states", []) => state_count(alloc, body, names, out),
         ("straddles", []) => straddling(body, out),
         ("emit", []) => emitted(alloc, body, names, out),

@@ -21,6 +21,13 @@ pub struct NoEntry {
     pub line: u32,
 }
 
+/// A case with its number, from 1.
+#[derive(Clone, Copy)]
+struct NumberedCase<'a> {
+    number: u32,
+    case: &'a Case,
+}
+
 /// How many probes there are.
 fn count_of(probes: Option<ProbeInit>) -> u32
     ensures { result ≡ count_in probes }
@@ -81,21 +88,20 @@ fn run_case(
     alloc: Global,
     program: &Program,
     world: &mut World,
-    case: &Case,
-    number: u32,
+    begun: NumberedCase<'_>,
     sink: &mut BitSink,
     text: &mut String,
 ) -> Result<(), AllocError>
     requires program { IsProgram program.now }
     requires fits { Fits program.now world.old }
-    requires threads { AreThreads (length world.old.threads) case.now.schedule }
+    requires threads { AreThreads (length world.old.threads) begun.case.now.schedule }
     requires counts { counts_of sink.old ≡ probe_counts program.now }
     ensures fits { Fits program.now world.new }
     ensures counts { counts_of sink.new ≡ probe_counts program.now }
 {
-    world.run(program, &case.schedule, sink);
+    world.run(program, &begun.case.schedule, sink);
     match world.end(alloc) {
-        Ok(end) => put_case(alloc, program, number, &end, text),
+        Ok(end) => put_case(alloc, program, begun.number, &end, text),
         Err(_) => Err(AllocError),
     }
 }
@@ -117,7 +123,8 @@ fn run_first(
 {
     let entries = entries(alloc, program, &case.threads)?;
     let mut world = World::begin(alloc, program, case, &entries)?;
-    run_case(alloc, program, &mut world, case, 1, sink, text)?;
+    let begun = NumberedCase { number: 1, case };
+    run_case(alloc, program, &mut world, begun, sink, text)?;
     Ok(world)
 }
 
@@ -127,21 +134,21 @@ fn run_next(
     alloc: Global,
     program: &Program,
     world: &mut World,
-    case: &Case,
-    number: u32,
+    next: NumberedCase<'_>,
     sink: &mut BitSink,
     text: &mut String,
 ) -> Result<(), Fail<NoEntry>>
     requires program { IsProgram program.now }
-    requires case { IsCase case.now }
+    requires case { IsCase next.case.now }
     requires fits { Fits program.now world.old }
     requires counts { counts_of sink.old ≡ probe_counts program.now }
     ensures fits { Fits program.now world.new }
     ensures counts { counts_of sink.new ≡ probe_counts program.now }
 {
+    let case = next.case;
     let entries = entries(alloc, program, &case.threads)?;
     world.next(program, case, &entries);
-    run_case(alloc, program, world, case, number, sink, text)?;
+    run_case(alloc, program, world, next, sink, text)?;
     Ok(())
 }
 
@@ -163,15 +170,9 @@ pub fn run_cases(
     };
     let mut world = run_first(alloc, program, first, sink, text)?;
     'running: for (before, case) in others.iter().enumerate() {
-        run_next(
-            alloc,
-            program,
-            &mut world,
-            case,
-            before as u32 + 2,
-            sink,
-            text,
-        )?;
+        let number = before as u32 + 2;
+        let next = NumberedCase { number, case };
+        run_next(alloc, program, &mut world, next, sink, text)?;
     }
     Ok(())
 }

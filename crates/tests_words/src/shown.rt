@@ -1,5 +1,5 @@
 //! Commands, as they are printed.
-use jc_command_words::{Command, FileWord};
+use jc_command_words::{Command, CoverWords, FileWord, ReportWords, RunWords};
 use tests_lines::Answer;
 
 /// Puts the files, each behind a space; a folder stands in brackets.
@@ -31,81 +31,57 @@ fn put_exec(exec: Option<&str>, out: &mut Answer) {
     }
 }
 
-/// Puts a command on files, with what it is given.
-fn put_of_files(command: &Command<'_>, out: &mut Answer) {
-    match command {
-        Command::Instrument { dest, files } => {
-            out.label("instrument dest ", dest);
-            put_files(files, out);
-        }
-        Command::Report {
-            csv,
-            name,
-            exec,
-            files,
-        } => {
-            out.label("report csv ", csv);
-            out.label(" name '", name);
-            out.put("'");
-            put_exec(*exec, out);
-            put_files(files, out);
-        }
-        Command::ClassInfo { files } => {
-            out.put("classinfo");
-            put_files(files, out);
-        }
-        _ => (),
-    }
+/// Puts what the words of `report` say.
+fn put_report(words: &ReportWords<'_>, out: &mut Answer) {
+    out.label("report csv ", &words.csv);
+    out.label(" name '", &words.name);
+    out.put("'");
+    put_exec(words.exec, out);
+    put_files(&words.files, out);
 }
 
-/// Puts a command that runs a plan, with what it is given.
-fn put_of_plan(command: &Command<'_>, out: &mut Answer) {
-    match command {
-        Command::Run {
-            plan,
-            destfile,
-            workers,
-            files,
-        } => {
-            out.label("run plan ", plan);
-            out.label(" destfile ", destfile);
-            out.label(" workers ", workers);
-            put_files(files, out);
-        }
-        Command::Cover {
-            dest,
-            plan,
-            destfile,
-            csv,
-            workers,
-            name,
-            files,
-        } => {
-            out.label("cover dest ", dest);
-            out.label(" plan ", plan);
-            out.label(" destfile ", destfile);
-            out.label(" csv ", csv);
-            out.label(" workers ", workers);
-            out.label(" name '", name);
-            out.put("'");
-            put_files(files, out);
-        }
-        other => put_of_files(other, out),
-    }
+/// Puts what the words of `run` say.
+fn put_run(words: &RunWords<'_>, out: &mut Answer) {
+    out.label("run plan ", &words.plan);
+    out.label(" destfile ", &words.destfile);
+    out.label(" workers ", &words.workers);
+    put_files(&words.files, out);
+}
+
+/// Puts what the words of `cover` say.
+fn put_cover(words: &CoverWords<'_>, out: &mut Answer) {
+    out.label("cover dest ", &words.dest);
+    out.label(" plan ", &words.plan);
+    out.label(" destfile ", &words.destfile);
+    out.label(" csv ", &words.csv);
+    out.label(" workers ", &words.workers);
+    out.label(" name '", &words.name);
+    out.put("'");
+    put_files(&words.files, out);
 }
 
 /// Puts a command with what it is given.
 pub fn put_command(command: &Command<'_>, out: &mut Answer) {
     match command {
-        Command::Merge { destfile, inputs } => {
-            out.label("merge destfile ", destfile);
-            put_inputs(inputs, out);
+        Command::Instrument(words) => {
+            out.label("instrument dest ", &words.dest);
+            put_files(&words.files, out);
         }
+        Command::Run(words) => put_run(words, out),
+        Command::Merge(words) => {
+            out.label("merge destfile ", &words.destfile);
+            put_inputs(&words.inputs, out);
+        }
+        Command::Report(words) => put_report(words, out),
         Command::ExecInfo { inputs } => {
             out.put("execinfo");
             put_inputs(inputs, out);
         }
+        Command::ClassInfo { files } => {
+            out.put("classinfo");
+            put_files(files, out);
+        }
+        Command::Cover(words) => put_cover(words, out),
         Command::CoverSample { methods } => out.label("cover sample ", methods),
-        other => put_of_plan(other, out),
     }
 }
