@@ -22,13 +22,7 @@ use Rattle.jc_instrument_laws.proofs.EmittedFramesLaws.{arms_size}
 -- a goto has three bytes or more, and each other instruction one or more
 abbrev least : Item → ℕ
 least (hop to at due) = 3
-least (image insn at early) = 1
-least init_call = 1
-least init_store = 1
-least (probe_array id at late) = 1
-least (probe_id id at late) = 1
-least (probe_one id at late) = 1
-least (probe_store id at late) = 1
+least other = 1
 
 abbrev weight : List Item → ℕ
 weight [] = 0

@@ -7,7 +7,7 @@ use Rattle.std.proofs.lemmas.Bool.{cases_lt}
 use Rattle.std.proofs.lemmas.Grind.{flat_map-append}
 use Rattle.std.proofs.lemmas.List.{take-append-drop, length-drop}
 use Rattle.jc_bytes.specs.BigNumbers.{short, word}
-use Rattle.jc_methods.specs.VerificationTypes.{VerificationType, top, int, float, double, long, null, uninit_this, object, uninit, TypeStateAt}
+use Rattle.jc_methods.specs.VerificationTypes.{VerificationType, object, uninit, TypeStateAt}
 use Rattle.jc_class.specs.declared.class_file.Attribute.{Attribute}
 use Rattle.jc_frames.specs.Frames.{trimmed, values_in}
 use Rattle.jc_frames.specs.FullFrames as full
@@ -26,15 +26,9 @@ values_most hs = let a = trimmed_few hs in let c = values_few false (trimmed hs)
 
 module _ (p : full.Places) where
   type_most : (h : VerificationType) → length (full.type_text p h) ≤ 3
-  type_most top = omega arith
-  type_most int = omega arith
-  type_most float = omega arith
-  type_most double = omega arith
-  type_most long = omega arith
-  type_most null = omega arith
-  type_most uninit_this = omega arith
   type_most (object name) = let count = frame_short_count (p.class name) in omega (arith, count)
   type_most (uninit at) = let count = frame_short_count (p.start at) in omega (arith, count)
+  type_most h = omega arith
 
   all_most : (hs : List VerificationType) → length (flat_map (full.type_text p) hs) ≤ 3 * length hs
   all_most [] = omega arith

@@ -5,7 +5,7 @@ use Rattle.std.specs.List.{AllByRecursion}
 use Rattle.std.proofs.lemmas.Bool.{cases_lt}
 use Rattle.std.proofs.lemmas.List.{get_or_past, length-map}
 use Rattle.std.proofs.lemmas.Option.{slice_get-get_or}
-use Rattle.jc_methods.specs.VerificationTypes.{Names, VerificationType, top, int, float, double, long, null, uninit_this, object, uninit, class_names, verification_type, type_state, TypeStateAt, type_state_at}
+use Rattle.jc_methods.specs.VerificationTypes.{Names, VerificationType, object, class_names, verification_type, type_state, TypeStateAt, type_state_at}
 use Rattle.jc_methods.specs.WellMade.{IsWellMadeOfAnySize}
 use Rattle.jc_methods.specs.declared.body.Body.{Body}
 use Rattle.jc_methods.specs.declared.body.FrameAt.{FrameAt}
@@ -42,15 +42,8 @@ to_held names [] all = tt
 to_held names (k ∷ ks) all = (all.0, to_held names ks all.1)
 
 image_named : (names : Names) (place : ℕ → ℕ) (k : Kind) → KindNamed names k → KindNamed names (image_kind place k)
-image_named names place (kinds.Uninit at) named = tt
 image_named names place (kinds.Object n) named = named
-image_named names place kinds.Top named = tt
-image_named names place kinds.Int named = tt
-image_named names place kinds.Float named = tt
-image_named names place kinds.Double named = tt
-image_named names place kinds.Long named = tt
-image_named names place kinds.Null named = tt
-image_named names place kinds.UninitThis named = tt
+image_named names place k named = tt
 
 images_named : (names : Names) (place : ℕ → ℕ) (ks : List Kind) → AllByRecursion (KindNamed names) ks
     → AllByRecursion (KindNamed names) (map (image_kind place) ks)
@@ -144,14 +137,7 @@ module _ (names : Names) (b : Body) (made : IsWellMadeOfAnySize b) (texts : HasT
   names_texts : (hs : List VerificationType) → AllNamed hs → AllByRecursion IsText (class_names hs)
   names_texts [] all = tt
   names_texts (object name ∷ hs) all = (all.0, names_texts hs all.1)
-  names_texts (top ∷ hs) all = names_texts hs all.1
-  names_texts (int ∷ hs) all = names_texts hs all.1
-  names_texts (float ∷ hs) all = names_texts hs all.1
-  names_texts (double ∷ hs) all = names_texts hs all.1
-  names_texts (long ∷ hs) all = names_texts hs all.1
-  names_texts (null ∷ hs) all = names_texts hs all.1
-  names_texts (uninit_this ∷ hs) all = names_texts hs all.1
-  names_texts (uninit at ∷ hs) all = names_texts hs all.1
+  names_texts (h ∷ hs) all = names_texts hs all.1
 
   frames_texts : (frames : List TypeStateAt) → AllByRecursion IsSmallFrame frames → AllByRecursion IsText (named_by_all frames)
   frames_texts [] all = tt

@@ -106,13 +106,7 @@ module _ (g : Ground) (read : IsReadPool g.pool) where
       by : (t : Bool) → (if t then Some (uninit (insn_number g.starts offset)) else None) ≡ Some h → IsNamed h
       by true e = subst IsNamed (same_Some _ h e) tt
       by false e = absurd (none-some h e)
-  type_named types.Top h is = subst IsNamed (same_Some _ h is) tt
-  type_named types.Int h is = subst IsNamed (same_Some _ h is) tt
-  type_named types.Float h is = subst IsNamed (same_Some _ h is) tt
-  type_named types.Double h is = subst IsNamed (same_Some _ h is) tt
-  type_named types.Long h is = subst IsNamed (same_Some _ h is) tt
-  type_named types.Null h is = subst IsNamed (same_Some _ h is) tt
-  type_named types.UninitThis h is = subst IsNamed (same_Some _ h is) tt
+  type_named item h is = subst IsNamed (same_Some _ h is) tt
 
   front_named : (o : Option VerificationType) (more : Option (List VerificationType)) → ((h : VerificationType) → o ≡ Some h → IsNamed h) → IfNamed more → IfNamed (in_front o more)
   front_named (Some h) (Some hs) one all js is = subst AllNamed (same_Some (h ∷ hs) js is) (one h refl, all hs refl)
@@ -195,18 +189,7 @@ named_at (f ∷ list) all i s e = by (nat_eq f.at i) e (named_at list all.1 i s)
 module _ (names : Names) (b : Body) (made : IsWellMadeOfAnySize b) (texts : HasTexts names b) where
   class_text : (o : Option What) → ((what : What) → o ≡ Some what → UseNamed what) → IsText (class_in o)
   class_text (Some (whats.Class name)) named = named (whats.Class name) refl
-  class_text (Some (whats.Field class name desc)) named = no_text
-  class_text (Some (whats.Method class name desc)) named = no_text
-  class_text (Some (whats.Call name desc)) named = no_text
-  class_text (Some (whats.Computed desc)) named = no_text
-  class_text (Some (whats.Int value)) named = no_text
-  class_text (Some (whats.Long value)) named = no_text
-  class_text (Some whats.Float) named = no_text
-  class_text (Some whats.Double) named = no_text
-  class_text (Some whats.Text) named = no_text
-  class_text (Some whats.MethodKind) named = no_text
-  class_text (Some whats.Handle) named = no_text
-  class_text None named = no_text
+  class_text o named = no_text
 
   new_text : (o : Option Insn) → IsText (new_class b.uses o)
   new_text (Some (insns.OfClass op place)) = class_text (what_used b.uses place) (texts.uses place)

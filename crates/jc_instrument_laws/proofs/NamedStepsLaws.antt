@@ -5,11 +5,11 @@ use Rattle.std.proofs.lemmas.Bool.{and_parts, leb-true, ltb-true, true≢false}
 use Rattle.std.proofs.lemmas.List.{length-append, append-nil}
 use Rattle.std.proofs.lemmas.Option.{none-some, same_Some}
 use Rattle.jc_bytes.specs.ByteLists.{AreBytes}
-use Rattle.jc_bytes.specs.Descriptor.{FieldType, Byte, Char, Double, Float, Int, Long, Short, Boolean, Object, Array, field_text, return_text, MethodType, IsFieldDescriptor, IsMethodDescriptor}
+use Rattle.jc_bytes.specs.Descriptor.{FieldType, Object, Array, field_text, return_text, MethodType, IsFieldDescriptor, IsMethodDescriptor}
 use Rattle.jc_methods.specs.DescriptorTypes.{field_type_in, method_type_in}
 use Rattle.jc_methods.specs.EntryState.{held_of}
 use Rattle.jc_methods.specs.Flow.{is_return}
-use Rattle.jc_methods.specs.VerificationTypes.{VerificationType, top, int, float, double, long, null, uninit_this, object, uninit, TypeState, is_pair, slots}
+use Rattle.jc_methods.specs.VerificationTypes.{VerificationType, top, uninit_this, object, uninit, TypeState, is_pair, slots}
 use Rattle.jc_methods.specs.InsnUse.{pool_place, IsOneSlotConstant, IsTwoSlotConstant, IsMethod, IsCall, IsClass, IsMemberFor, Suits}
 use Rattle.jc_methods.specs.WellMade.{HasUse, what_used}
 use Rattle.jc_methods.specs.declared.body.Use.{Use}
@@ -184,25 +184,12 @@ element_text (a ∷ b ∷ rest) t = by (nat_eq b 76)
 
 element_named : (h : VerificationType) → IsNamed h → IsNamed (element_of h)
 element_named (object name) named = element_text name named
-element_named top named = tt
-element_named int named = tt
-element_named float named = tt
-element_named double named = tt
-element_named long named = tt
-element_named null named = tt
-element_named uninit_this named = tt
-element_named (uninit at) named = tt
+element_named h named = tt
 
 class_named : (g : Ground) (old : VerificationType) (name : List ℕ) → GroundNamed g → class_built g old ≡ Some name → IsText name
 class_named g (uninit at) name ground is = subst IsText (same_Some (g.class_at at) name is) (ground.class_at at)
 class_named g uninit_this name ground is = subst IsText (same_Some g.owner name is) ground.owner
-class_named g top name ground is = absurd (none-some name is)
-class_named g int name ground is = absurd (none-some name is)
-class_named g float name ground is = absurd (none-some name is)
-class_named g double name ground is = absurd (none-some name is)
-class_named g long name ground is = absurd (none-some name is)
-class_named g null name ground is = absurd (none-some name is)
-class_named g (object n) name ground is = absurd (none-some name is)
+class_named g old name ground is = absurd (none-some name is)
 
 built_named : (most : ℕ) (old : VerificationType) (rest : List VerificationType) (given : List Gives) (o : Option (List ℕ)) (s t : TypeState)
     → ((name : List ℕ) → o ≡ Some name → IsText name)
@@ -263,15 +250,7 @@ named_row r = list_all named_form r.forms
 gives_fact : (g : Gives) → named_gives g ≡ true → GivesNamed g
 unfolding named_gives
 gives_fact (kind (object name)) e = absurd (true≢false (sym e))
-gives_fact (kind top) e = tt
-gives_fact (kind int) e = tt
-gives_fact (kind float) e = tt
-gives_fact (kind double) e = tt
-gives_fact (kind long) e = tt
-gives_fact (kind null) e = tt
-gives_fact (kind uninit_this) e = tt
-gives_fact (kind (uninit at)) e = tt
-gives_fact (item k) e = tt
+gives_fact g e = tt
 
 abbrev RowNamed : Row → Type 0
 RowNamed r = AllByRecursion FormNamed r.forms
@@ -296,16 +275,9 @@ forms_named op = find_named op table table_named
 -- ---- types of the language
 
 pub type_named : (type : FieldType) → IsText (field_text type) → IsNamed (held_of type)
-type_named Byte t = tt
-type_named Char t = tt
-type_named Double t = tt
-type_named Float t = tt
-type_named Int t = tt
-type_named Long t = tt
-type_named Short t = tt
-type_named Boolean t = tt
 type_named (Object name) t = text_front name (59 ∷ []) (text_rest 76 (name ++ 59 ∷ []) t)
 type_named (Array component) t = t
+type_named type t = tt
 
 pub types_named : (types : List FieldType) (rest : List ℕ) → IsText (flat_map field_text types ++ rest) → AllNamed (map held_of types)
 types_named [] rest t = tt
@@ -371,44 +343,15 @@ member_named op (whats.Field class name desc) t (inr is) = absurd is.1
 member_named op (whats.Method class name desc) t (inl is) = absurd is.1
 member_named op (whats.Method class name desc) t (inr is) =
     if_named (nat_le op opcode.putfield) _ _ tt (method_step_named op name (method_type_in desc) (method_named desc t is.1))
-member_named op (whats.Call name desc) t is = tt
-member_named op (whats.Class name) t is = tt
-member_named op (whats.Computed desc) t is = tt
-member_named op (whats.Int value) t is = tt
-member_named op (whats.Long value) t is = tt
-member_named op whats.Float t is = tt
-member_named op whats.Double t is = tt
-member_named op whats.Text t is = tt
-member_named op whats.MethodKind t is = tt
-member_named op whats.Handle t is = tt
+member_named op other t is = tt
 
 interface_named : (what : What) → UseNamed what → IsMethod what → StepNamed (interface_step (Some what))
 interface_named (whats.Method class name desc) t is = (form_named (method_type_in desc) (method_named desc t is), tt)
-interface_named (whats.Field class name desc) t is = absurd is
-interface_named (whats.Call name desc) t is = absurd is
-interface_named (whats.Class name) t is = absurd is
-interface_named (whats.Computed desc) t is = absurd is
-interface_named (whats.Int value) t is = absurd is
-interface_named (whats.Long value) t is = absurd is
-interface_named whats.Float t is = absurd is
-interface_named whats.Double t is = absurd is
-interface_named whats.Text t is = absurd is
-interface_named whats.MethodKind t is = absurd is
-interface_named whats.Handle t is = absurd is
+interface_named other t is = absurd is
 
 dynamic_named : (what : What) → UseNamed what → IsCall what → StepNamed (dynamic_step (Some what))
 dynamic_named (whats.Call name desc) t is = (form_named (method_type_in desc) (method_named desc t is), tt)
-dynamic_named (whats.Method class name desc) t is = absurd is
-dynamic_named (whats.Field class name desc) t is = absurd is
-dynamic_named (whats.Class name) t is = absurd is
-dynamic_named (whats.Computed desc) t is = absurd is
-dynamic_named (whats.Int value) t is = absurd is
-dynamic_named (whats.Long value) t is = absurd is
-dynamic_named whats.Float t is = absurd is
-dynamic_named whats.Double t is = absurd is
-dynamic_named whats.Text t is = absurd is
-dynamic_named whats.MethodKind t is = absurd is
-dynamic_named whats.Handle t is = absurd is
+dynamic_named other t is = absurd is
 
 computed_named : (desc : List ℕ) → IsText desc → IsFieldDescriptor desc → StepNamed (computed_step (field_type_in desc))
 computed_named desc t is =
@@ -429,9 +372,7 @@ constant_named (whats.Class name) t is = ((record { short = omega arith; are = b
 constant_named whats.MethodKind t is = ((record { short = omega arith; are = bytes_by (codes "java/lang/invoke/MethodType") refl }, tt), tt)
 constant_named whats.Handle t is = ((record { short = omega arith; are = bytes_by (codes "java/lang/invoke/MethodHandle") refl }, tt), tt)
 constant_named (whats.Computed desc) t is = computed_named desc t is
-constant_named (whats.Field class name desc) t is = tt
-constant_named (whats.Method class name desc) t is = tt
-constant_named (whats.Call name desc) t is = tt
+constant_named other t is = tt
 
 one_slot_described : (what : What) → IsOneSlotConstant what → IsDescribed what
 one_slot_described (whats.Computed desc) is = is.0
@@ -460,31 +401,11 @@ class_step_named : (op : ℕ) (what : What) → UseNamed what → IsClass what �
 class_step_named op (whats.Class name) t is =
     if_named (nat_eq op opcode.new) _ _ tt
     (if_named (nat_eq op opcode.anewarray) _ _ (array_named name t) (if_named (nat_eq op opcode.checkcast) _ _ ((t, tt), tt) ((tt, tt), tt)))
-class_step_named op (whats.Field class name desc) t is = absurd is
-class_step_named op (whats.Method class name desc) t is = absurd is
-class_step_named op (whats.Call name desc) t is = absurd is
-class_step_named op (whats.Computed desc) t is = absurd is
-class_step_named op (whats.Int value) t is = absurd is
-class_step_named op (whats.Long value) t is = absurd is
-class_step_named op whats.Float t is = absurd is
-class_step_named op whats.Double t is = absurd is
-class_step_named op whats.Text t is = absurd is
-class_step_named op whats.MethodKind t is = absurd is
-class_step_named op whats.Handle t is = absurd is
+class_step_named op other t is = absurd is
 
 multi_named : (what : What) (dims : ℕ) → UseNamed what → IsClass what → StepNamed (multi_step (Some what) dims)
 multi_named (whats.Class name) dims t is = ((t, tt), tt)
-multi_named (whats.Field class name desc) dims t is = absurd is
-multi_named (whats.Method class name desc) dims t is = absurd is
-multi_named (whats.Call name desc) dims t is = absurd is
-multi_named (whats.Computed desc) dims t is = absurd is
-multi_named (whats.Int value) dims t is = absurd is
-multi_named (whats.Long value) dims t is = absurd is
-multi_named whats.Float dims t is = absurd is
-multi_named whats.Double dims t is = absurd is
-multi_named whats.Text dims t is = absurd is
-multi_named whats.MethodKind dims t is = absurd is
-multi_named whats.Handle dims t is = absurd is
+multi_named other dims t is = absurd is
 
 letter_byte : (elem : ℕ) → element_letter elem < 256
 letter_byte elem = by (nat_eq elem 4) (nat_eq elem 5) (nat_eq elem 6) (nat_eq elem 7) (nat_eq elem 8) (nat_eq elem 9) (nat_eq elem 10)

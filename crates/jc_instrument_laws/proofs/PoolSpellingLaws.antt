@@ -7,7 +7,7 @@ use Rattle.std.proofs.lemmas.Option.{none-some}
 use Rattle.jc_bytes.specs.ByteLists.{AreBytes}
 use Rattle.jc_bytes.specs.Texts.{IsShortText}
 use Rattle.jc_pool.specs.Adding.{IsPut, HasUtf8, HasLong, HasSignature, HasMember, entry_of_member}
-use Rattle.jc_pool.specs.EntryFormat.{IsSigned}
+use Rattle.jc_pool.specs.EntryFormat.{IsSigned, ArePlaces, IsInfo, tag_of}
 use Rattle.jc_pool.specs.Index.{entry_naming, HasNaming}
 use Rattle.jc_pool.specs.Lookup.{class_name_of, signature_of, Signature, signature, Member}
 use Rattle.jc_pool.specs.Pool.{PoolValue, is_wide, IsSmall, IsPool, slots_of}
@@ -71,19 +71,23 @@ naming_slot naming.String at fits =
     let n = short_number at fits in
     record { text = 8 ∷ n.text; spells = record { info = n.text; parts = refl; spells = n.spells }; are = (omega arith, n.are) }
 
-signature_slot : (name desc : ℕ) → name < 65536 → desc < 65536 → IsSpelledSlot (Some (entry.NameAndType name desc))
-signature_slot name desc a b =
-    let m = short_number name a in
-    let n = short_number desc b in
+-- an entry that names two places
+places_slot : (e : Entry) (a b : ℕ) → tag_of e < 256 → ((bytes : List ℕ) → ArePlaces bytes a b → IsInfo bytes e) → a < 65536 → b < 65536 → IsSpelledSlot (Some e)
+places_slot e a b byte spelled low high =
+    let m = short_number a low in
+    let n = short_number b high in
     record {
-      text = 12 ∷ (m.text ++ n.text);
+      text = tag_of e ∷ (m.text ++ n.text);
       spells = record {
         info = m.text ++ n.text;
         parts = refl;
-        spells = record { front = m.text; back = n.text; parts = refl; left = m.spells; right = n.spells };
+        spells = spelled (m.text ++ n.text) (record { front = m.text; back = n.text; parts = refl; left = m.spells; right = n.spells });
       };
-      are = (omega arith, bytes_both m.text n.text m.are n.are);
+      are = (byte, bytes_both m.text n.text m.are n.are);
     }
+
+signature_slot : (name desc : ℕ) → name < 65536 → desc < 65536 → IsSpelledSlot (Some (entry.NameAndType name desc))
+signature_slot name desc a b = places_slot (entry.NameAndType name desc) name desc (omega arith) (λ bytes are. are) a b
 
 member_small : (tag class rest : ℕ) → IsSmall (entry_of_member tag class rest)
 member_small tag class rest = by (tag == 9) (tag == 10)
@@ -100,42 +104,9 @@ member_slot tag class rest a b = by (tag == 9) (tag == 10)
     by : (field_tag method_tag : Bool)
         → IsSpelledSlot (Some
         (if field_tag then entry.Fieldref class rest else if method_tag then entry.Methodref class rest else entry.InterfaceMethodref class rest))
-    by true method_tag =
-        let m = short_number class a in
-        let n = short_number rest b in
-        record {
-          text = 9 ∷ (m.text ++ n.text);
-          spells = record {
-            info = m.text ++ n.text;
-            parts = refl;
-            spells = record { front = m.text; back = n.text; parts = refl; left = m.spells; right = n.spells };
-          };
-          are = (omega arith, bytes_both m.text n.text m.are n.are);
-        }
-    by false true =
-        let m = short_number class a in
-        let n = short_number rest b in
-        record {
-          text = 10 ∷ (m.text ++ n.text);
-          spells = record {
-            info = m.text ++ n.text;
-            parts = refl;
-            spells = record { front = m.text; back = n.text; parts = refl; left = m.spells; right = n.spells };
-          };
-          are = (omega arith, bytes_both m.text n.text m.are n.are);
-        }
-    by false false =
-        let m = short_number class a in
-        let n = short_number rest b in
-        record {
-          text = 11 ∷ (m.text ++ n.text);
-          spells = record {
-            info = m.text ++ n.text;
-            parts = refl;
-            spells = record { front = m.text; back = n.text; parts = refl; left = m.spells; right = n.spells };
-          };
-          are = (omega arith, bytes_both m.text n.text m.are n.are);
-        }
+    by true method_tag = places_slot (entry.Fieldref class rest) class rest (omega arith) (λ bytes are. are) a b
+    by false true = places_slot (entry.Methodref class rest) class rest (omega arith) (λ bytes are. are) a b
+    by false false = places_slot (entry.InterfaceMethodref class rest) class rest (omega arith) (λ bytes are. are) a b
 
 -- ---- one entry more
 

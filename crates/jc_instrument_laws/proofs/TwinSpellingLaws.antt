@@ -88,13 +88,7 @@ use_named (whats.Method class name desc) short are = record { short = short.2; a
 use_named (whats.Call name desc) short are = record { short = short.1; are = are }
 use_named (whats.Class name) short are = record { short = short; are = are }
 use_named (whats.Computed desc) short are = record { short = short; are = are }
-use_named (whats.Int value) short are = tt
-use_named (whats.Long value) short are = tt
-use_named whats.Float short are = tt
-use_named whats.Double short are = tt
-use_named whats.Text short are = tt
-use_named whats.MethodKind short are = tt
-use_named whats.Handle short are = tt
+use_named what short are = tt
 
 short_used : (uses : List Use) → AllByRecursion (λ u. HasShortTexts u.what) uses → (place : ℕ) (what : What) → what_used uses place ≡ Some what
     → HasShortTexts what

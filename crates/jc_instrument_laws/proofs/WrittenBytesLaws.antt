@@ -6,7 +6,7 @@ use Rattle.std.specs.List.{flat_map, AllByRecursion}
 use Rattle.std.proofs.lemmas.Bool.{leb-true}
 use Rattle.jc_bytes.specs.ByteLists.{AreBytes}
 use Rattle.jc_bytes.specs.BigNumbers.{short, word}
-use Rattle.jc_methods.specs.VerificationTypes.{Names, VerificationType, top, int, float, double, long, null, uninit_this, object, uninit, TypeStateAt}
+use Rattle.jc_methods.specs.VerificationTypes.{Names, VerificationType, object, uninit, TypeStateAt}
 use Rattle.jc_methods.specs.InsnForm.{form_of}
 use Rattle.jc_methods.specs.Opcode as opcode
 use Rattle.jc_methods.specs.declared.body.Handler.{Handler}
@@ -79,15 +79,9 @@ frame_short_are x = big_bytes_are 2 x
 
 module _ (p : full.Places) where
   type_are : (h : VerificationType) → AreBytes (full.type_text p h)
-  type_are top = (omega arith, tt)
-  type_are int = (omega arith, tt)
-  type_are float = (omega arith, tt)
-  type_are double = (omega arith, tt)
-  type_are long = (omega arith, tt)
-  type_are null = (omega arith, tt)
-  type_are uninit_this = (omega arith, tt)
   type_are (object name) = (omega arith, frame_short_are (p.class name))
   type_are (uninit at) = (omega arith, frame_short_are (p.start at))
+  type_are h = (omega arith, tt)
 
   types_are : (hs : List VerificationType) → AreBytes (full.types_text p hs)
   types_are hs = bytes_both (short (length hs)) _ (frame_short_are (length hs)) (flat_are (full.type_text p) type_are hs)

@@ -6,7 +6,7 @@ use Rattle.std.proofs.lemmas.Bool.{cases_lt}
 use Rattle.std.proofs.lemmas.Option.{none-some, same_Some}
 use Rattle.std.proofs.lemmas.List.Concat.{flat_map-cons}
 use Rattle.jc_bytes.specs.Decoder.{◌>>=◌}
-use Rattle.jc_bytes.specs.Descriptor.{FieldType, Byte, Char, Double, Float, Int, Long, Short, Boolean, Object, Array, field_text}
+use Rattle.jc_bytes.specs.Descriptor.{FieldType, Byte, Char, Int, Long, Short, Boolean, field_text}
 use Rattle.jc_bytes.proofs.BooleanLaws.{first_in, later_in, which_in, none_in}
 use Rattle.jc_methods.specs.DescriptorTypes.{field_type_in}
 use Rattle.jc_methods.proofs.DescriptorTypesLaws.{field_again}
@@ -53,44 +53,22 @@ named_number number c (Some x) none some = some
 int_by_entry : (pool : PoolValue) (o : Option Entry) → int_in (o >>= const_in pool) ≡ int_of o
 unfolding int_of
 int_by_entry pool None = refl
-int_by_entry pool (Some (entry.Integer value)) = refl
-int_by_entry pool (Some (entry.Utf8 text)) = refl
-int_by_entry pool (Some (entry.Float bits)) = refl
-int_by_entry pool (Some (entry.Long value)) = refl
-int_by_entry pool (Some (entry.Double bits)) = refl
 int_by_entry pool (Some (entry.Class name)) = named_number int_in constants.Class (utf8_of pool name) refl refl
 int_by_entry pool (Some (entry.String text)) = named_number int_in constants.Text (utf8_of pool text) refl refl
-int_by_entry pool (Some (entry.Fieldref class rest)) = refl
-int_by_entry pool (Some (entry.Methodref class rest)) = refl
-int_by_entry pool (Some (entry.InterfaceMethodref class rest)) = refl
-int_by_entry pool (Some (entry.NameAndType name desc)) = refl
 int_by_entry pool (Some (entry.MethodHandle kind reference)) = named_number int_in constants.Handle (reference_of pool reference) refl refl
 int_by_entry pool (Some (entry.MethodType desc)) = named_number int_in constants.MethodKind (utf8_of pool desc) refl refl
 int_by_entry pool (Some (entry.Dynamic bootstrap rest)) = named_number int_in constants.Computed (signature_of pool rest) refl refl
-int_by_entry pool (Some (entry.InvokeDynamic bootstrap rest)) = refl
-int_by_entry pool (Some (entry.Module name)) = refl
-int_by_entry pool (Some (entry.Package name)) = refl
+int_by_entry pool (Some other) = refl
 
 long_by_entry : (pool : PoolValue) (o : Option Entry) → long_in (o >>= const_in pool) ≡ long_of o
 unfolding long_of
 long_by_entry pool None = refl
-long_by_entry pool (Some (entry.Integer value)) = refl
-long_by_entry pool (Some (entry.Utf8 text)) = refl
-long_by_entry pool (Some (entry.Float bits)) = refl
-long_by_entry pool (Some (entry.Long value)) = refl
-long_by_entry pool (Some (entry.Double bits)) = refl
 long_by_entry pool (Some (entry.Class name)) = named_number long_in constants.Class (utf8_of pool name) refl refl
 long_by_entry pool (Some (entry.String text)) = named_number long_in constants.Text (utf8_of pool text) refl refl
-long_by_entry pool (Some (entry.Fieldref class rest)) = refl
-long_by_entry pool (Some (entry.Methodref class rest)) = refl
-long_by_entry pool (Some (entry.InterfaceMethodref class rest)) = refl
-long_by_entry pool (Some (entry.NameAndType name desc)) = refl
 long_by_entry pool (Some (entry.MethodHandle kind reference)) = named_number long_in constants.Handle (reference_of pool reference) refl refl
 long_by_entry pool (Some (entry.MethodType desc)) = named_number long_in constants.MethodKind (utf8_of pool desc) refl refl
 long_by_entry pool (Some (entry.Dynamic bootstrap rest)) = named_number long_in constants.Computed (signature_of pool rest) refl refl
-long_by_entry pool (Some (entry.InvokeDynamic bootstrap rest)) = refl
-long_by_entry pool (Some (entry.Module name)) = refl
-long_by_entry pool (Some (entry.Package name)) = refl
+long_by_entry pool (Some other) = refl
 
 -- no Integer is put behind the old places
 abbrev pub NoNewInteger : PoolValue → PoolValue → Type 0
@@ -128,17 +106,12 @@ module _ (old new : PoolValue) (more : Extends old new) (fresh : NoNewInteger ol
   number_same Char place within = ap (narrowed Char) (int_same place)
   number_same Int place within = int_same place
   number_same Long place within = long_same place (within refl)
-  number_same Float place within = refl
-  number_same Double place within = refl
-  number_same (Object name) place within = refl
-  number_same (Array component) place within = refl
+  number_same other place within = refl
 
   first_same : (type : Option FieldType) (o : Option ℕ) → ((place : ℕ) → type ≡ Some Long → o ≡ Some place → place < length old)
       → first_by new type o ≡ first_by old type o
   first_same (Some type) (Some place) within = number_same type place (λ long. within place (ap Some long) refl)
-  first_same (Some type) None within = refl
-  first_same None (Some place) within = refl
-  first_same None None within = refl
+  first_same x y within = refl
 
   -- ---- attributes
 
@@ -184,9 +157,7 @@ module _ (old new : PoolValue) (more : Extends old new) (fresh : NoNewInteger ol
         ap (λ (z : ℤ). record { name = name; desc = desc; first = z } ∷ [])
         (ap (first_by new (field_type_in desc)) (constant_same field.attributes is.attributes.each)
         ∙ first_same (field_type_in desc) (constant_place old field.attributes) (λ place long at. names (long_desc desc stands long) place at))
-    with_same names (Some name) None stands = refl
-    with_same names None (Some desc) stands = refl
-    with_same names None None stands = refl
+    with_same names x y stands = refl
 
     pub static_same : (is_static field.flags ≡ true → utf8_of old field.desc ≡ Some (codes "J") → NamesPlace old field) → static_of new field ≡ static_of old field
     static_same names = by (is_static field.flags) refl
@@ -248,9 +219,7 @@ static_name pool field f (Some name) (Some desc) listed = by (which_in _ [] f li
     by : (record { name = name; desc = desc; first = first_number pool desc field.attributes } ≡ f) ⊎ Contains [] f → Some name ≡ Some f.name
     by (inl same) = ap (λ (s : StaticField). Some s.name) same
     by (inr none) = absurd (none_in f none)
-static_name pool field f (Some name) None listed = absurd (none_in f listed)
-static_name pool field f None (Some desc) listed = absurd (none_in f listed)
-static_name pool field f None None listed = absurd (none_in f listed)
+static_name pool field f x y listed = absurd (none_in f listed)
 
 -- ---- a pool that has grown by what a twin class needs
 

@@ -67,12 +67,7 @@ module _ (b : Body) (fs gs : List FrameAt) (first : ℕ) where
     place_by_same (ways.Falls to) flow i = refl
     place_by_same ways.Exits flow i = refl
     place_by_same (ways.Switches to) flow i = ap (λ (f : ℕ → ℕ). f to) (arm_same i)
-    place_by_same (ways.Jumps to) flows.Jumps i = refl
-    place_by_same (ways.Jumps to) flows.GoesOn i = refl
-    place_by_same (ways.Jumps to) flows.Branches i = refl
-    place_by_same (ways.Jumps to) flows.Switches i = refl
-    place_by_same (ways.Jumps to) flows.Returns i = refl
-    place_by_same (ways.Jumps to) flows.Throws i = refl
+    place_by_same x y i = refl
 
     place_same : (x : Branch) → probe_place one first wide code m image land lead x ≡ probe_place other first wide code m image land lead x
     place_same x = place_by_same x.way (flow_of (insn_at b.code x.at)) x.at

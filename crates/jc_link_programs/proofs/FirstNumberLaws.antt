@@ -6,7 +6,7 @@ use Rattle.std.proofs.lemmas.Bool.{le-leb, ne_eqb}
 use Rattle.std.proofs.lemmas.Grind.{flat_map-append}
 use Rattle.std.proofs.lemmas.List.{append-nil, map-append}
 use Rattle.std.proofs.lemmas.List.Concat.{flat_map-cons}
-use Rattle.jc_bytes.specs.Descriptor.{FieldType, Byte, Char, Double, Float, Int, Long, Short, Boolean, Object, Array}
+use Rattle.jc_bytes.specs.Descriptor.{FieldType, Byte, Char, Int, Long, Short, Boolean}
 use Rattle.jc_methods.specs.DescriptorTypes.{field_type_in}
 use Rattle.jc_methods.specs.EntryState.{is_static}
 use Rattle.jc_methods.specs.ValueTypes.{type_of, Says}
@@ -83,10 +83,7 @@ number_fits pool Short place i l = short_fits (int_at pool place) (fits_int (int
 number_fits pool Char place i l = char_fits (int_at pool place) (fits_int (int_at pool place) i)
 number_fits pool Int place i l = between_31 (int_at pool place) (fits_int (int_at pool place) i)
 number_fits pool Long place i l = between_63 (long_at pool place) (fits_long (long_at pool place) l)
-number_fits pool Float place i l = refl
-number_fits pool Double place i l = refl
-number_fits pool (Object name) place i l = refl
-number_fits pool (Array component) place i l = refl
+number_fits pool other place i l = refl
 
 -- ---- by the value that says the type
 

@@ -1,5 +1,5 @@
 -- Entries that are put behind the others.
-use Rattle.std.proofs.Common.{◌≡◌, inl, inr, ℕ, ◌+◌, ◌<◌, ◌≤◌, List, [], ◌∷◌, ◌++◌, length, take, IfOk, IsTrue, OnErr, Option, Some, None, Result, Ok, Err, refl, sym, ◌∙◌, ap, subst, arith, append_assoc}
+use Rattle.std.proofs.Common.{◌≡◌, inl, inr, ℕ, ℤ, ◌+◌, ◌<◌, ◌≤◌, List, [], ◌∷◌, ◌++◌, length, take, IfOk, IsTrue, OnErr, Option, Some, None, Result, Ok, Err, refl, sym, ◌∙◌, ap, subst, arith, append_assoc}
 use Rattle.std.proofs.Math.Seq.{take-append_seam}
 use Rattle.std.proofs.lemmas.List.{append-nil}
 use Rattle.std.proofs.lemmas.Option.{none-some, same_Some}
@@ -19,6 +19,7 @@ use Rattle.jc_pool.specs.Lookup.{utf8_in, utf8_of, Signature, signature_of, Memb
 use Rattle.jc_pool.specs.Adding.{IsNowhere, IsPut, IsPutAs, Adds, HasUtf8, PutsNaming, HasClass, PutsSignature, HasSignature, PutsMember, HasMember, entry_of_member, RefusesFull, Extends}
 use Rattle.jc_pool.specs.Index.{IsFirstBelow, Notes, NotesEntry, text_place, key_in, slot_key, key_place, entry_naming, naming_of, HasNaming, AreTables, AreMembersOf, IsIndexOf, NamesWithin, member_key_at, missing, CountsTo}
 use Rattle.jc_pool.proofs.FirstPlaceLaws.{is_nowhere}
+use Rattle.jc_pool.proofs.KeyPlaceLaws.{AreAsOne, ok_as_one, full_as_one}
 use Rattle.jc_pool.proofs.MemberTableLaws.{text_members, members_put}
 use Rattle.jc_pool.proofs.OneMoreEntryLaws.{grown_length, by_slots, utf8_past, texts_stay, texts_grow, text_standins, keys_grow, put_pool}
 
@@ -215,10 +216,34 @@ module _ {X : Type 0} (found : PoolValue → ℕ → Option X) (what : X) (old :
   adds_extends new place (inl there) = same_extends old new there.1
   adds_extends new place (inr put) = extends new place put.1
 
-  -- what a call that adds an entry leaves
-  pub added : (r : Result ℕ (Fail PoolFull)) (seen new : PoolValue) → old ≡ seen → IfOk r (Adds found what old Put new) → OnErr r (new ≡ old) → Extends seen new
-  added (Ok place) seen new same has kept = subst (λ (l : PoolValue). Extends l new) same (adds_extends new place has)
-  added (Err fail) seen new same has kept = subst (λ (l : PoolValue). Extends l new) same (same_extends old new kept)
+-- what a call says that was to add what is asked for, of the pool that was seen before it
+pub record IsAdded (Asked : PoolValue → ℕ → Type 0) (seen new : PoolValue) (r : Result ℕ (Fail PoolFull)) : Type 0 where
+  pub ok : IfOk r (Asked new)
+  pub full : RefusesFull Asked r
+  pub extends : Extends seen new
+
+pub added : (Asked : PoolValue → PoolValue → ℕ → Type 0) (old seen new : PoolValue) (r : Result ℕ (Fail PoolFull))
+    → ((place : ℕ) → Asked old new place → Extends old new) → old ≡ seen → IfOk r (Asked old new) → RefusesFull (Asked old) r → OnErr r (new ≡ old)
+    → IsAdded (Asked seen) seen new r
+added Asked old seen new r extends same ok full kept =
+    subst (λ (l : PoolValue). IsAdded (Asked l) l new r) same (record { ok = ok; full = full; extends = by r ok kept })
+  where
+    by : (r : Result ℕ (Fail PoolFull)) → IfOk r (Asked old new) → OnErr r (new ≡ old) → Extends old new
+    by (Ok place) has kept = extends place has
+    by (Err fail) has kept = same_extends old new kept
+
+-- a number is looked up by its key, whose number is the same
+pub number_added : (found : PoolValue → ℕ → Option ℤ) (make : ℤ → Entry) (keyed : PoolValue → ℕ → Option Key) (key : ℤ → Key) (old seen new : PoolValue)
+    (given value : ℤ) (r : Result ℕ (Fail PoolFull)) → given ≡ value → AreAsOne (found old) value (keyed old) (key value) → old ≡ seen
+    → IfOk r (Adds keyed (key given) old (IsPutAs old (make given)) new) → RefusesFull (Adds keyed (key given) old (IsPutAs old (make given))) r
+    → OnErr r (new ≡ old) → IsAdded (Adds found value seen (IsPutAs seen (make value))) seen new r
+number_added found make keyed key old seen new given value r same as_one view ok full kept =
+    let Asked : PoolValue → PoolValue → ℕ → Type 0 = λ l. Adds found value l (IsPutAs l (make value)) in
+    let Keyed : ℤ → PoolValue → ℕ → Type 0 = λ v. Adds keyed (key v) old (IsPutAs old (make v)) in
+    added Asked old seen new r
+    (λ place. adds_extends found value old (IsPutAs old (make value)) (λ l p put. put_extends old l (make value) p put) new place) view
+    (ok_as_one found value keyed (key value) old (IsPutAs old (make value)) as_one r new (subst (λ (v : ℤ). IfOk r (Keyed v new)) same ok))
+    (full_as_one found value keyed (key value) old (IsPutAs old (make value)) as_one r (subst (λ (v : ℤ). RefusesFull (Keyed v) r) same full)) kept
 
 pub utf8_extends : (old new : PoolValue) (text : List ℕ) (place : ℕ) → HasUtf8 old text new place → Extends old new
 utf8_extends old new text place has = adds_extends utf8_of text old (IsPutAs old (entry.Utf8 text)) (λ l p put. put_extends old l (entry.Utf8 text) p put) new place has

@@ -54,11 +54,7 @@ module _ (b : Body) where
       by : (o : Option Flow) → flow_at b.code i ≡ o → Contains (thrown_by o i) y → (exit i ≡ y) × (o ≡ Some flows.Throws)
       by None e c = absurd (none_in y c)
       by (Some flows.Throws) e c = (contains_one (exit i) y c, refl)
-      by (Some flows.GoesOn) e c = absurd (none_in y c)
-      by (Some flows.Branches) e c = absurd (none_in y c)
-      by (Some flows.Jumps) e c = absurd (none_in y c)
-      by (Some flows.Switches) e c = absurd (none_in y c)
-      by (Some flows.Returns) e c = absurd (none_in y c)
+      by other e c = absurd (none_in y c)
 
   -- ---- edges and instructions of a walk
 
@@ -101,9 +97,7 @@ module _ (b : Body) where
       by_flow insn flows.Jumps c = begins_at insn i y c
       by_flow insn flows.Returns c = begins_at insn i y c
       by_flow insn flows.Throws c = begins_at insn i y c
-      by_flow insn flows.GoesOn c = absurd (none_in y c)
-      by_flow insn flows.Branches c = absurd (none_in y c)
-      by_flow insn flows.Switches c = absurd (none_in y c)
+      by_flow insn other c = absurd (none_in y c)
 
       by : (o : Option Insn) → Contains (lone_of i o) y → i ≡ y.at
       by None c = absurd (none_in y c)

@@ -54,15 +54,7 @@ each_first P no_way way r (t ∷ threads) (m ∷ entries) = (by (class_at r m.cl
 
 number_other : (type : FieldType) (n : ℤ) → IsOther (number_value type n)
 number_other Long n = tt
-number_other Byte n = tt
-number_other Char n = tt
-number_other Double n = tt
-number_other Float n = tt
-number_other Int n = tt
-number_other Short n = tt
-number_other Boolean n = tt
-number_other (Object name) n = tt
-number_other (Array component) n = tt
+number_other other n = tt
 
 first_other : (o : Option FieldType) (n : ℤ) → IsOther (first_of o n)
 first_other None n = tt
@@ -132,12 +124,7 @@ module _ (p p' : Program) (sides : Entry → Side) where
       (refl, ap (λ n. place_hit p' sides early_of n q') h.same ∙ ap (item_hit early_of m.class) h.here ∙ ap (option_map (hit_of m.class)) s.1)
   thread_calm x (returned v) h b = (refl, refl)
   thread_calm x (threw c) h b = (refl, refl)
-  thread_calm (returned v) (running f' fs') h b = absurd h
-  thread_calm (threw c) (running f' fs') h b = absurd h
-  thread_calm (stuck m q) (running f' fs') h b = absurd h
-  thread_calm (running f fs) (stuck m' q') h b = absurd h
-  thread_calm (returned v) (stuck m' q') h b = absurd h
-  thread_calm (threw c) (stuck m' q') h b = absurd h
+  thread_calm x y h b = absurd h
 
   calm_there : (xs xs' : List Thread) → SameThreads p p' sides xs xs' → AllByRecursion Begins xs' → (t : ℕ) (x : Thread) → slice_get xs' t ≡ Some x
       → IsCalm p p' sides x

@@ -182,9 +182,7 @@ module _ (p : Program) (no_init : HasNoInit p) (Took : ProgramEdge → Type 0) w
   thread_edge_came : (s : Shared) (x : Thread) → InStatics IsOther s.statics → IsGood p x → ThreadCame x → (e : ProgramEdge)
       → Contains (thread_edges p s (Some x)) e → EdgeCame e
   thread_edge_came s (running f fs) h g c e i = frames_came s f fs h g.0 g.1 c (located p f.method f.place) refl e i
-  thread_edge_came s (returned v) h g c e i = absurd (none_in e i)
-  thread_edge_came s (threw x) h g c e i = absurd (none_in e i)
-  thread_edge_came s (stuck m q) h g c e i = absurd (none_in e i)
+  thread_edge_came s other h g c e i = absurd (none_in e i)
 
   turn_edge_came : (w : World) (t : ℕ) → IsGoodWorld p w → WorldCame w → (e : ProgramEdge) → Contains (turn_edges p w t) e → EdgeCame e
   turn_edge_came w t g c e i = by (slice_get w.threads t) refl i
@@ -223,9 +221,7 @@ module _ (p : Program) (no_init : HasNoInit p) (Took : ProgramEdge → Type 0) w
       by_flow i l flows.Jumps c = by_branch i l (chosen q i.insn one_way) refl c
       by_flow i l flows.Returns c = by_branch i l (chosen q i.insn one_way) refl c
       by_flow i l flows.Throws c = by_branch i l (chosen q i.insn one_way) refl c
-      by_flow i l flows.GoesOn c = absurd (none_in e c)
-      by_flow i l flows.Branches c = absurd (none_in e c)
-      by_flow i l flows.Switches c = absurd (none_in e c)
+      by_flow i l other c = absurd (none_in e c)
 
       by : (o : Option LocatedInsn) → located p m q ≡ o → Contains (edge_stood m q o) e → IsEdgeAt p (frame_at m q) e
       by None l c = absurd (none_in e c)

@@ -21,7 +21,7 @@ use Rattle.jc_plan.specs.Edges.{jump, exit}
 use Rattle.jc_plan.specs.Probed.{first_id, probe_of}
 use Rattle.jc_plan.specs.Chosen.{one_way, chosen_by}
 use Rattle.jc_plan.specs.ClassEdges.{ProgramEdge}
-use Rattle.jc_emit.specs.Items.{Item, init_call, init_store, image, probe_array, probe_id, probe_one, probe_store, hop, at_of}
+use Rattle.jc_emit.specs.Items.{Item, image, at_of}
 use Rattle.jc_emit.specs.Local.{early_of}
 use Rattle.jc_emit.specs.Marks.{Marks}
 use Rattle.jc_emit.specs.Sizes.{insn_at, early_by}
@@ -100,9 +100,7 @@ module _ (p p' : Program) (sides : Entry → Side) (marks : Entry → Marks) (ar
         subst (λ o. Contains (edges_of m o) (edge_of m x)) (sym (ap (λ w. chosen_by w i insn one_way) e)) (first_in (edge_of m x) []),
         ap (option_map (hit_of m.class)) h,
       )
-  early_edge m i id insn flows.GoesOn e h = absurd (none-some id h)
-  early_edge m i id insn flows.Branches e h = absurd (none-some id h)
-  early_edge m i id insn flows.Switches e h = absurd (none-some id h)
+  early_edge m i id insn other e h = absurd (none-some id h)
 
   abbrev IsStoodAt : Entry → ℕ → Hit → Type 0
   IsStoodAt m q h = (e : ProgramEdge) × Contains (edge_stood m q (located p m q)) e × (probe_in p' sides e ≡ Some h)
@@ -119,14 +117,7 @@ module _ (p p' : Program) (sides : Entry → Side) (marks : Entry → Marks) (ar
         subst (λ n. Contains (edge_stood m n (located p m n)) s.0) e (subst (λ o. Contains (edge_stood m at o) s.0) (sym there) s.1),
         s.2 ∙ k,
       )
-  item_stood m side q q' (image new at None) here e h k = absurd (none-some h k)
-  item_stood m side q q' init_call here e h k = absurd (none-some h k)
-  item_stood m side q q' init_store here e h k = absurd (none-some h k)
-  item_stood m side q q' (probe_array id at late) here e h k = absurd (none-some h k)
-  item_stood m side q q' (probe_id id at late) here e h k = absurd (none-some h k)
-  item_stood m side q q' (probe_one id at late) here e h k = absurd (none-some h k)
-  item_stood m side q q' (probe_store id at late) here e h k = absurd (none-some h k)
-  item_stood m side q q' (hop to at due) here e h k = absurd (none-some h k)
+  item_stood m side q q' other here e h k = absurd (none-some h k)
 
   abbrev IsStood : Thread → Hit → Type 0
   IsStood x h = (e : ProgramEdge) × Contains (edges_stood p x) e × (probe_in p' sides e ≡ Some h)
@@ -141,12 +132,7 @@ module _ (p p' : Program) (sides : Entry → Side) (marks : Entry → Marks) (ar
       (sym (ap (λ z. place_hit p' sides early_of z q') s.same ∙ ap (item_hit early_of n.class) s.here) ∙ k)
   thread_stood w w' m x (returned v) s h k = absurd (none-some h k)
   thread_stood w w' m x (threw c) s h k = absurd (none-some h k)
-  thread_stood w w' m (returned v) (running f' fs') s h k = absurd s
-  thread_stood w w' m (threw c) (running f' fs') s h k = absurd s
-  thread_stood w w' m (stuck n q) (running f' fs') s h k = absurd s
-  thread_stood w w' m (running f fs) (stuck n' q') s h k = absurd s
-  thread_stood w w' m (returned v) (stuck n' q') s h k = absurd s
-  thread_stood w w' m (threw c) (stuck n' q') s h k = absurd s
+  thread_stood w w' m x y s h k = absurd s
 
   world_stood : (w w' : World) → Mid p p' sides w w' → (h : Hit) → IsIn (early_in p' sides) w'.threads h
       → (e : ProgramEdge) × Contains (flat_map (edges_stood p) w.threads) e × (probe_in p' sides e ≡ Some h)
@@ -167,24 +153,18 @@ module _ (p p' : Program) (sides : Entry → Side) (marks : Entry → Marks) (ar
 
   no_due : (x : Thread) → HasReturned x → due_in p' sides x ≡ None
   no_due (returned v) r = refl
-  no_due (running f fs) r = absurd r
-  no_due (threw c) r = absurd r
-  no_due (stuck m q) r = absurd r
+  no_due other r = absurd r
 
   no_early : (x : Thread) → HasReturned x → early_in p' sides x ≡ None
   no_early (returned v) r = refl
-  no_early (running f fs) r = absurd r
-  no_early (threw c) r = absurd r
-  no_early (stuck m q) r = absurd r
+  no_early other r = absurd r
 
   one_returned : (x x' : Thread) → SameThread p p' sides x x' → HasReturned x' → HasReturned x
   one_returned (returned v) (returned v') s r = tt
   one_returned (running f fs) (returned v') s r = s
   one_returned (threw c) (returned v') s r = s
   one_returned (stuck m q) (returned v') s r = s
-  one_returned x (running f' fs') s r = absurd r
-  one_returned x (threw c) s r = absurd r
-  one_returned x (stuck m q) s r = absurd r
+  one_returned x other s r = absurd r
 
   all_returned : (xs xs' : List Thread) → SameThreads p p' sides xs xs' → HaveReturned xs' → HaveReturned xs
   all_returned [] [] s r = tt

@@ -103,9 +103,7 @@ module _ (p : Program) where
       by_flow i l flows.Jumps f c = by_branch i l (inl f) (chosen q i.insn one_way) refl c
       by_flow i l flows.Returns f c = by_branch i l (inr (inl f)) (chosen q i.insn one_way) refl c
       by_flow i l flows.Throws f c = by_branch i l (inr (inr f)) (chosen q i.insn one_way) refl c
-      by_flow i l flows.GoesOn f c = absurd (none_in e c)
-      by_flow i l flows.Branches f c = absurd (none_in e c)
-      by_flow i l flows.Switches f c = absurd (none_in e c)
+      by_flow i l other f c = absurd (none_in e c)
 
       by : (o : Option LocatedInsn) → located p m q ≡ o → Contains (edge_stood m q o) e → IsLoneEdge p e
       by None l c = absurd (none_in e c)

@@ -7,7 +7,7 @@ use Rattle.jc_bytes.proofs.ListLaws.{all_at}
 use Rattle.jc_programs.specs.declared.program.Program.{Program}
 use Rattle.jc_programs.specs.declared.run_end.Entry.{Entry}
 use Rattle.jc_plan.specs.ClassEdges.{ProgramEdge}
-use Rattle.jc_emit.specs.Items.{Item, init_call, init_store, image, probe_array, probe_id, probe_one, probe_store, hop, at_of, own_of}
+use Rattle.jc_emit.specs.Items.{Item, image, at_of, own_of}
 use Rattle.jc_emit.specs.Local.{due_of, early_of}
 use Rattle.jc_emit.specs.Marks.{Marks}
 use Rattle.jc_machine_model.specs.World.{Frame, Thread, running, returned, threw, stuck, Shared, World}
@@ -60,13 +60,7 @@ module _ (p p' : Program) (sides : Entry → Side) (marks : Entry → Marks) (ar
         let a = after_result p' (result_of p' s' f') s' f' fs' in
         subst (λ y. Moves p' sides (due_in p' sides (running f' fs')) y a.hits (thread_edges p s (Some (running f fs))) (due_in p' sides a.thread) (early_in p' sides a.thread))
         (sym was) (owes_move p' sides _ _ a.hits _ _ _ none m.none_hit m.owes)
-    own_moved f f' fs fs' h w g init_call e own = absurd (true≢false (sym own))
-    own_moved f f' fs fs' h w g init_store e own = absurd (true≢false (sym own))
-    own_moved f f' fs fs' h w g (probe_array id at late) e own = absurd (true≢false (sym own))
-    own_moved f f' fs fs' h w g (probe_id id at late) e own = absurd (true≢false (sym own))
-    own_moved f f' fs fs' h w g (probe_one id at late) e own = absurd (true≢false (sym own))
-    own_moved f f' fs fs' h w g (probe_store id at late) e own = absurd (true≢false (sym own))
-    own_moved f f' fs fs' h w g (hop to at due) e own = absurd (true≢false (sym own))
+    own_moved f f' fs fs' h w g other e own = absurd (true≢false (sym own))
 
     aside_moved : (x x' : Thread) → SameThread p p' sides x x' → is_running x' ≡ true → keeps p' marks x' ≡ false → Moved false x x'
     aside_moved x x' h r k = passes_move p' sides _ _ _ _ _ (aside_thread p p' sides marks are told s s' ss x x' h r k).passes
@@ -90,9 +84,7 @@ module _ (p p' : Program) (sides : Entry → Side) (marks : Entry → Marks) (ar
     thread_moved x (returned v) h g true k = absurd (true≢false (sym k))
     thread_moved x (threw c) h g true k = absurd (true≢false (sym k))
     thread_moved x (stuck m q) h g true k = absurd (true≢false (sym k))
-    thread_moved (returned v) (running f' fs') h g b k = absurd h
-    thread_moved (threw c) (running f' fs') h g b k = absurd h
-    thread_moved (stuck m q) (running f' fs') h g b k = absurd h
+    thread_moved x y h g b k = absurd h
 
   -- ---- the world
 

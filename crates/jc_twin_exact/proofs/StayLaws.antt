@@ -189,9 +189,7 @@ module _ (p : Program) (no_init : HasNoInit p) where
   thread_stays : (s : Shared) (x : Thread) → InStatics IsOther s.statics → IsGood p x → (g : Frame) → Contains (frames_in x) g
       → Stays g (thread_edges p s (Some x)) (turn_of p s x)
   thread_stays s (running f fs) h k g c = running_stays s f fs h k.0 (located p f.method f.place) refl g c
-  thread_stays s (returned v) h k g c = absurd (none_in g c)
-  thread_stays s (threw d) h k g c = absurd (none_in g c)
-  thread_stays s (stuck m q) h k g c = absurd (none_in g c)
+  thread_stays s other h k g c = absurd (none_in g c)
 
   running_follows : (s : Shared) (f : Frame) (fs : List Frame) → InStatics IsOther s.statics → InFrame IsOther f → (o : Option LocatedInsn)
       → located p f.method f.place ≡ o → (e : ProgramEdge) → Contains (thread_edges p s (Some (running f fs))) e → Follows e (turn_of p s (running f fs))
@@ -201,9 +199,7 @@ module _ (p : Program) (no_init : HasNoInit p) where
   thread_follows : (s : Shared) (x : Thread) → InStatics IsOther s.statics → IsGood p x → (e : ProgramEdge) → Contains (thread_edges p s (Some x)) e
       → Follows e (turn_of p s x)
   thread_follows s (running f fs) h k e c = running_follows s f fs h k.0 (located p f.method f.place) refl e c
-  thread_follows s (returned v) h k e c = absurd (none_in e c)
-  thread_follows s (threw d) h k e c = absurd (none_in e c)
-  thread_follows s (stuck m q) h k e c = absurd (none_in e c)
+  thread_follows s other h k e c = absurd (none_in e c)
 
   -- ---- runs
 

@@ -23,7 +23,7 @@ use Rattle.jc_plan.specs.Chosen.{Outcome, one_way, condition, key, chosen_by, ch
 use Rattle.jc_plan.proofs.ChosenLaws.{chosen_listed, chosen_leads}
 use Rattle.jc_machine_model.specs.Values.{Value, probes}
 use Rattle.jc_machine_model.specs.World.{Frame, Shared}
-use Rattle.jc_machine_model.specs.Operations.{Operation, pushes, computes, loads, stores, counts, tests, jumps, indexes, matches, reads, writes, makes_array, measures, gets, puts, invokes, makes, builds, prints, fetches, returns, returns_nothing, throws_top, outside}
+use Rattle.jc_machine_model.specs.Operations.{Operation, tests, jumps, indexes, matches, invokes, returns, returns_nothing, throws_top, outside}
 use Rattle.jc_machine_model.specs.Results.{Result, goes, hits, calls, leaves, raises, throws, gets_stuck}
 use Rattle.jc_machine_model.specs.Jumps.{Tested, test_of}
 use Rattle.jc_machine_model.specs.Profile.{Location, init_of, operation_of}
@@ -94,22 +94,7 @@ plain_leads (returns c type) st i q h l = absurd h
 plain_leads returns_nothing st i q h l = absurd h
 plain_leads throws_top st i q h l = absurd h
 plain_leads outside st i q h l = absurd l
-plain_leads (pushes v) st i q h l = l
-plain_leads (computes op) st i q h l = l
-plain_leads (loads c k) st i q h l = l
-plain_leads (stores c k) st i q h l = l
-plain_leads (counts k by) st i q h l = l
-plain_leads (reads types) st i q h l = l
-plain_leads (writes types) st i q h l = l
-plain_leads (makes_array element) st i q h l = l
-plain_leads measures st i q h l = l
-plain_leads (gets at type) st i q h l = l
-plain_leads (puts at type) st i q h l = l
-plain_leads (invokes callee ps n) st i q h l = l
-plain_leads (makes c) st i q h l = l
-plain_leads (builds c) st i q h l = l
-plain_leads (prints k) st i q h l = l
-plain_leads (fetches class init) st i q h l = l
+plain_leads other st i q h l = l
 
 plain_stays : (op : Operation) → IsPlain op → IsReturn op → ⊥
 plain_stays (returns c type) h l = h

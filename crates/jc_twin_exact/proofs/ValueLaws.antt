@@ -2,10 +2,10 @@
 use Rattle.std.proofs.Common.{ℕ, zero, suc, ℤ, pos, ◌+◌, ◌-◌, Bool, true, false, ◌&&◌, List, [], ◌∷◌, ◌++◌, drop, length, replicate, Option, Some, None, nat_eq, nat_le, nat_lt, if◌then◌else◌, int_le, ◌-ℤ◌}
 use Rattle.std.specs.Prelude.{⊤, slice_get, slice_set, slice_index_or}
 use Rattle.std.specs.List.{AllByRecursion}
-use Rattle.jc_bytes.specs.Descriptor.{FieldType, Byte, Char, Double, Float, Int, Long, Short, Boolean, Object, Array}
+use Rattle.jc_bytes.specs.Descriptor.{FieldType, Long}
 use Rattle.jc_methods.specs.Opcode as opcode
 use Rattle.jc_programs.specs.declared.run_end.Thrown.TheVariants as thrown
-use Rattle.jc_machine_model.specs.Values.{Value, int, long, null, object, memory_error, print_stream, probes, text, is_pair, stored_as}
+use Rattle.jc_machine_model.specs.Values.{Value, int, long, null, object, memory_error, print_stream, text, is_pair, stored_as}
 use Rattle.jc_machine_model.specs.Effects.{Effect, Move, gives, unfit, when, int_for, long_for, constant, moves_of, moved, results_at, stand_categories, divided, int_bits, int_pair, long_pair, long_shift, int_single, long_single, single, pair, has_one_operand, effect}
 use Rattle.jc_machine_model.specs.Effects as effects
 use Rattle.jc_machine_model.specs.Locals.{is_pair_there, clear_before, put_local}
@@ -143,25 +143,11 @@ module _ (V : Value → Type 0) where
 
     pub element_holds : (type : FieldType) (x : ℤ) → V (element_value type x)
     element_holds Long x = hold.longs x
-    element_holds Byte x = hold.ints x
-    element_holds Char x = hold.ints x
-    element_holds Double x = hold.ints x
-    element_holds Float x = hold.ints x
-    element_holds Int x = hold.ints x
-    element_holds Short x = hold.ints x
-    element_holds Boolean x = hold.ints x
-    element_holds (Object name) x = hold.ints x
-    element_holds (Array component) x = hold.ints x
+    element_holds other x = hold.ints x
 
     pub stored_holds : (type : FieldType) (v : Value) → V v → V (stored_as type v)
     stored_holds type (int x) h = hold.ints _
-    stored_holds type (long x) h = h
-    stored_holds type null h = h
-    stored_holds type (object k) h = h
-    stored_holds type memory_error h = h
-    stored_holds type print_stream h = h
-    stored_holds type (probes class count) h = h
-    stored_holds type (text class) h = h
+    stored_holds type other h = h
 
     -- ---- effects
 

@@ -417,18 +417,7 @@ module _ (p p' : Program) (sides : Entry → Side) (marks : Entry → Marks) (ar
     thread_of heap heap' (returned v) (returned v') same has inside fits fits' = same
     thread_of heap heap' (threw c) (threw c') same has inside fits fits' = same
     thread_of heap heap' (stuck m q) (stuck m' q') same has inside fits fits' = stuck_of m q m' q' same inside
-    thread_of heap heap' (running f fs) (returned v) same has inside fits fits' = absurd same
-    thread_of heap heap' (running f fs) (threw c) same has inside fits fits' = absurd same
-    thread_of heap heap' (running f fs) (stuck m q) same has inside fits fits' = absurd same
-    thread_of heap heap' (returned v) (running f fs) same has inside fits fits' = absurd same
-    thread_of heap heap' (returned v) (threw c) same has inside fits fits' = absurd same
-    thread_of heap heap' (returned v) (stuck m q) same has inside fits fits' = absurd same
-    thread_of heap heap' (threw c) (running f fs) same has inside fits fits' = absurd same
-    thread_of heap heap' (threw c) (returned v) same has inside fits fits' = absurd same
-    thread_of heap heap' (threw c) (stuck m q) same has inside fits fits' = absurd same
-    thread_of heap heap' (stuck m q) (running f fs) same has inside fits fits' = absurd same
-    thread_of heap heap' (stuck m q) (returned v) same has inside fits fits' = absurd same
-    thread_of heap heap' (stuck m q) (threw c) same has inside fits fits' = absurd same
+    thread_of heap heap' x y same has inside fits fits' = absurd same
 
     threads_of : (heap heap' : List HeapObject) (xs xs' : List Thread) → spec.SameThreads p' marks xs xs' → AllByRecursion (HasState p' marks) xs'
         → AllByRecursion (IsStuckWithin p) xs → AllByRecursion (FitsThread p heap) xs → AllByRecursion (FitsThread p' heap') xs' → SameThreads p p' sides xs xs'

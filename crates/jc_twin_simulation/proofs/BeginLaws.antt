@@ -6,7 +6,7 @@ use Rattle.std.proofs.lemmas.Bool.{and_parts}
 use Rattle.std.proofs.lemmas.List.{length-map}
 use Rattle.std.proofs.lemmas.List.Sums.{sum_by-cons}
 use Rattle.std.proofs.lemmas.Option.{none-some, slice_get-map, get_or_from_slice_get}
-use Rattle.jc_bytes.specs.Descriptor.{FieldType, Byte, Char, Double, Float, Int, Long, Short, Boolean, Object, Array, slots_of}
+use Rattle.jc_bytes.specs.Descriptor.{FieldType, Byte, Char, Double, Float, slots_of}
 use Rattle.jc_bytes.proofs.OptionLaws.{map_some, then_some}
 use Rattle.jc_bytes.proofs.TextEqualLaws.{same_bytes}
 use Rattle.jc_bytes.proofs.ListLaws.{map_append}
@@ -98,12 +98,7 @@ argument_slots Byte n e = refl
 argument_slots Char n e = refl
 argument_slots Double n e = cc
 argument_slots Float n e = cc
-argument_slots Int n e = refl
-argument_slots Long n e = refl
-argument_slots Short n e = refl
-argument_slots Boolean n e = refl
-argument_slots (Object name) n e = refl
-argument_slots (Array component) n e = refl
+argument_slots other n e = refl
 
 arguments_slots : (types : List FieldType) (numbers : List ℤ) → are_arguments types numbers ≡ true
     → length (spread_values (argument_values types numbers)) ≡ sum_by slots_of types

@@ -1,33 +1,22 @@
 -- The items of a twin: those of the prelude and of each probe stand one behind the other.
-use Rattle.std.proofs.Common.{◌≡◌, ℕ, zero, suc, ◌+◌, Bool, true, false, List, [], ◌∷◌, ◌++◌, map, length, Option, Some, None, refl, sym, ap, ap₂, ◌∙◌, subst}
+use Rattle.std.proofs.Common.{◌≡◌, ℕ, zero, suc, ◌+◌, Bool, true, false, List, [], ◌∷◌, ◌++◌, length, Option, Some, None, refl, sym, ap, subst}
 use Rattle.std.specs.Prelude.{slice_get}
 use Rattle.std.proofs.lemmas.Bool.{true≢false}
 use Rattle.std.proofs.lemmas.Option.{none-some, same_Some}
 use Rattle.jc_bytes.specs.PlainLists.{pieces}
-use Rattle.jc_methods.specs.VerificationTypes.{Names}
 use Rattle.jc_methods.specs.Flow.{flow_of, jump_target}
 use Rattle.jc_methods.specs.Insn.{with_places}
-use Rattle.jc_methods.specs.WellMade.{IsHandler, IsWellMadeOfAnySize}
 use Rattle.jc_methods.specs.Widened.{inverted}
 use Rattle.jc_methods.specs.declared.insn.Insn.{Insn}
 use Rattle.jc_methods.specs.declared.insn.Flow.{Flow}
 use Rattle.jc_methods.specs.declared.insn.Flow.TheVariants as flows
-use Rattle.jc_methods.specs.declared.kind.State.{State}
 use Rattle.jc_methods.specs.declared.body.Body.{Body}
 use Rattle.jc_plan.specs.declared.branch.Branch.{Branch}
 use Rattle.jc_plan.specs.Plan.{lead_probe}
 use Rattle.jc_plan.specs.Probed.{probe_of}
 use Rattle.jc_emit.specs.Items.{Item, init_call, init_store, image, probe_array, probe_id, probe_one, probe_store, hop, own_of, lead_part, early_part, hop_part, arm_parts, test_part, segment, tests_part, image_part, twin_items, lead_of, land_of, image_of}
-use Rattle.jc_emit.specs.Local.{OkRow}
-use Rattle.jc_emit.specs.Seen.{IsSeen, OkRows}
 use Rattle.jc_emit.specs.Sizes.{insn_at, early_probe, late_probe, arms_at, is_wide}
-use Rattle.jc_emit.specs.Twin.{Twin}
 use Rattle.jc_emit.specs.TwinCode.{to_of, arm_place}
-use Rattle.jc_emit.specs.TwinTables.{moved_row}
-use Rattle.jc_emit.proofs.KnownLaws.{code_known, marks_known, leads_known, lands_known}
-use Rattle.jc_emit.proofs.LocalLaws.{twin_ok}
-use Rattle.jc_emit.proofs.RowLaws.{row_ok}
-use Rattle.jc_emit.proofs.SeenLaws.{rows_kept, insns_of}
 use Rattle.jc_twin_simulation.specs.ProbeRuns.{MayFollow, IsFirst, RunsOn, AreRuns}
 
 -- ---- lists
@@ -167,33 +156,3 @@ pub in_front : (items : List Item) → AreRuns items → (q : ℕ) (x : Item) �
 in_front [] h q x e n = absurd (none-some x e)
 in_front (y ∷ items) h zero x e n = absurd (n (subst IsFirst (same_Some y x e) h.0))
 in_front (y ∷ items) h (suc q) x e n = front_by y items h.1 q x e
-
--- ---- a twin seen by these items
-
--- the items are told by the body, so that more is known of them
-abbrev pub seen_items : (names new_names : Names) (states : List State) (first : ℕ) (b b' : Body) → IsWellMadeOfAnySize b
-    → (t : Twin names new_names states first b b') → IsSeen first b b' t.marks
-seen_items names new_names states first b b' well t =
-    let marks = marks_known b first t.wide t.call b'.code t.marks well.code t.code in
-    let rows : b'.handlers ≡ map (moved_row (lead_of b first t.wide) (land_of b first t.wide)) b.handlers =
-    t.tables.handlers_are
-    ∙ ap₂ (λ lead land. map (moved_row lead land) b.handlers) (leads_known b first t.wide t.call b'.code t.marks well.code t.code)
-    (lands_known b first t.wide t.call b'.code t.marks well.code t.code) in
-    record {
-      items = twin_items b first t.wide;
-      call = t.call;
-      calls = t.calls;
-      method = t.method;
-      uses = t.uses;
-      code = insns_of t.call b.arg_slots (twin_items b first t.wide) b'.code (code_known b first t.wide t.call b'.code t.marks well.code t.code);
-      at = ap (λ m. m.at) marks;
-      own = ap (λ m. m.own) marks;
-      extra = ap (λ m. m.extra) marks;
-      plain = tt;
-      ok = twin_ok b first t.wide well.code;
-      rows = subst (OkRows (OkRow b.code (Some b.arg_slots) (probe_of b first) (twin_items b first t.wide)) b.handlers) (sym rows)
-          (rows_kept (OkRow b.code (Some b.arg_slots) (probe_of b first) (twin_items b first t.wide)) (IsHandler (length b.code))
-          (moved_row (lead_of b first t.wide) (land_of b first t.wide)) (row_ok b first t.wide well.code) b.handlers well.handlers);
-      max_stack = t.max_stack;
-      max_locals = t.max_locals;
-    }

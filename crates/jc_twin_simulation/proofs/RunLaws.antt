@@ -210,9 +210,7 @@ module _ (p p' : Program) (sides : Entry → Side) (marks : Entry → Marks) (ar
   thread_small s s' ss x (returned v) h = omega arith
   thread_small s s' ss x (threw c) h = omega arith
   thread_small s s' ss x (stuck m q) h = omega arith
-  thread_small s s' ss (returned v) (running f' fs') h = absurd h
-  thread_small s s' ss (threw c) (running f' fs') h = absurd h
-  thread_small s s' ss (stuck m q) (running f' fs') h = absurd h
+  thread_small s s' ss x y h = absurd h
 
   option_small : (s s' : Shared) → SameShared p p' sides s s' → (o o' : Option Thread) → SameOne o o' → option_rank o' ≤ 17
   option_small s s' ss None None h = omega arith

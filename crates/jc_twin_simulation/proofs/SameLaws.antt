@@ -9,7 +9,7 @@ use Rattle.jc_programs.specs.declared.program.Program.{Program}
 use Rattle.jc_programs.specs.declared.program.Linked.{Linked}
 use Rattle.jc_programs.specs.declared.run_end.Entry.{Entry}
 use Rattle.jc_programs.specs.Members.{class_at}
-use Rattle.jc_emit.specs.Items.{Item, init_call, init_store, image, probe_array, probe_id, probe_one, probe_store, hop, at_of, extra_of}
+use Rattle.jc_emit.specs.Items.{Item, init_call, image, at_of, extra_of}
 use Rattle.jc_emit.specs.Marks.{Marks}
 use Rattle.jc_emit.specs.TwinProgram.{IsPair, IsChangedPair, data_static}
 use Rattle.jc_emit.proofs.ToldLaws.{mapped}
@@ -28,13 +28,7 @@ use Rattle.jc_twin_simulation.proofs.TurnLaws.{inside_named}
 -- what is pushed is what the marks say
 pub pushed_off : (a : Value) (x : Item) (st : List Value) → drop (extra_of x) (pushed_of a x ++ st) ≡ st
 pushed_off a init_call st = refl
-pushed_off a init_store st = refl
-pushed_off a (image insn at early) st = refl
-pushed_off a (probe_array id at late) st = refl
-pushed_off a (probe_id id at late) st = refl
-pushed_off a (probe_one id at late) st = refl
-pushed_off a (probe_store id at late) st = refl
-pushed_off a (hop to at due) st = refl
+pushed_off a other st = refl
 
 -- ---- one more behind a list
 
@@ -123,18 +117,7 @@ module _ (p p' : Program) (sides : Entry → Side) where
       thread_same (threw c) (threw c') h = h
       thread_same (stuck m q) (stuck m' q') h =
           (h.same, ap (λ l. slice_get l q') (told m h.side).at ∙ mapped at_of (sides m).items q' h.item h.here ∙ ap Some h.at)
-      thread_same (running f fs) (returned v) h = absurd h
-      thread_same (running f fs) (threw c) h = absurd h
-      thread_same (running f fs) (stuck m q) h = absurd h
-      thread_same (returned v) (running f fs) h = absurd h
-      thread_same (returned v) (threw c) h = absurd h
-      thread_same (returned v) (stuck m q) h = absurd h
-      thread_same (threw c) (running f fs) h = absurd h
-      thread_same (threw c) (returned v) h = absurd h
-      thread_same (threw c) (stuck m q) h = absurd h
-      thread_same (stuck m q) (running f fs) h = absurd h
-      thread_same (stuck m q) (returned v) h = absurd h
-      thread_same (stuck m q) (threw c) h = absurd h
+      thread_same x y h = absurd h
 
       threads_same : (xs xs' : List Thread) → SameThreads p p' sides xs xs' → spec.SameThreads p' marks xs xs'
       threads_same [] [] h = tt

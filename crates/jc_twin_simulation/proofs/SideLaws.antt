@@ -18,33 +18,16 @@ use Rattle.jc_emit.specs.SeenProgram.{IsSeenTwin, IsSeenSame, IsSeenAt}
 use Rattle.jc_emit.specs.TwinProgram.{IsPair, ArePairs, IsChangedPair, TwinProgram}
 use Rattle.jc_emit.proofs.EdgeIdLaws.{each_within}
 use Rattle.jc_emit.proofs.RankLaws.{ranked}
+use Rattle.jc_emit.proofs.SeenLaws.{seen as items_seen}
 use Rattle.jc_emit.proofs.SeenProgramLaws.{classes_alike, class_pair, added_last, ids_seen}
 use Rattle.jc_machine_model.specs.Methods.{is_init_name}
+use Rattle.jc_machine_model.proofs.BeginLaws.{no_body}
 use Rattle.jc_twin_simulation.specs.Marking.{AreMarks}
 use Rattle.jc_twin_simulation.specs.Sides.{Side, count_in, IsSide, AreSides, AreTold, AreMarksOf}
-use Rattle.jc_twin_simulation.proofs.RunItemLaws.{twin_runs, plain_runs, seen_items}
+use Rattle.jc_twin_simulation.proofs.RunItemLaws.{twin_runs, plain_runs}
 use Rattle.jc_twin_simulation.proofs.ClassLaws.{other_name, original_declares, unchanged_declares, changed_declares}
 
 -- ---- where there is no method
-
-no_body : Body
-no_body = record {
-  method = 0;
-  owner = [];
-  name = [];
-  desc = [];
-  flags = 0;
-  arg_slots = 0;
-  max_stack = 0;
-  max_locals = 0;
-  code = [];
-  handlers = [];
-  lines = [];
-  vars = [];
-  kind_vars = [];
-  frames = [];
-  uses = [];
-}
 
 no_class : Linked
 no_class = record { name = []; bodies = []; statics = []; has_clinit = false; probes = None }
@@ -91,7 +74,7 @@ module _ (p p' : Program) (t : TwinProgram p p') (marks : Entry → Marks) (are 
         let first = first_id c.bodies m.method in
         let states = s.twin.states in
         let t = s.twin.twin in
-        let seen = seen_items p.names p'.names states first b b' well t in
+        let seen = items_seen p.names p'.names states first b b' well t in
         let pair = s.pair in
         let added = (added_last p.names p'.names c new pair).0 in (
           record { class = c; new = new; body = b; twin = b'; slot = Some b.arg_slots; ids = probe_of b first; items = seen.items; call = seen.call },

@@ -134,12 +134,7 @@ module _ (p p' : Program) (sides : Entry → Side) (m : Entry) (side : IsSide p 
       let ok = side.ok.ok f.place init_call f.here in
       let first = ok.0 in let next = f.next in
       absurd (omega (arith, first, next, le))
-  behind_prelude q (image insn at early) here le = tt
-  behind_prelude q (probe_array id at late) here le = tt
-  behind_prelude q (probe_id id at late) here le = tt
-  behind_prelude q (probe_one id at late) here le = tt
-  behind_prelude q (probe_store id at late) here le = tt
-  behind_prelude q (hop to at due) here le = tt
+  behind_prelude q other here le = tt
 
 -- ---- frames
 
@@ -225,18 +220,14 @@ module _ (p p' : Program) (sides : Entry → Side) (marks : Entry → Marks) (ar
     thread_state x (returned v) h = tt
     thread_state x (threw c) h = tt
     thread_state x (stuck m q) h = tt
-    thread_state (returned v) (running f' fs') h = absurd h
-    thread_state (threw c) (running f' fs') h = absurd h
-    thread_state (stuck m q) (running f' fs') h = absurd h
+    thread_state x y h = absurd h
 
     thread_within : (x x' : Thread) → SameThread p p' sides x x' → IsStuckWithin p x
     thread_within (stuck m q) (stuck m' q') h = ((sides m).body, body_is p m (sides m).class (sides m).body h.side.class_is h.side.body_is)
     thread_within (stuck m q) (running f' fs') h = absurd h
     thread_within (stuck m q) (returned v) h = absurd h
     thread_within (stuck m q) (threw c) h = absurd h
-    thread_within (running f fs) x' h = tt
-    thread_within (returned v) x' h = tt
-    thread_within (threw c) x' h = tt
+    thread_within other x' h = tt
 
     threads_state : (xs xs' : List Thread) → SameThreads p p' sides xs xs' → AllByRecursion (HasState p' marks) xs' × AllByRecursion (IsStuckWithin p) xs
     threads_state [] [] h = (tt, tt)

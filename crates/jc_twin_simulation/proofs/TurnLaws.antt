@@ -32,7 +32,7 @@ use Rattle.jc_machine_model.specs.Profile as profile
 use Rattle.jc_machine_model.specs.Step.{is_init_method, counted_frames, new_frame, After, after, placed, thrown_in, result_of, after_result}
 use Rattle.jc_twin_simulation.specs.Sides.{Side, count_in, array_of, IsChanged, AreSides}
 use Rattle.jc_twin_simulation.specs.Probes.{hit_of, item_hit, Passes, nothing, a_late_one, an_early_one, place_hit, frame_hit, due_in, early_in}
-use Rattle.jc_twin_simulation.specs.Mid.{pushed_of, SameLocals, SameFrame, SameWaits, InitStep, reads_field, doubles, asks_null, clears, wants_id, wants_text, wants_count, fetches_array, keeps_array, writes_field, gives_back, step_place, step_stack, init_method, Inside, SameShared, SameThread}
+use Rattle.jc_twin_simulation.specs.Mid.{pushed_of, SameLocals, SameFrame, SameWaits, InitStep, reads_field, gives_back, step_place, step_stack, init_method, Inside, SameShared, SameThread}
 use Rattle.jc_twin_simulation.proofs.LocalLaws.{stays_unready}
 use Rattle.jc_twin_simulation.proofs.MemberLaws.{enter_by}
 use Rattle.jc_twin_simulation.proofs.ClassLaws.{class_same, class_again, init_found}
@@ -50,16 +50,7 @@ no_parameters = refl
 
 place_small : (x : InitStep) → step_place x ≤ 10
 place_small reads_field = omega arith
-place_small (doubles found) = omega arith
-place_small (asks_null found) = omega arith
-place_small clears = omega arith
-place_small wants_id = omega arith
-place_small wants_text = omega arith
-place_small wants_count = omega arith
-place_small fetches_array = omega arith
-place_small keeps_array = omega arith
-place_small writes_field = omega arith
-place_small gives_back = omega arith
+place_small other = omega arith
 
 module _ (p p' : Program) (sides : Entry → Side) where
   -- ---- how many turns there are at most before the next own instruction
@@ -156,13 +147,7 @@ module _ (p p' : Program) (sides : Entry → Side) where
     alone_after : (x : Item) (class : ℕ) (g f' : Frame) (fs' : List Frame)
         → after_result p' (aside_result x class s' g) s' f' fs' ≡ record { thread = running g fs'; shared = s'; hits = aside_hits x class }
     alone_after init_call class g f' fs' = refl
-    alone_after init_store class g f' fs' = refl
-    alone_after (image insn at early) class g f' fs' = refl
-    alone_after (probe_array id at late) class g f' fs' = refl
-    alone_after (probe_id id at late) class g f' fs' = refl
-    alone_after (probe_one id at late) class g f' fs' = refl
-    alone_after (probe_store id at late) class g f' fs' = refl
-    alone_after (hop to at due) class g f' fs' = refl
+    alone_after other class g f' fs' = refl
 
     alone_turned : (f f' : Frame) (fs fs' : List Frame) (h : SameFrame p p' sides f f') → SameWaits p p' sides fs fs' → own_of h.item ≡ false → (h.item ≡ init_call → ⊥)
         → (r : Result) → Alone p p' sides f f' h.item s' r → AsideTurned (running f fs) (running f' fs') (after_result p' r s' f' fs')

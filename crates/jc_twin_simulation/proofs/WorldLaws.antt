@@ -57,18 +57,7 @@ module _ (p p' : Program) (sides : Entry → Side) (marks : Entry → Marks) (ar
     thread_turned (returned v) (returned v') h = (ss, h)
     thread_turned (threw c) (threw c') h = (ss, h)
     thread_turned (stuck m q) (stuck m' q') h = (ss, h)
-    thread_turned (running f fs) (returned v) h = absurd h
-    thread_turned (running f fs) (threw c) h = absurd h
-    thread_turned (running f fs) (stuck m q) h = absurd h
-    thread_turned (returned v) (running f fs) h = absurd h
-    thread_turned (returned v) (threw c) h = absurd h
-    thread_turned (returned v) (stuck m q) h = absurd h
-    thread_turned (threw c) (running f fs) h = absurd h
-    thread_turned (threw c) (returned v) h = absurd h
-    thread_turned (threw c) (stuck m q) h = absurd h
-    thread_turned (stuck m q) (running f fs) h = absurd h
-    thread_turned (stuck m q) (returned v) h = absurd h
-    thread_turned (stuck m q) (threw c) h = absurd h
+    thread_turned x y h = absurd h
 
     -- a turn of a running thread that isn't kept
     aside_frame : (f f' : Frame) (fs fs' : List Frame) → SameThread p p' sides (running f fs) (running f' fs') → keeps p' marks (running f' fs') ≡ false
@@ -82,9 +71,7 @@ module _ (p p' : Program) (sides : Entry → Side) (marks : Entry → Marks) (ar
     aside_thread (returned v) (running f' fs') h r k = absurd h
     aside_thread (threw c) (running f' fs') h r k = absurd h
     aside_thread (stuck m q) (running f' fs') h r k = absurd h
-    aside_thread x (returned v) h r k = cc
-    aside_thread x (threw c) h r k = cc
-    aside_thread x (stuck m q) h r k = cc
+    aside_thread x other h r k = cc
 
   -- ---- the threads of a world
 
