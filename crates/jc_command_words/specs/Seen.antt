@@ -4,6 +4,11 @@ use Rattle.std.specs.Borrow.{Bor}
 use Rattle.jc_command_words.specs.declared.command.Command.{Command}
 use Rattle.jc_command_words.specs.declared.command.Command.TheVariants as commands
 use Rattle.jc_command_words.specs.declared.command.Given.{Given}
+use Rattle.jc_command_words.specs.declared.words.InstrumentWords.{InstrumentWords}
+use Rattle.jc_command_words.specs.declared.words.RunWords.{RunWords}
+use Rattle.jc_command_words.specs.declared.words.MergeWords.{MergeWords}
+use Rattle.jc_command_words.specs.declared.words.ReportWords.{ReportWords}
+use Rattle.jc_command_words.specs.declared.words.CoverWords.{CoverWords}
 use Rattle.jc_command_words.specs.Words.{Word}
 use Rattle.jc_command_words.specs.Commands.{Called, instrument, run, merge, report, exec_info, class_info, cover, cover_sample}
 use Rattle.jc_command_words.specs.Decide.{Values}
@@ -27,13 +32,28 @@ given_seen g = record {
   files = texts_seen g.files.items;
 }
 
+-- the commands by what their words say
+abbrev pub instrument_called : InstrumentWords → Called
+instrument_called w = instrument w.dest.now (map file_view w.files.items)
+
+abbrev pub run_called : RunWords → Called
+run_called w = run w.plan.now w.destfile.now w.workers (map file_view w.files.items)
+
+abbrev pub merge_called : MergeWords → Called
+merge_called w = merge w.destfile.now (texts_seen w.inputs.items)
+
+abbrev pub report_called : ReportWords → Called
+report_called w = report w.csv.now w.name.now (text_seen w.exec) (map file_view w.files.items)
+
+abbrev pub cover_called : CoverWords → Called
+cover_called w = cover w.dest.now w.plan.now w.destfile.now w.csv.now w.workers w.name.now (map file_view w.files.items)
+
 abbrev pub command_seen : Command → Called
-command_seen (commands.Instrument dest files) = instrument dest.now (map file_view files.items)
-command_seen (commands.Run plan destfile workers files) = run plan.now destfile.now workers (map file_view files.items)
-command_seen (commands.Merge destfile inputs) = merge destfile.now (texts_seen inputs.items)
-command_seen (commands.Report csv name exec files) = report csv.now name.now (text_seen exec) (map file_view files.items)
+command_seen (commands.Instrument words) = instrument_called words
+command_seen (commands.Run words) = run_called words
+command_seen (commands.Merge words) = merge_called words
+command_seen (commands.Report words) = report_called words
 command_seen (commands.ExecInfo inputs) = exec_info (texts_seen inputs.items)
 command_seen (commands.ClassInfo files) = class_info (map file_view files.items)
-command_seen (commands.Cover dest plan destfile csv workers name files) =
-    cover dest.now plan.now destfile.now csv.now workers name.now (map file_view files.items)
+command_seen (commands.Cover words) = cover_called words
 command_seen (commands.CoverSample methods) = cover_sample methods

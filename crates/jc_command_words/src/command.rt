@@ -8,6 +8,7 @@ ghost use Rattle.jc_command_words.specs.Seen.{command_seen, given_seen, text_see
 
 use crate::name::CommandName;
 use crate::number::number_up_to;
+use crate::words::{CoverWords, InstrumentWords, MergeWords, ReportWords, RunWords};
 use jc_bytes::Memory;
 use jc_paths::{FileWord, file_word};
 use std::alloc::Global;
@@ -16,51 +17,21 @@ use std::alloc::Global;
 #[derive(Drop)]
 pub enum Command<'a> {
     /// Writes each class file into the folder `dest`, with probes where it is instrumented.
-    Instrument {
-        dest: &'a str,
-        files: Vec<FileWord<'a>>,
-    },
+    Instrument(InstrumentWords<'a>),
     /// Runs the run plan's cases on the class files, and writes the hits.
-    Run {
-        plan: &'a str,
-        destfile: &'a str,
-        workers: u32,
-        files: Vec<FileWord<'a>>,
-    },
+    Run(RunWords<'a>),
     /// Writes the union of the execution data in the inputs.
-    Merge {
-        destfile: &'a str,
-        inputs: Vec<&'a str>,
-    },
+    Merge(MergeWords<'a>),
     /// Writes the CSV text of the class files, by the hits in the execution data `exec`, if it is named.
-    Report {
-        csv: &'a str,
-        name: &'a str,
-        exec: Option<&'a str>,
-        files: Vec<FileWord<'a>>,
-    },
+    Report(ReportWords<'a>),
     /// Prints the sessions and the records of each file of execution data.
-    ExecInfo {
-        inputs: Vec<&'a str>,
-    },
+    ExecInfo { inputs: Vec<&'a str> },
     /// Prints the id, the methods and the probes of each class.
-    ClassInfo {
-        files: Vec<FileWord<'a>>,
-    },
+    ClassInfo { files: Vec<FileWord<'a>> },
     /// Instruments the class files, runs the run plan's cases on them and reports.
-    Cover {
-        dest: &'a str,
-        plan: &'a str,
-        destfile: &'a str,
-        csv: &'a str,
-        workers: u32,
-        name: &'a str,
-        files: Vec<FileWord<'a>>,
-    },
+    Cover(CoverWords<'a>),
     /// Runs a generated class of so many methods.
-    CoverSample {
-        methods: u32,
-    },
+    CoverSample { methods: u32 },
 }
 
 /// What the options of a command are given, and its files.
@@ -134,7 +105,7 @@ fn instrument_with<'a>(alloc: Global, given: &Given<'a>) -> Result<Option<Comman
         return Ok(None);
     };
     let files = file_words(alloc, &given.files)?;
-    Ok(Some(Command::Instrument { dest, files }))
+    Ok(Some(Command::Instrument(InstrumentWords { dest, files })))
 }
 
 fn run_with<'a>(alloc: Global, given: &Given<'a>) -> Result<Option<Command<'a>>, Memory>
@@ -151,22 +122,22 @@ fn run_with<'a>(alloc: Global, given: &Given<'a>) -> Result<Option<Command<'a>>,
         return Ok(None);
     };
     let files = file_words(alloc, &given.files)?;
-    Ok(Some(Command::Run {
+    Ok(Some(Command::Run(RunWords {
         plan,
         destfile,
         workers,
         files,
-    }))
+    })))
 }
 
 fn merge_with<'a>(given: Given<'a>) -> Option<Command<'a>>
     ensures { option_map command_seen result ≡ merge_with (given_seen given.entry).destfile (given_seen given.entry).files }
 {
     match given.destfile {
-        Some(destfile) => Some(Command::Merge {
+        Some(destfile) => Some(Command::Merge(MergeWords {
             destfile,
             inputs: given.files,
-        }),
+        })),
         None => None,
     }
 }
@@ -180,12 +151,12 @@ fn report_with<'a>(alloc: Global, given: &Given<'a>) -> Result<Option<Command<'a
     };
     let name = name_in(given.name);
     let files = file_words(alloc, &given.files)?;
-    Ok(Some(Command::Report {
+    Ok(Some(Command::Report(ReportWords {
         csv,
         name,
         exec: given.exec,
         files,
-    }))
+    })))
 }
 
 fn cover_with<'a>(alloc: Global, given: &Given<'a>) -> Result<Option<Command<'a>>, Memory>
@@ -209,7 +180,7 @@ fn cover_with<'a>(alloc: Global, given: &Given<'a>) -> Result<Option<Command<'a>
     };
     let name = name_in(given.name);
     let files = file_words(alloc, &given.files)?;
-    Ok(Some(Command::Cover {
+    Ok(Some(Command::Cover(CoverWords {
         dest,
         plan,
         destfile,
@@ -217,7 +188,7 @@ fn cover_with<'a>(alloc: Global, given: &Given<'a>) -> Result<Option<Command<'a>
         workers,
         name,
         files,
-    }))
+    })))
 }
 
 /// The command of this name with these values and files. There is none where an option that it needs isn't given, or the

@@ -9,7 +9,9 @@ mod paths;
 mod read;
 mod reader;
 mod scan;
+mod words;
 
 pub use command::Command;
 pub use jc_paths::FileWord;
 pub use read::{Usage, each_list_of_words_calls_one_command, read_words};
+pub use words::{CoverWords, InstrumentWords, MergeWords, ReportWords, RunWords};
