@@ -1,7 +1,10 @@
 -- A command that reads, decides and then writes has one work, and functions that do its parts do the whole.
-use Rattle.std.proofs.Common.{◌≡◌, ◌⊎◌, ℕ, List, [], ◌∷◌, ◌++◌, map, Option, None, Some, Result, Ok, Err, Vec, length, inl, inr, refl, sym, ap, subst, arith}
+use Rattle.std.proofs.Common.{◌≡◌, ◌⊎◌, ℕ, List, [], ◌∷◌, ◌++◌, map, All, ◌≤◌, Option, None, Some, Result, Ok, Err, Vec, Bor, length, ◌∙◌, inl, inr, refl, sym, ap, subst, arith}
+use Rattle.std.proofs.lemmas.List.{length-map}
+use Rattle.std.proofs.lemmas.List.Elements.{All-from_recursion}
 use Rattle.std.specs.List.{AllByRecursion}
 use Rattle.std.specs.declared.alloc.Global.{Global}
+use Rattle.jc_bytes.specs.Reader.{most_read}
 use Rattle.jc_command_work.specs.declared.output.Write.{Write as Written}
 use Rattle.jc_command_work.specs.declared.stop.Stop.{Stop}
 use Rattle.jc_command_work.specs.Step.{Word, IsFile, AreTexts, Outside, Counts, Landed, Write, to_read, Step, has_read, has_no, has_listed, has_written, Fit, after}
@@ -10,7 +13,7 @@ use Rattle.jc_command_work.specs.Ending.{CameTo, Stops, Does, Ran}
 use Rattle.jc_command_work.specs.OneWay.{IsOver, HasOne, OneDecision}
 use Rattle.jc_paths.specs.Paths.{FileText, plain, folder}
 use Rattle.jc_command_work.specs.Folders.{paths_of, all_paths, files_of, once}
-use Rattle.jc_command_work.specs.Seen.{write_seen, stop_seen}
+use Rattle.jc_command_work.specs.Seen.{texts_of, write_seen, stop_seen}
 use Rattle.jc_command_work.specs.Answered.{Answer, OneAnswer, HasOneAnswer, answering, preparing, making_all, answered, EndsSo, AnswersWith}
 use Rattle.jc_command_work.proofs.Behind.{fit_front, fit_behind, came_then, began_then, stops_first}
 use Rattle.jc_command_work.proofs.OneWork.{one_giving, one_ending, one_deciding, one_listing, has_then, has_then_if, has_reading_all, has_writing_all, same_value, not_gives}
@@ -45,6 +48,19 @@ texts_read landed w (p ∷ ps) steps read is fits =
     let (front, behind, text, first, next, fits', fits'') = handed_on landed (reading p) _ w steps read is fits in
     let (front', behind', more, first', next', fits₁, fits₂) = handed_on landed (reading_all ps) _ (after landed w front) behind read next fits'' in
     subst (AreTexts (p ∷ ps)) (sym (given (text ∷ more) read behind' next')) (file_read landed w p text front first fits', texts_read landed (after landed w front) ps front' more first' fits₁)
+
+-- what was read of paths are texts
+pub were_read : (landed : Landed) (paths : List Word) (texts : List (List ℕ)) (old mid : Outside) → CameTo landed (reading_all paths) old mid (gives texts) → AreTexts paths texts
+were_read landed paths texts old mid came = texts_read landed old paths came.steps texts came.comes came.fit
+
+-- memory was refused before any step
+pub none_made : {X : Type 0} (landed : Landed) (part : Part X) (w : Outside) (f : Counts) → Stops landed part w w f f None
+none_made landed part w f = (refl, record { steps = []; begun = inl refl; fit = tt; stand = refl })
+
+-- what was read of paths was read of the same ones
+pub read_of : {A E : Type 0} (landed : Landed) (value : A → List (List ℕ)) (stop : E → Option End) (paths others : List Word) → others ≡ paths
+    → (old new : Outside) (f f' : Counts) (r : Result A E) → Does landed (reading_all others) value stop old new f f' r → Does landed (reading_all paths) value stop old new f f' r
+read_of landed value stop paths others same old new f f' r does = subst (λ (ps : List Word). Does landed (reading_all ps) value stop old new f f' r) same does
 
 -- ---- the files that words name
 
@@ -161,3 +177,23 @@ as_many_texts [] [] are = refl
 as_many_texts [] (t ∷ ts) are = absurd are
 as_many_texts (p ∷ ps) [] are = absurd are
 as_many_texts (p ∷ ps) (t ∷ ts) are = let rest = as_many_texts ps ts are.1 in omega (arith, rest)
+
+each_short : (paths : List Word) (texts : List (List ℕ)) → AreTexts paths texts → AllByRecursion (λ (t : List ℕ). length t ≤ most_read) texts
+each_short [] [] are = tt
+each_short [] (t ∷ ts) are = absurd are
+each_short (p ∷ ps) [] are = absurd are
+each_short (p ∷ ps) (t ∷ ts) are = (are.0.short, each_short ps ts are.1)
+
+pub are_short : (paths : List Word) (texts : List (List ℕ)) → AreTexts paths texts → All (λ (t : List ℕ). length t ≤ most_read) texts
+are_short paths texts are = All-from_recursion (λ (t : List ℕ). length t ≤ most_read) texts (each_short paths texts are)
+
+pub as_many_files : (paths : List (Bor (List ℕ))) (texts : List (List ℕ)) → AreTexts (texts_of paths) texts → length texts ≡ length paths
+as_many_files paths texts are = sym (sym (length-map paths (λ (p : Bor (List ℕ)). p.now)) ∙ as_many_texts (texts_of paths) texts are)
+
+-- texts of paths are texts of as many others
+pub as_texts_of : (paths others : List Word) (texts : List (List ℕ)) → AreTexts paths texts → length others ≡ length paths → AreTexts others texts
+as_texts_of [] [] texts are same = are
+as_texts_of [] (o ∷ os) texts are same = absurd (omega (arith, same))
+as_texts_of (p ∷ ps) [] texts are same = absurd (omega (arith, same))
+as_texts_of (p ∷ ps) (o ∷ os) [] are same = absurd are
+as_texts_of (p ∷ ps) (o ∷ os) (t ∷ ts) are same = (are.0, as_texts_of ps os ts are.1 (omega (arith, same)))

@@ -12,3 +12,4 @@ pub mod CauseLaws
 pub mod FileLaws
 pub mod FolderLaws
 pub mod OnceLaws
+pub mod References

@@ -1,8 +1,9 @@
 -- What a function does to the files and the texts that it is handed.
-use Rattle.std.specs.Prelude.{ℕ, Option}
+use Rattle.std.specs.Prelude.{◌≡◌, ℕ, Option}
 use Rattle.jc_outside.specs.Outside.{FileMap}
 use Rattle.jc_outside.specs.declared.files.Files.{Ghosts as OfFiles}
 use Rattle.jc_outside.specs.declared.sink.Sink.{Ghosts as OfSink}
+use Rattle.jc_command_work.specs.declared.outside.Outside.{Outside as Handed}
 use Rattle.jc_command_work.specs.Step.{Outside, outside, Counts, counts}
 
 -- It is so of the files, as they were when a function began and as they are at its end: of what is told of them, of the counts of their
@@ -24,3 +25,16 @@ module _ {F O E : Type 0} (of_files : OfFiles F) (of_out : OfSink O) (of_err : O
   -- them, of the counts of their failed calls, and of the function's result.
   abbrev pub Between : {A : Type 0} → (old new : F × O × E) → (Is : (old new : Outside) → (f f' : Counts) → A → Type 0) → A → Type 0
   Between old new Is result = Is (outside_of old) (outside_of new) (counts_of old) (counts_of new) result
+
+-- the files and the texts are the same ones, whatever they hold
+abbrev pub SameReferences : {F O E : Type 0} → (old new : Handed F O E) → Type 0
+SameReferences old new =
+    (new.files.ghost_name ≡ old.files.ghost_name) × (new.out.ghost_name ≡ old.out.ghost_name) × (new.err.ghost_name ≡ old.err.ghost_name)
+
+-- What a function does that is handed the outside of a command: the files and the texts stay the same ones, and the relation is between
+-- what they were when it began and what they are at its end.
+abbrev pub OnOutside : {F O E A : Type 0} → OfFiles F → OfSink O → OfSink E → (old new : Handed F O E)
+    → (Is : (old new : Outside) → (f f' : Counts) → A → Type 0) → A → Type 0
+OnOutside of_files of_out of_err old new Is result =
+    SameReferences old new
+    × Between of_files of_out of_err (old.files.now, old.out.now, old.err.now) (new.files.now, new.out.now, new.err.now) Is result

@@ -23,6 +23,11 @@ AreTexts [] (t ∷ ts) = ⊥
 AreTexts (p ∷ ps) [] = ⊥
 AreTexts (p ∷ ps) (t ∷ ts) = IsFile t × AreTexts ps ts
 
+-- the paths of files, and what was read of each, in the same order
+pub record FilesRead : Type 0 where
+  pub paths : List Word
+  pub texts : List (List ℕ)
+
 -- ---- the outside
 
 -- what is told of the files and of the texts on `out` and `err`

@@ -55,24 +55,29 @@ fn second_count_text(alloc: Global, count: u32) -> Result<String, AllocError>
     format!(in alloc; " with {count} probes\n")
 }
 
-/// Two records of one class id that do not agree: each has a name and a number of probes.
+/// A record of execution data, by the name of its class and the number of its probes.
+#[derive(Drop)]
+struct RecordText<'r> {
+    name: &'r [u8],
+    count: u32,
+}
+
+/// Two records of one class id that do not agree.
 fn conflict_text(
     alloc: Global,
     file: &str,
     id: u64,
-    first: &[u8],
-    second: &[u8],
-    first_count: u32,
-    second_count: u32,
+    first: RecordText<'_>,
+    second: RecordText<'_>,
 ) -> Result<Vec<u8>, AllocError>
-    ensures { IfOk result (λ text. text.items ≡ conflict_text file.now id first.now second.now first_count second_count) }
+    ensures { IfOk result (λ text. text.items ≡ conflict_text file.now id first.entry.name.now second.entry.name.now first.entry.count second.entry.count) }
 {
-    let behind_first = first_count_text(alloc, first_count)?;
-    let behind_second = second_count_text(alloc, second_count)?;
+    let behind_first = first_count_text(alloc, first.count)?;
+    let behind_second = second_count_text(alloc, second.count)?;
     let mut text = conflict_start(alloc, file, id)?.into_bytes();
-    text.extend_from_slice(first)?;
+    text.extend_from_slice(first.name)?;
     text.extend_from_slice(behind_first.as_bytes())?;
-    text.extend_from_slice(second)?;
+    text.extend_from_slice(second.name)?;
     text.extend_from_slice(behind_second.as_bytes())?;
     Ok(text)
 }
@@ -93,7 +98,17 @@ fn exec_refusal_text(
             second,
             first_count,
             second_count,
-        } => conflict_text(alloc, file, *id, first, second, *first_count, *second_count),
+        } => {
+            let first = RecordText {
+                name: first,
+                count: *first_count,
+            };
+            let second = RecordText {
+                name: second,
+                count: *second_count,
+            };
+            conflict_text(alloc, file, *id, first, second)
+        }
     }
 }
 

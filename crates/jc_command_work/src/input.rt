@@ -1,8 +1,7 @@
 //! Reading the inputs of a command.
-ghost use Rattle.std.specs.Prelude.{◌≡◌, ◌≤◌, ◌++◌, ◌∷◌, [], All, length, map, IfOk, OnOk, string_bytes};
-ghost use Rattle.jc_bytes.specs.ByteLists.{AreBytes};
+ghost use Rattle.std.specs.Prelude.{◌≡◌, ◌≤◌, length, map, IfOk, string_bytes};
 ghost use Rattle.jc_bytes.specs.Reader.{most_read};
-ghost use Rattle.jc_command_work.specs.Part.{reading, listing, reading_all};
+ghost use Rattle.jc_command_work.specs.Part.{reading, listing};
 ghost use Rattle.jc_command_work.specs.Ending.{DoesFiles};
 ghost use Rattle.jc_command_work.specs.Handed.{BetweenFiles};
 ghost use Rattle.jc_command_work.specs.Seen.{words_of, texts_of, stop_seen, read_stop};
@@ -41,14 +40,6 @@ pub fn read_one<'a, F: Files>(
     }
 }
 
-/// Puts a text last.
-fn keep(texts: &mut Vec<Bytes>, text: Bytes) -> Result<(), Memory>
-    ensures { OnOk result (texts.new.items ≡ texts.old.items ++ text ∷ []) }
-{
-    texts.push(text)?;
-    Ok(())
-}
-
 /// The paths, as texts.
 pub fn as_texts<'a>(alloc: Global, paths: &'a [String]) -> Result<Vec<&'a str>, Memory>
     ensures { IfOk result (λ texts. texts_of texts.items ≡ words_of paths.entry.now) }
@@ -56,24 +47,6 @@ pub fn as_texts<'a>(alloc: Global, paths: &'a [String]) -> Result<Vec<&'a str>, 
     let mut texts = Vec::with_capacity(alloc, paths.len())?;
     'naming: for path in paths {
         texts.push(path.as_str())?;
-    }
-    Ok(texts)
-}
-
-/// The bytes of the files at the paths, in order.
-pub fn read_all<'a, F: Files>(
-    alloc: Global,
-    files: &mut F,
-    paths: &[&'a str],
-) -> Result<Vec<Bytes>, Stop<'a>>
-    ensures does { BetweenFiles F.Files files.old files.new (DoesFiles F.landed (reading_all (texts_of paths.entry.now)) (λ texts. texts.items) stop_seen) result }
-    ensures each { IfOk result (λ texts. length texts.items ≡ length paths.entry.now) }
-    ensures short { IfOk result (λ texts. All (λ t. length t ≤ most_read) texts.items) }
-{
-    let mut texts = Vec::new(alloc);
-    'reading: for path in paths {
-        let text = read_one(alloc, files, path)?;
-        keep(&mut texts, text)?;
     }
     Ok(texts)
 }

@@ -4,15 +4,19 @@
 mod fault_text;
 mod folders;
 mod input;
+mod input_files;
 mod message;
 mod output;
+mod outside;
 mod status;
 mod stop;
 
 pub use fault_text::class_refusal_text;
 pub use folders::list_files;
-pub use input::{as_texts, list_folder, read_all, read_one};
+pub use input::{as_texts, list_folder, read_one};
+pub use input_files::{InputFiles, read_again, read_files, read_listed};
 pub use message::{report, report_usage};
 pub use output::{Write, keep, put_err, put_out, write_all, write_file};
+pub use outside::{Outside, Resources};
 pub use status::{Fault, Status};
 pub use stop::{Stop, class_stop, exec_stop};

@@ -3,9 +3,10 @@ ghost use Rattle.std.specs.Prelude.{◌≡◌, ◌≢◌, ◌++◌, ◌∷◌, [
 ghost use Rattle.jc_command_work.specs.Step.{to_file, to_out, to_err};
 ghost use Rattle.jc_command_work.specs.Part.{writing, writing_all};
 ghost use Rattle.jc_command_work.specs.Ending.{Does, DoesFiles, DoesOut, DoesErr};
-ghost use Rattle.jc_command_work.specs.Handed.{BetweenFiles, Between};
+ghost use Rattle.jc_command_work.specs.Handed.{BetweenFiles, OnOutside};
 ghost use Rattle.jc_command_work.specs.Seen.{stop_seen, write_seen};
 
+use crate::outside::Outside;
 use crate::stop::Stop;
 use jc_bytes::Memory;
 use jc_outside::{Files, Sink};
@@ -64,35 +65,31 @@ pub fn put_err<'a, E: Sink>(err: &mut E, text: &[u8]) -> Result<(), Stop<'a>>
 
 /// Makes one write.
 fn write_one<'a, F: Files, O: Sink, E: Sink>(
-    files: &mut F,
-    out: &mut O,
-    err: &mut E,
+    outside: &mut Outside<'_, '_, '_, F, O, E>,
     write: &Write<'a>,
 ) -> Result<(), Stop<'a>>
-    ensures does { Between F.Files O.Sink E.Sink (files.old, out.old, err.old) (files.new, out.new, err.new)
+    ensures does { OnOutside F.Files O.Sink E.Sink outside.old outside.new
         (Does F.landed (writing (write_seen write.now)) (λ _. tt) stop_seen) result }
     ensures memory { IfErr result (λ stop. stop ≢ Stop.Memory) }
 {
     match write {
-        Write::File { path, bytes } => write_file(files, path, bytes),
-        Write::Out { text } => put_out(out, text),
-        Write::Err { text } => put_err(err, text),
+        Write::File { path, bytes } => write_file(outside.files, path, bytes),
+        Write::Out { text } => put_out(outside.out, text),
+        Write::Err { text } => put_err(outside.err, text),
     }
 }
 
 /// Makes the writes in order, up to the first that fails.
 pub fn write_all<'a, F: Files, O: Sink, E: Sink>(
-    files: &mut F,
-    out: &mut O,
-    err: &mut E,
+    outside: &mut Outside<'_, '_, '_, F, O, E>,
     writes: &[Write<'a>],
 ) -> Result<(), Stop<'a>>
-    ensures does { Between F.Files O.Sink E.Sink (files.old, out.old, err.old) (files.new, out.new, err.new)
+    ensures does { OnOutside F.Files O.Sink E.Sink outside.old outside.new
         (Does F.landed (writing_all (map write_seen writes.now)) (λ _. tt) stop_seen) result }
     ensures memory { IfErr result (λ stop. stop ≢ Stop.Memory) }
 {
     'writing: for write in writes {
-        write_one(files, out, err, write)?;
+        write_one(outside, write)?;
     }
     Ok(())
 }

@@ -1,5 +1,6 @@
 use Rattle.jc_command_work.specs.Seen.{write_seen}
 use Rattle.jc_command_work.specs.Step.{outside, counts}
+use Rattle.jc_command_work.specs.Handed.{SameReferences}
 use Rattle.jc_command_work.proofs.Reaching.{Writes}
 use Rattle.jc_command_work.proofs.output.write_all.Given as goal
 
@@ -9,7 +10,9 @@ invariant-writing g l =
     let F = g.F.Files in
     let O = g.O.Sink in
     let E = g.E.Sink in
-    Writes F.landed write_seen l.writes l.write-index
-    (outside (F.contents l.fn.files) (O.told l.fn.out) (E.told l.fn.err)) (outside (F.contents l.files) (O.told l.out) (E.told l.err))
-    (counts (F.read_faults l.fn.files) (F.write_faults l.fn.files) (O.faults l.fn.out) (E.faults l.fn.err))
-    (counts (F.read_faults l.files) (F.write_faults l.files) (O.faults l.out) (E.faults l.err))
+    SameReferences l.fn.outside l.outside
+    × Writes F.landed write_seen l.writes l.write-index
+    (outside (F.contents l.fn.outside.files.now) (O.told l.fn.outside.out.now) (E.told l.fn.outside.err.now))
+    (outside (F.contents l.outside.files.now) (O.told l.outside.out.now) (E.told l.outside.err.now))
+    (counts (F.read_faults l.fn.outside.files.now) (F.write_faults l.fn.outside.files.now) (O.faults l.fn.outside.out.now) (E.faults l.fn.outside.err.now))
+    (counts (F.read_faults l.outside.files.now) (F.write_faults l.outside.files.now) (O.faults l.outside.out.now) (E.faults l.outside.err.now))

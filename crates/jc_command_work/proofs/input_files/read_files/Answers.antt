@@ -1,0 +1,14 @@
+use Rattle.std.proofs.Common.{ap}
+use Rattle.std.proofs.lemmas.Result.{err_from_is_err_and}
+use Rattle.jc_command_work.specs.Seen.{texts_of, stop_seen}
+use Rattle.jc_command_work.proofs.AnsweredLaws.{none_made, read_of}
+use Rattle.jc_command_work.proofs.input_files.read_files.Goals as goal
+
+pub returns-in_err-named-clause-does : goal.returns-in_err-named-clause-does
+returns-in_err-named-clause-does g c out err outs errs =
+    let p = err_from_is_err_and c.from_residual.result c.from_residual.ensures.1 in
+    rw (p.1, p.2) (none_made g.F.Files.landed _ _ _)
+
+pub returns-clause-does : goal.returns-clause-does
+returns-clause-does g c out err outs errs =
+    read_of g.F.Files.landed (λ inputs. inputs.texts) stop_seen _ _ (ap texts_of c.in_ok-named.ensures) _ _ _ _ c.read_at.result (c.read_at.ensures.does out err outs errs)
