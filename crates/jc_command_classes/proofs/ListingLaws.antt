@@ -1,6 +1,6 @@
 -- What is made of class files is one list of texts, or one refusal.
-use Rattle.std.proofs.Common.{◌≡◌, ◌⊎◌, inl, inr, ⊎_elim, ℕ, zero, suc, ◌+◌, ◌<◌, ◌≤◌, List, [], ◌∷◌, ◌++◌, length, take, get_or, map, Some, Ok, Err, Vec, Bor, refl, sym, ◌∙◌, ap, ap₂, subst, arith, Result, String, string_bytes}
-use Rattle.std.proofs.lemmas.List.{take_more, take_all, map-append, length-map, get_or-map}
+use Rattle.std.proofs.Common.{◌≡◌, ◌⊎◌, inl, inr, ⊎_elim, ℕ, zero, suc, ◌+◌, ◌<◌, ◌≤◌, List, [], ◌∷◌, ◌++◌, length, take, get_or, map, Some, Ok, Err, Vec, Bor, refl, sym, ◌∙◌, ap, ap₂, subst, arith, Result}
+use Rattle.std.proofs.lemmas.List.{take_more, take_all, map-append, get_or_default}
 use Rattle.std.specs.List.{AllByRecursion, AllZip, flat_map}
 use Rattle.std.proofs.lemmas.List.Concat.{flat_map-cons}
 use Rattle.std.proofs.lemmas.Slice.Zip.{AllZip-long}
@@ -21,12 +21,11 @@ use Rattle.jc_instrument.proofs.EachAnalysisLaws.{each_analysis, analysis_or_rea
 use Rattle.jc_command_work.specs.declared.output.Write.{Write as Written}
 use Rattle.jc_command_work.specs.declared.output.Write.TheVariants as written
 use Rattle.jc_command_work.specs.Part.{gives}
-use Rattle.jc_command_work.specs.declared.status.Fault.TheVariants as fault
 use Rattle.jc_command_work.specs.Step.{Word, Write, to_out, IsFile}
-use Rattle.jc_command_work.specs.Seen.{words_of, write_seen}
+use Rattle.jc_command_work.specs.Seen.{write_seen}
 use Rattle.jc_command_classes.specs.ClassInfo.{class_line, method_line, class_text, Listing, prints, refuses, Lists, analysed, refused, IsListing, AreListed, RefusedAt}
 use Rattle.jc_command_classes.specs.ClassInfo.{ListAnswers, listed, class_refused}
-use Rattle.jc_command_work.specs.Answered.{refusing, AnswersWith}
+use Rattle.jc_command_work.specs.Answered.{AnswersWith}
 use Rattle.jc_command_work.specs.Stopping.{class_stop}
 use Rattle.jc_command_classes.proofs.EachLaws.{zipped_at, AtPlace}
 
@@ -172,19 +171,15 @@ more_lines texts writes more i t text so_far within at is grows = record {
       (listed_more (take i texts) so_far.lines t text.items so_far.listed is);
 }
 
-listing_stops : (words : List (String Global)) (texts : List (List ℕ)) (writes : List Written) (i : ℕ) (w : String Global) (t : List ℕ)
-    → (fail : Fail Refusal) (file : Bor (List ℕ)) → length words ≡ length texts → LinesOf (take i texts) writes → i < length texts
-    → t ≡ get_or texts i t → w ≡ get_or words i w → file.now ≡ string_bytes w → Said fail (λ r. Lists t (refuses r))
-    → AnswersWith (ListAnswers (words_of words) texts) (Err (class_stop fail i file))
-listing_stops words texts writes i w t fails.Memory file same so_far within text word path reason = tt
-listing_stops words texts writes i w t (fails.Said why) file same so_far within text word path reason =
+listing_stops : (paths : List Word) (texts : List (List ℕ)) (writes : List Written) (i : ℕ) (t : List ℕ) (fail : Fail Refusal) (file : Bor (List ℕ))
+    → length paths ≡ length texts → LinesOf (take i texts) writes → i < length texts → t ≡ get_or texts i t → file.now ≡ get_or paths i []
+    → Said fail (λ r. Lists t (refuses r)) → AnswersWith (ListAnswers paths texts) (Err (class_stop fail i file))
+listing_stops paths texts writes i t fails.Memory file same so_far within text path reason = tt
+listing_stops paths texts writes i t (fails.Said why) file same so_far within text path reason =
     let counted : 0 + i ≡ i = omega arith in
-    let at : string_bytes w ≡ get_or (words_of words) i (string_bytes w) =
-    ap string_bytes word ∙ sym (get_or-map string_bytes words i w (string_bytes w) (omega (arith, same, within))) in
-    subst (λ (p : Word). ListAnswers (words_of words) texts (refusing p (fault.Class i why))) (sym path)
-    (class_refused i (string_bytes w) why (subst (λ (n : ℕ). RefusedAt 0 (words_of words) texts n (string_bytes w) why) counted
-    (refused_here 0 (words_of words) texts so_far.lines i (string_bytes w) t why (length-map words string_bytes ∙ same) within
-    so_far.listed text at reason)))
+    let at : file.now ≡ get_or paths i file.now = path ∙ get_or_default paths i [] file.now (omega (arith, same, within)) in
+    class_refused i file.now why (subst (λ (n : ℕ). RefusedAt 0 paths texts n file.now why) counted
+    (refused_here 0 paths texts so_far.lines i file.now t why same within so_far.listed text at reason))
 
 module _ (texts : List (List ℕ)) (answers : List (Result (Vec ℕ Global) (Fail Refusal))) (are : AllZip IsListing texts answers)
     (writes : List Written) (n index : ℕ) (answer : Result (Vec ℕ Global) (Fail Refusal)) (so_far : LinesOf (take n texts) writes)
@@ -200,12 +195,12 @@ module _ (texts : List (List ℕ)) (answers : List (Result (Vec ℕ Global) (Fai
   listing_put more text is grows = more_lines texts writes more n own.0 text so_far within own.1 (subst (IsListing own.0) is own.2) grows
 
   -- the file is the first that is refused
-  pub listing_refused : (words : List (String Global)) (w : String Global) (fail : Fail Refusal) (file : Bor (List ℕ)) → length words ≡ length texts
-      → answer ≡ Err fail → w ≡ get_or words index w → file.now ≡ string_bytes w → AnswersWith (ListAnswers (words_of words) texts) (Err (class_stop fail index file))
-  listing_refused words w fail file same is word path =
-      let at : w ≡ get_or words n w = word ∙ ap (λ (k : ℕ). get_or words k w) place.index_is in
-      subst (λ (k : ℕ). AnswersWith (ListAnswers (words_of words) texts) (Err (class_stop fail k file))) (sym place.index_is)
-      (listing_stops words texts writes n w own.0 fail file same so_far within own.1 at path (subst (IsListing own.0) is own.2))
+  pub listing_refused : (paths : List Word) (fail : Fail Refusal) (file : Bor (List ℕ)) → length paths ≡ length texts → answer ≡ Err fail
+      → file.now ≡ get_or paths index [] → AnswersWith (ListAnswers paths texts) (Err (class_stop fail index file))
+  listing_refused paths fail file same is path =
+      let at : file.now ≡ get_or paths n [] = path ∙ ap (λ (k : ℕ). get_or paths k []) place.index_is in
+      subst (λ (k : ℕ). AnswersWith (ListAnswers paths texts) (Err (class_stop fail k file))) (sym place.index_is)
+      (listing_stops paths texts writes n own.0 fail file same so_far within own.1 at (subst (IsListing own.0) is own.2))
 
 pub listing_done : (words : List Word) (texts : List (List ℕ)) (writes : Vec Written Global) (i : ℕ) → LinesOf (take i texts) writes.items
     → length texts ≤ i → AnswersWith (ListAnswers words texts) (Ok writes)

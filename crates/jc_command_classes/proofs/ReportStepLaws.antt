@@ -5,7 +5,7 @@ use Rattle.std.specs.Option.{option_or, IfSome, IsSomeAnd}
 use Rattle.std.specs.Cmp.{nat_eq_equiv}
 use Rattle.std.proofs.lemmas.Bool.{and_parts, eqb-true, eq-eqb}
 use Rattle.std.specs.Str.{bytes_eq}
-use Rattle.std.proofs.lemmas.List.{append-nil, map-append, take_more, take_all, length-map, length-take}
+use Rattle.std.proofs.lemmas.List.{append-nil, map-append, take_more, take_all, length-take}
 use Rattle.std.proofs.lemmas.List.Elements.{filter-append}
 use Rattle.std.proofs.lemmas.Slice.Zip.{AllZip-long}
 use Rattle.jc_bytes.specs.FirstSeen.{first_seen, seen_behind}
@@ -29,7 +29,7 @@ use Rattle.jc_command_classes.specs.declared.class_report.Seen.{Seen}
 use Rattle.jc_command_classes.specs.declared.class_report.Seen.TheVariants as seens
 use Rattle.jc_command_work.specs.declared.stop.Stop.{Stop}
 use Rattle.jc_command_work.specs.declared.stop.Stop.TheVariants as stops
-use Rattle.jc_command_work.specs.Seen.{write_seen, texts_of}
+use Rattle.jc_command_work.specs.Seen.{write_seen}
 use Rattle.jc_command_classes.specs.Report.{frameless, ReportedFile, refused_class, unchanged_class, changed_class, IsItem, is_refused, is_unchanged, is_changed, AreItems, lines_of, changed_of}
 use Rattle.jc_command_classes.specs.Report.{record_of, clash_with, clash_of, first_clash, first_of_each_id}
 use Rattle.jc_command_classes.specs.ReportSteps.{counted_by, counted_classes, StopsAtClash, seen_as, IsSeen, SeesClass, ClassClashes, FileClashes, IsLooked, KeepsRefused, unless_known, Keeps}
@@ -39,7 +39,6 @@ use Rattle.jc_command_work.specs.Step.{Word, Write, to_err}
 use Rattle.jc_command_classes.proofs.EachLaws.{zipped_at, AtPlace}
 use Rattle.jc_command_classes.proofs.FramelessLaws.{same_counted}
 use Rattle.jc_command_classes.proofs.ReportLaws.{left_alone_has_none, changed_has_some}
-use Rattle.jc_bytes.proofs.ListLaws.{map_take_more}
 
 -- ---- the record of an id
 
@@ -342,38 +341,30 @@ looked_refused records bytes why reason = record { item = refused_class why; is 
 -- ---- all class files
 
 -- those so far were looked at, and none clashes
--- what is read of a list at an index is there
-pub read_at : {X : Type 0} (xs : List X) (i : ℕ) (d : X) → get_or xs i d ≡ get_or xs i (get_or xs i d)
-read_at [] i d = refl
-read_at (x ∷ xs) zero d = refl
-read_at (x ∷ xs) (suc i) d = read_at xs i d
-
 pub record Looking (records : List ClassHits) (paths : List Word) (texts : List (List ℕ)) (looked : Looked) : Type 0 where
   pub items : List ReportedFile
   pub are : AreItems texts items
   pub none : first_clash records items ≡ None
   pub report : IsReportOf records paths items looked
 
-pub looking_none : (records : List ClassHits) (paths : List (Bor Word)) (texts : List (List ℕ)) (looked : Looked) → looked.lines.items ≡ [] → looked.classes.items ≡ []
-    → looked.ids.keys ≡ [] → Looking records (texts_of (take 0 paths)) (take 0 texts) looked
+pub looking_none : (records : List ClassHits) (paths : List Word) (texts : List (List ℕ)) (looked : Looked) → looked.lines.items ≡ [] → looked.classes.items ≡ []
+    → looked.ids.keys ≡ [] → Looking records (take 0 paths) (take 0 texts) looked
 looking_none records paths texts looked lines classes keys =
     record { items = []; are = tt; none = refl; report = record { lines = ap (map write_seen) lines; classes = classes; ids = keys } }
 
-module _ (records : List ClassHits) (words : List (Bor Word)) (texts : List (List ℕ)) (i : ℕ) (t : List ℕ) (old : Looked)
-    (same : length texts ≡ length words) (within : i < length texts) (text : t ≡ get_or texts i t)
-    (so_far : Looking records (texts_of (take i words)) (take i texts) old) where
+module _ (records : List ClassHits) (paths : List Word) (texts : List (List ℕ)) (i : ℕ) (t : List ℕ) (old : Looked)
+    (same : length texts ≡ length paths) (within : i < length texts) (text : t ≡ get_or texts i t)
+    (so_far : Looking records (take i paths) (take i texts) old) where
   longer : take (i + 1) texts ≡ take i texts ++ t ∷ []
   longer = take_more texts i t within ∙ ap (λ (u : List ℕ). take i texts ++ u ∷ []) (sym text)
 
-  looking_on : (w : Bor Word) (path : Word) (new : Looked) → w ≡ get_or words i w → path ≡ w.now
-      → LooksOn records path t old new → Looking records (texts_of (take (i + 1) words)) (take (i + 1) texts) new
-  looking_on w path new word path_is looks =
+  looking_on : (path : Word) (new : Looked) → path ≡ get_or paths i [] → LooksOn records path t old new → Looking records (take (i + 1) paths) (take (i + 1) texts) new
+  looking_on path new path_is looks =
       let many = as_many_items (take i texts) so_far.items so_far.are in
-      let short : length (texts_of (take i words)) ≡ length so_far.items =
-      omega (arith, length-map (take i words) (λ (b : Bor Word). b.now), length-take i words, length-take i texts, many, same) in
-      let step = looks (texts_of (take i words)) so_far.items short so_far.report in
-      let more : texts_of (take (i + 1) words) ≡ texts_of (take i words) ++ path ∷ [] =
-      map_take_more (λ (b : Bor Word). b.now) words i w (omega (arith, same, within)) word ∙ ap (λ (p : Word). texts_of (take i words) ++ p ∷ []) (sym path_is) in
+      let short : length (take i paths) ≡ length so_far.items = omega (arith, length-take i paths, length-take i texts, many, same) in
+      let step = looks (take i paths) so_far.items short so_far.report in
+      let more : take (i + 1) paths ≡ take i paths ++ path ∷ [] =
+      take_more paths i [] (omega (arith, same, within)) ∙ ap (λ (p : Word). take i paths ++ p ∷ []) (sym path_is) in
       record {
         items = so_far.items ++ step.0 ∷ [];
         are =
@@ -392,34 +383,33 @@ module _ (records : List ClassHits) (words : List (Bor Word)) (texts : List (Lis
     clash_behind records so_far.items clash.0 (Some refusal) so_far.none clash.2,
   )
 
-module _ (records : List ClassHits) (data_path : Option Word) (words : List (Bor Word)) (texts : List (List ℕ))
+module _ (records : List ClassHits) (data_path : Option Word) (paths : List Word) (texts : List (List ℕ))
     (answers : List (Result Seen Stop)) (are : AllZip (IsLooked records data_path) texts answers) (n index : ℕ) (answer : Result Seen Stop)
-    (old : Looked) (same : length texts ≡ length words) (place : AtPlace answers n index answer)
-    (so_far : Looking records (texts_of (take n words)) (take n texts) old) where
+    (old : Looked) (same : length texts ≡ length paths) (place : AtPlace answers n index answer)
+    (so_far : Looking records (take n paths) (take n texts) old) where
   own : (t : List ℕ) × (t ≡ get_or texts n t) × IsLooked records data_path t answer
   own = zipped_at (IsLooked records data_path) texts answers n answer are place.within place.at
 
   within : n < length texts
   within = let long = AllZip-long (IsLooked records data_path) texts answers are in omega (arith, place.within, long)
 
-  pub looked_on : (seen : Seen) (w : Bor Word) (path : Word) (new : Looked) → answer ≡ Ok seen → w ≡ get_or words index w
-      → path ≡ w.now → ((bytes : Word) → IsSeen records bytes seen → LooksOn records path bytes old new)
-      → Looking records (texts_of (take (n + 1) words)) (take (n + 1) texts) new
-  looked_on seen w path new is word path_is looks =
-      let at : w ≡ get_or words n w = word ∙ ap (λ (k : ℕ). get_or words k w) place.index_is in
+  pub looked_on : (seen : Seen) (path : Word) (new : Looked) → answer ≡ Ok seen → path ≡ get_or paths index []
+      → ((bytes : Word) → IsSeen records bytes seen → LooksOn records path bytes old new) → Looking records (take (n + 1) paths) (take (n + 1) texts) new
+  looked_on seen path new is path_is looks =
+      let at : path ≡ get_or paths n [] = path_is ∙ ap (λ (k : ℕ). get_or paths k []) place.index_is in
       let seen_is = subst (IsLooked records data_path own.0) is own.2 in
-      looking_on records words texts n own.0 old same within own.1 so_far w path new at path_is (looks own.0 seen_is)
+      looking_on records paths texts n own.0 old same within own.1 so_far path new at (looks own.0 seen_is)
 
   pub looked_stops : (stop : Stop) → answer ≡ Err stop → StopsAtClash data_path (FrontClashes records texts) stop
   looked_stops stop is =
       stops_for data_path (FileClashes records own.0) (FrontClashes records texts)
-      (front_clashes records words texts n own.0 old same within own.1 so_far) stop (subst (IsLooked records data_path own.0) is own.2)
+      (front_clashes records paths texts n own.0 old same within own.1 so_far) stop (subst (IsLooked records data_path own.0) is own.2)
 
-pub looked_at_all : (records : List ClassHits) (words : List (Bor Word)) (texts : List (List ℕ)) (i : ℕ) (looked : Looked) → length texts ≡ length words
-    → length texts ≤ i → Looking records (texts_of (take i words)) (take i texts) looked → LooksAtAll records (texts_of words) texts looked
-looked_at_all records words texts i looked same all so_far = (
+pub looked_at_all : (records : List ClassHits) (paths : List Word) (texts : List (List ℕ)) (i : ℕ) (looked : Looked) → length texts ≡ length paths
+    → length texts ≤ i → Looking records (take i paths) (take i texts) looked → LooksAtAll records paths texts looked
+looked_at_all records paths texts i looked same all so_far = (
   so_far.items,
   subst (λ (ts : List (List ℕ)). AreItems ts so_far.items) (take_all i texts all) so_far.are,
   so_far.none,
-  subst (λ (ws : List (Bor Word)). IsReportOf records (texts_of ws) so_far.items looked) (take_all i words (omega (arith, all, same))) so_far.report,
+  subst (λ (ps : List Word). IsReportOf records ps so_far.items looked) (take_all i paths (omega (arith, all, same))) so_far.report,
 )

@@ -10,9 +10,8 @@ ghost use Rattle.jc_command_work.specs.Answered.{AnswersWith, Prepares};
 ghost use Rattle.jc_command_work.specs.Handed.{BetweenFiles};
 
 use crate::each::each_answer;
-use crate::inputs::read_files;
 use jc_bytes::{Bytes, Fail, Memory, Refusal};
-use jc_command_work::{Stop, Write, class_stop, keep};
+use jc_command_work::{InputFiles, Stop, Write, class_stop, keep, read_listed};
 use jc_instrument::analyse;
 use jc_methods::{Analysed, Body};
 use jc_outside::Files;
@@ -119,20 +118,17 @@ fn all_listings<R: Threads + Sync>(
 fn listings<'a, R: Threads + Sync>(
     rt: &R,
     alloc: Global,
-    paths: &'a [String],
-    texts: Vec<Bytes>,
+    inputs: &InputFiles<'a>,
 ) -> Result<Vec<Write<'a>>, Stop<'a>>
-    requires few { length paths.now < 2 ^ 32 }
-    requires each { length texts.items ≡ length paths.now }
-    requires short { All (λ t. length t ≤ most_read) texts.items }
-    ensures { AnswersWith (ListAnswers (words_of paths.entry.now) texts.items) result }
+    requires { length inputs.now.paths < 2 ^ 32 }
+    ensures { AnswersWith (ListAnswers inputs.entry.now.paths inputs.entry.now.texts) result }
 {
-    let answers = all_listings(rt, alloc, &texts)?;
+    let answers = all_listings(rt, alloc, inputs.texts())?;
     let mut writes = Vec::new(alloc);
     'listing: for (index, answer) in answers.into_iter().enumerate() {
         match answer {
             Ok(text) => keep(&mut writes, text)?,
-            Err(fail) => return Err(class_stop(fail, index as u32, paths[index].as_str())),
+            Err(fail) => return Err(class_stop(fail, index as u32, inputs.path(index))),
         }
     }
     Ok(writes)
@@ -149,6 +145,6 @@ pub fn prepare_class_info<'a, R: Threads + Sync, F: Files>(
     ensures { BetweenFiles F.Files files.old files.new (Prepares F.landed (words_of paths.entry.now)
         (ListAnswers (words_of paths.entry.now))) result }
 {
-    let texts = read_files(alloc, files, paths)?;
-    listings(rt, alloc, paths, texts)
+    let inputs = read_listed(alloc, files, paths)?;
+    listings(rt, alloc, &inputs)
 }

@@ -9,13 +9,12 @@ ghost use Rattle.jc_command_classes.specs.Report.{record_of, clash_with};
 ghost use Rattle.jc_command_classes.specs.ReportSteps.{counted_of, counted_by, data_records, data_path, StopsAtClash, ClassClashes, IsLooked, IsSeen, SeesClass};
 ghost use Rattle.jc_command_classes.specs.ReportSteps.{KeepsRefused, Keeps, LooksOn, LooksAtAll, FrontClashes};
 ghost use Rattle.jc_command_work.specs.Step.{Word};
-ghost use Rattle.jc_command_work.specs.Seen.{texts_of};
 
 use crate::each::each_answer;
 use crate::lines::refused_line;
 use indexmap::IndexSet;
 use jc_bytes::{Bytes, Fail, Memory, Refusal};
-use jc_command_work::{Stop, Write, exec_stop};
+use jc_command_work::{InputFiles, Stop, Write, exec_stop};
 use jc_cover::{counters, covered};
 use jc_exec::{ClassHits, ExecStore, check_fits};
 use jc_instrument::analyse;
@@ -240,22 +239,19 @@ pub fn look_at_all<'a, R: Threads + Sync>(
     rt: &R,
     alloc: Global,
     exec_data: Option<&Data<'a>>,
-    paths: &[&str],
-    texts: Vec<Bytes>,
+    inputs: &InputFiles<'_>,
 ) -> Result<Looked<'a>, Stop<'a>>
-    requires each { length texts.items ≡ length paths.now }
-    requires short { All (λ t. length t ≤ most_read) texts.items }
-    ensures all { IfOk result (LooksAtAll (data_records exec_data.entry) (texts_of paths.now) texts.items) }
-    ensures clash { IfErr result (StopsAtClash (data_path exec_data.entry) (FrontClashes (data_records exec_data.entry) texts.items)) }
+    ensures all { IfOk result (LooksAtAll (data_records exec_data.entry) inputs.now.paths inputs.now.texts) }
+    ensures clash { IfErr result (StopsAtClash (data_path exec_data.entry) (FrontClashes (data_records exec_data.entry) inputs.now.texts)) }
 {
-    let answers = look_at_each(rt, alloc, exec_data, &texts)?;
+    let answers = look_at_each(rt, alloc, exec_data, inputs.texts())?;
     let mut looked = Looked {
         lines: Vec::new(alloc),
         classes: Vec::new(alloc),
         ids: IndexSet::new(alloc),
     };
     'looking: for (index, answer) in answers.into_iter().enumerate() {
-        keep_seen(alloc, &mut looked, paths[index], answer?)?;
+        keep_seen(alloc, &mut looked, inputs.path(index), answer?)?;
     }
     Ok(looked)
 }

@@ -9,10 +9,9 @@ ghost use Rattle.jc_command_work.specs.Seen.{write_seen, Puts};
 ghost use Rattle.jc_command_work.specs.Seen.{words_of};
 
 use crate::each::{all_made, each_answer};
-use crate::inputs::read_files;
 use crate::lines::{accepted_line, refused_line};
 use jc_bytes::{Bytes, Fail, Memory, Refusal};
-use jc_command_work::{Stop, Write};
+use jc_command_work::{InputFiles, Stop, Write, read_listed};
 use jc_instrument::{Instrumented, instrument};
 use jc_outside::Files;
 use std::alloc::Global;
@@ -106,22 +105,20 @@ fn all_writes<'a, R: Threads + Sync>(
     rt: &R,
     alloc: Global,
     targets: &'a [String],
-    paths: &[String],
-    texts: Vec<Bytes>,
+    inputs: InputFiles<'_>,
 ) -> Result<Vec<Write<'a>>, Memory>
-    requires targets { length targets.now ≡ length paths.now }
-    requires each { length texts.items ≡ length paths.now }
-    requires short { All (λ t. length t ≤ most_read) texts.items }
-    ensures { IfOk result (λ writes. AreFileWrites (words_of targets.entry.now) (words_of paths.now) texts.items (map write_seen writes.items)) }
+    requires { length targets.now ≡ length inputs.paths }
+    ensures { IfOk result (λ writes. AreFileWrites (words_of targets.entry.now) inputs.entry.paths inputs.entry.texts (map write_seen writes.items)) }
 {
-    let all = decide_all(rt, alloc, &texts)?;
+    let all = decide_all(rt, alloc, inputs.texts())?;
+    let (paths, texts) = inputs.into_parts();
     let mut writes = Vec::new(alloc);
     'instrumenting: for (index, (decided, bytes)) in all.into_iter().zip(texts).enumerate() {
         put_file(
             alloc,
             &mut writes,
             targets[index].as_str(),
-            paths[index].as_str(),
+            paths[index],
             bytes,
             decided,
         )?;
@@ -141,6 +138,6 @@ pub fn prepare_instrument<'a, R: Threads + Sync, F: Files>(
     ensures { BetweenFiles F.Files files.old files.new (Prepares F.landed (words_of paths.entry.now)
         (InstrumentAnswers (words_of targets.entry.now) (words_of paths.entry.now))) result }
 {
-    let texts = read_files(alloc, files, paths)?;
-    Ok(all_writes(rt, alloc, targets, paths, texts)?)
+    let inputs = read_listed(alloc, files, paths)?;
+    Ok(all_writes(rt, alloc, targets, inputs)?)
 }

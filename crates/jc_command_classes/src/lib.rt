@@ -4,12 +4,13 @@
 mod class_info;
 mod class_report;
 mod each;
-mod inputs;
 mod instrument;
 mod lines;
+mod options;
 mod report;
 
 pub use class_info::prepare_class_info;
 pub use class_report::Data;
 pub use instrument::{Decided, decide_all, decided_line, prepare_instrument};
+pub use options::ReportOptions;
 pub use report::{ExecInput, csv_of_files, prepare_report};

@@ -1,5 +1,5 @@
 //! The command `report`.
-ghost use Rattle.std.specs.Prelude.{◌≡◌, ◌≤◌, ◌<◌, ◌^◌, ◌∷◌, ◌++◌, [], All, Some, None, length, map, IfOk, IfSome};
+ghost use Rattle.std.specs.Prelude.{◌≡◌, ◌≤◌, ◌<◌, ◌^◌, ◌∷◌, ◌++◌, [], Some, None, length, map, IfOk, IfSome};
 ghost use Rattle.jc_bytes.specs.Reader.{most_read};
 ghost use Rattle.jc_command_classes.specs.Report.{report_text, ReportAnswers};
 ghost use Rattle.jc_command_classes.specs.ReportSteps.{data_records, data_path, exec_path, exec_texts, CountsFiles, ReportsWith};
@@ -8,10 +8,10 @@ ghost use Rattle.jc_command_work.specs.Answered.{AnswersWith, Prepares};
 ghost use Rattle.jc_command_work.specs.Handed.{BetweenFiles};
 
 use crate::class_report::{Data, Looked, look_at_all};
-use crate::inputs::read_files;
+use crate::options::ReportOptions;
 use jc_bytes::{Bytes, Memory};
 use jc_command_exec::data_of;
-use jc_command_work::{Stop, Write, as_texts, exec_stop};
+use jc_command_work::{InputFiles, Stop, Write, exec_stop, read_listed};
 use jc_outside::Files;
 use jc_report::{Counted, csv_text, rows};
 use std::alloc::Global;
@@ -50,24 +50,19 @@ fn with_file<'a>(
 fn reported<'a, R: Threads + Sync>(
     rt: &R,
     alloc: Global,
-    out: &'a str,
-    name: &str,
+    options: &ReportOptions<'a>,
     exec_data: Option<&Data<'a>>,
-    paths: &[String],
-    texts: Vec<Bytes>,
+    inputs: &InputFiles<'_>,
 ) -> Result<Vec<Write<'a>>, Stop<'a>>
-    requires each { length texts.items ≡ length paths.now }
-    requires short { All (λ t. length t ≤ most_read) texts.items }
-    ensures { ReportsWith out.entry.now name.now (data_records exec_data.entry) (data_path exec_data.entry)
-        (words_of paths.now) texts.items result }
+    ensures { ReportsWith options.entry.now.csv.now options.entry.now.name.now (data_records exec_data.entry) (data_path exec_data.entry)
+        inputs.now.paths inputs.now.texts result }
 {
-    let names = as_texts(alloc, paths)?;
-    let looked = look_at_all(rt, alloc, exec_data, &names, texts)?;
-    let bytes = csv_of(alloc, name, &looked.classes)?;
-    Ok(with_file(looked.lines, out, bytes)?)
+    let looked = look_at_all(rt, alloc, exec_data, inputs)?;
+    let bytes = csv_of(alloc, options.name, &looked.classes)?;
+    Ok(with_file(looked.lines, options.csv, bytes)?)
 }
 
-/// The CSV text of class files, given by their paths and their bytes, by execution data. A class file that is refused has no
+/// The CSV text of class files, by execution data. A class file that is refused has no
 /// row, and no line is made of it.
 ///
 /// It stops where memory is refused, and where a record of the execution data clashes with a class: the stop then names the
@@ -77,14 +72,11 @@ pub fn csv_of_files<'a, R: Threads + Sync>(
     alloc: Global,
     name: &str,
     exec_data: &Data<'a>,
-    paths: &[&str],
-    texts: Vec<Bytes>,
+    inputs: &InputFiles<'_>,
 ) -> Result<Vec<u8>, Stop<'a>>
-    requires each { length texts.items ≡ length paths.now }
-    requires short { All (λ t. length t ≤ most_read) texts.items }
-    ensures { CountsFiles name.now exec_data.entry.now.store.classes (Some exec_data.entry.now.path.now) texts.items result }
+    ensures { CountsFiles name.now exec_data.entry.now.store.classes (Some exec_data.entry.now.path.now) inputs.now.texts result }
 {
-    let looked = look_at_all(rt, alloc, Some(exec_data), paths, texts)?;
+    let looked = look_at_all(rt, alloc, Some(exec_data), inputs)?;
     Ok(csv_of(alloc, name, &looked.classes)?)
 }
 
@@ -92,40 +84,34 @@ pub fn csv_of_files<'a, R: Threads + Sync>(
 fn reported_without_data<'a, R: Threads + Sync>(
     rt: &R,
     alloc: Global,
-    out: &'a str,
-    name: &str,
-    paths: &[String],
-    texts: Vec<Bytes>,
+    options: &ReportOptions<'a>,
+    inputs: &InputFiles<'_>,
 ) -> Result<Vec<Write<'a>>, Stop<'a>>
-    requires each { length texts.items ≡ length paths.now }
-    requires short { All (λ t. length t ≤ most_read) texts.items }
-    ensures { AnswersWith (ReportAnswers out.entry.now name.now None (words_of paths.now) texts.items) result }
+    ensures { AnswersWith (ReportAnswers options.entry.now.csv.now options.entry.now.name.now None inputs.now.paths inputs.now.texts) result }
 {
-    reported(rt, alloc, out, name, None, paths, texts)
+    reported(rt, alloc, options, None, inputs)
 }
 
 /// The writes of a report by the execution data of a file.
 fn reported_by_data<'a, R: Threads + Sync>(
     rt: &R,
     alloc: Global,
-    out: &'a str,
-    name: &str,
-    exec: &'a str,
-    bytes: &[u8],
-    paths: &[String],
-    texts: Vec<Bytes>,
+    options: &ReportOptions<'a>,
+    exec: &ExecInput<'a>,
+    inputs: &InputFiles<'_>,
 ) -> Result<Vec<Write<'a>>, Stop<'a>>
-    requires exec_short { length bytes.now ≤ most_read }
-    requires each { length texts.items ≡ length paths.now }
-    requires short { All (λ t. length t ≤ most_read) texts.items }
-    ensures { AnswersWith (ReportAnswers out.entry.now name.now (Some exec.entry.now) (words_of paths.now) (bytes.now ∷ texts.items)) result }
+    requires { length exec.now.bytes ≤ most_read }
+    ensures { AnswersWith (ReportAnswers options.entry.now.csv.now options.entry.now.name.now (Some exec.entry.now.path.now) inputs.now.paths (exec.now.bytes ∷ inputs.now.texts)) result }
 {
-    match data_of(alloc, bytes) {
+    match data_of(alloc, &exec.bytes) {
         Ok(store) => {
-            let exec_data = Data { path: exec, store };
-            reported(rt, alloc, out, name, Some(&exec_data), paths, texts)
+            let exec_data = Data {
+                path: exec.path,
+                store,
+            };
+            reported(rt, alloc, options, Some(&exec_data), inputs)
         }
-        Err(fail) => Err(exec_stop(fail, 0, exec)),
+        Err(fail) => Err(exec_stop(fail, 0, exec.path)),
     }
 }
 
@@ -133,20 +119,16 @@ fn reported_by_data<'a, R: Threads + Sync>(
 fn reported_of<'a, R: Threads + Sync>(
     rt: &R,
     alloc: Global,
-    out: &'a str,
-    name: &str,
+    options: &ReportOptions<'a>,
     exec: Option<ExecInput<'a>>,
-    paths: &[String],
-    texts: Vec<Bytes>,
+    inputs: &InputFiles<'_>,
 ) -> Result<Vec<Write<'a>>, Stop<'a>>
-    requires exec_short { IfSome exec (λ e. length e.bytes ≤ most_read) }
-    requires each { length texts.items ≡ length paths.now }
-    requires short { All (λ t. length t ≤ most_read) texts.items }
-    ensures { AnswersWith (ReportAnswers out.entry.now name.now (exec_path exec.entry) (words_of paths.now) (exec_texts exec.entry ++ texts.items)) result }
+    requires { IfSome exec (λ e. length e.bytes ≤ most_read) }
+    ensures { AnswersWith (ReportAnswers options.entry.now.csv.now options.entry.now.name.now (exec_path exec.entry) inputs.now.paths (exec_texts exec.entry ++ inputs.now.texts)) result }
 {
     match exec {
-        None => reported_without_data(rt, alloc, out, name, paths, texts),
-        Some(exec) => reported_by_data(rt, alloc, out, name, exec.path, &exec.bytes, paths, texts),
+        None => reported_without_data(rt, alloc, options, inputs),
+        Some(exec) => reported_by_data(rt, alloc, options, &exec, inputs),
     }
 }
 
@@ -155,16 +137,15 @@ pub fn prepare_report<'a, R: Threads + Sync, F: Files>(
     rt: &R,
     alloc: Global,
     files: &mut F,
-    out: &'a str,
-    name: &str,
+    options: &ReportOptions<'a>,
     exec: Option<ExecInput<'a>>,
     paths: &'a [String],
 ) -> Result<Vec<Write<'a>>, Stop<'a>>
     requires { IfSome exec (λ e. length e.bytes ≤ most_read) }
     ensures { BetweenFiles F.Files files.old files.new (Prepares F.landed (words_of paths.entry.now)
-        (λ read. ReportAnswers out.entry.now name.now (exec_path exec.entry) (words_of paths.entry.now)
+        (λ read. ReportAnswers options.entry.now.csv.now options.entry.now.name.now (exec_path exec.entry) (words_of paths.entry.now)
         (exec_texts exec.entry ++ read))) result }
 {
-    let texts = read_files(alloc, files, paths)?;
-    reported_of(rt, alloc, out, name, exec, paths, texts)
+    let inputs = read_listed(alloc, files, paths)?;
+    reported_of(rt, alloc, options, exec, &inputs)
 }

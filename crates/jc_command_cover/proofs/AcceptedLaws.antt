@@ -1,17 +1,15 @@
 -- The files that weren't refused, by their places among all files.
-use Rattle.std.proofs.Common.{◌≡◌, ℕ, suc, ◌+◌, ◌<◌, ◌≤◌, ◌^◌, List, [], ◌∷◌, All, length, map, get_or, refl, sym, ◌∙◌, ap, subst, arith}
+use Rattle.std.proofs.Common.{◌≡◌, ℕ, suc, ◌+◌, ◌<◌, ◌≤◌, ◌^◌, List, [], ◌∷◌, length, map, get_or, refl, sym, ◌∙◌, ap, subst₂, arith}
 use Rattle.std.proofs.lemmas.List.{get_or-map, length-map}
-use Rattle.std.proofs.lemmas.List.Elements.{All-nil, All-cons, All-head, All-tail}
 use Rattle.std.proofs.lemmas.Simd.{map-map}
 use Rattle.std.specs.Borrow.{Bor}
-use Rattle.jc_bytes.specs.Reader.{most_read}
 use Rattle.jc_paths.specs.Paths.{in_folder}
 use Rattle.jc_command_work.specs.Seen.{texts_of}
-use Rattle.jc_command_work.specs.Step.{Word}
+use Rattle.jc_command_work.specs.Step.{Word, AreTexts}
 use Rattle.jc_command_cover.specs.Accepted.{AreAccepted, AreWhole}
 use Rattle.jc_command_cover.specs.declared.accepted.Accepted.{Accepted}
 use Rattle.jc_command_classes.specs.Instrument.{Decision, refused_file, accepted_file}
-use Rattle.jc_headline.specs.CoverWork.{LookedFile, accepted, kept_if, place_if, places_from, path_of, paths_in, texts_in, accepted_texts, targets}
+use Rattle.jc_headline.specs.CoverWork.{LookedFile, accepted, kept_if, place_if, places_from, path_of, paths_in, texts_in, accepted_texts}
 use Rattle.jc_command_run.specs.RunAnswers.{path_at}
 
 -- ---- places
@@ -50,13 +48,19 @@ path_among ls index less =
 
 -- ---- all that is kept of them
 
-all_accepted : (P : List ℕ → Type 0) (ls : List LookedFile) → All P (texts_in ls) → All P (accepted_texts ls)
-all_accepted P [] all = All-nil P
-all_accepted P (l ∷ ls) all = by l.decision (all_accepted P ls (All-tail P l.bytes (texts_in ls) all))
+read_accepted : (ls : List LookedFile) → AreTexts (paths_in ls) (texts_in ls) → AreTexts (paths_in (accepted ls)) (accepted_texts ls)
+read_accepted [] are = tt
+read_accepted (l ∷ ls) are = by l.decision (read_accepted ls are.1)
   where
-    by : (d : Decision) → All P (accepted_texts ls) → All P (texts_in (kept_if d l (accepted ls)))
+    by : (d : Decision) → AreTexts (paths_in (accepted ls)) (accepted_texts ls) → AreTexts (paths_in (kept_if d l (accepted ls))) (texts_in (kept_if d l (accepted ls)))
     by (refused_file why) rest = rest
-    by (accepted_file a) rest = All-cons P l.bytes (accepted_texts ls) (All-head P l.bytes (texts_in ls) all) rest
+    by (accepted_file a) rest = (are.0, rest)
+
+-- the texts that are kept are those of the paths that are kept
+pub kept_texts : (looked : List LookedFile) (paths kept_paths : List Word) (texts kept : List (List ℕ)) → paths ≡ paths_in looked → texts ≡ texts_in looked
+    → kept_paths ≡ paths_in (accepted looked) → kept ≡ accepted_texts looked → AreTexts paths texts → AreTexts kept_paths kept
+kept_texts looked paths kept_paths texts kept paths_are texts_are kept_paths_are kept_are read =
+    subst₂ AreTexts (sym kept_paths_are) (sym kept_are) (read_accepted looked (subst₂ AreTexts paths_are texts_are read))
 
 as_few : (ls : List LookedFile) → length (accepted ls) ≤ length ls
 as_few [] = omega arith
@@ -66,23 +70,18 @@ as_few (l ∷ ls) = by l.decision (as_few ls)
     by (refused_file why) less = omega (arith, less)
     by (accepted_file a) less = omega (arith, less)
 
-pub are_accepted : (dest : Word) (looked : List LookedFile) (those : Accepted) (texts : List (List ℕ)) → length texts < 2 ^ 32 → All (λ t. length t ≤ most_read) texts → texts ≡ texts_in looked
-    → those.places.items ≡ places_from 0 looked → texts_of those.paths.items ≡ paths_in (accepted looked)
-    → texts_of those.targets.items ≡ map (λ (l : LookedFile). in_folder dest l.file) (accepted looked) → those.texts.items ≡ accepted_texts looked
+pub are_accepted : (dest : Word) (looked : List LookedFile) (those : Accepted) (paths : List Word) → length paths < 2 ^ 32 → paths ≡ paths_in looked
+    → those.places.items ≡ places_from 0 looked → those.inputs.paths ≡ paths_in (accepted looked)
+    → texts_of those.targets.items ≡ map (λ (l : LookedFile). in_folder dest l.file) (accepted looked) → those.inputs.texts ≡ accepted_texts looked
     → AreWhole those × AreAccepted dest looked those
-are_accepted dest looked those texts few short texts_are places_are paths_are targets_are kept =
+are_accepted dest looked those paths few all places_are paths_are targets_are kept =
     let ls = accepted looked in
-    let many : length those.texts.items ≡ length ls = ap length kept ∙ length-map ls (λ (l : LookedFile). l.bytes) in
-    let some : length texts ≡ length looked = ap length texts_are ∙ length-map looked (λ (l : LookedFile). l.bytes) in
-    let at_most = as_few looked in
-    let counted : (found : List (Bor (List ℕ))) (words : LookedFile → Word) → texts_of found ≡ map words ls → length found ≡ length those.texts.items =
-    λ found words are. sym (length-map found (λ (t : Bor (List ℕ)). t.now)) ∙ ap length are ∙ length-map ls words ∙ sym many in (
+    let many : length those.inputs.paths ≡ length ls = ap length paths_are ∙ length-map ls (λ (l : LookedFile). l.file) in
+    let some : length paths ≡ length looked = ap length all ∙ length-map looked (λ (l : LookedFile). l.file) in
+    let at_most = as_few looked in (
       record {
         few = omega (arith, few, many, some, at_most);
-        places = ap length places_are ∙ as_many_places 0 looked ∙ sym many;
-        paths = counted those.paths.items (λ l. l.file) paths_are;
-        targets = counted those.targets.items (λ l. in_folder dest l.file) targets_are;
-        short = subst (All (λ t. length t ≤ most_read)) (sym kept) (all_accepted (λ t. length t ≤ most_read) looked (subst (All (λ t. length t ≤ most_read)) texts_are short));
+        targets = sym (length-map those.targets.items (λ (t : Bor (List ℕ)). t.now)) ∙ ap length targets_are ∙ length-map ls (λ (l : LookedFile). in_folder dest l.file) ∙ sym many;
       },
       record {
         places = places_are;
@@ -91,7 +90,3 @@ are_accepted dest looked those texts few short texts_are places_are paths_are ta
         texts = kept;
       },
     )
-
-pub as_many_targets : (dest : Word) (looked : List LookedFile) (found : List (Bor (List ℕ))) → texts_of found ≡ targets dest looked → length found ≡ length (accepted looked)
-as_many_targets dest looked found are =
-    sym (length-map found (λ (t : Bor (List ℕ)). t.now)) ∙ ap length are ∙ length-map (paths_in (accepted looked)) (in_folder dest) ∙ length-map (accepted looked) (λ (l : LookedFile). l.file)

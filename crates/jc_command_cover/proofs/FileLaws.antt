@@ -1,7 +1,7 @@
 -- Files that are looked at, and then written one after the other.
 use Rattle.std.proofs.Common.{◌≡◌, ℕ, ◌+◌, ◌<◌, ◌≤◌, List, [], ◌∷◌, ◌++◌, suc, length, drop, get_or, map, Option, None, Result, Ok, Err, Vec, inl, String, string_bytes, refl, sym, ◌∙◌, ap, ap₂, subst, arith, append_assoc, append-nil, drop-cons, add-one}
 use Rattle.std.specs.List.{AllZip}
-use Rattle.std.proofs.lemmas.List.{drop_all, get_or-map, length-map}
+use Rattle.std.proofs.lemmas.List.{drop_all, get_or-map, get_or_default, length-map}
 use Rattle.std.specs.declared.alloc.Global.{Global}
 use Rattle.jc_paths.specs.Paths.{in_folder}
 use Rattle.jc_command_work.specs.declared.stop.Stop.{Stop}
@@ -84,16 +84,25 @@ named_at : (xs : List (String Global)) (i index : ℕ) (s : String Global) (w : 
 named_at xs i index s w within index_is at named =
     named ∙ ap string_bytes (at ∙ ap (λ (k : ℕ). get_or xs k s) index_is) ∙ sym (get_or-map string_bytes xs i s w within)
 
-text_at : (texts : List (List ℕ)) (i index : ℕ) (b t : List ℕ) → index ≡ i → b ≡ get_or texts index b → t ≡ b → t ≡ get_or texts i t
-text_at texts i index b t index_is at same = subst (λ (u : List ℕ). u ≡ get_or texts i u) (sym same) (at ∙ ap (λ (k : ℕ). get_or texts k b) index_is)
+item_at : (items : List (List ℕ)) (i index : ℕ) (b t : List ℕ) → i < length items → index ≡ i → b ≡ get_or items index [] → t ≡ b → t ≡ get_or items i t
+item_at items i index b t within index_is at same = same ∙ at ∙ ap (λ (k : ℕ). get_or items k []) index_is ∙ get_or_default items i [] t within
 
-module _ (dest : Word) (looked : List LookedFile) (targets paths : List (String Global)) (texts : List (List ℕ)) (all : List Decided)
-    (of : AreOf dest looked (words_of targets) (words_of paths) texts (map decision_seen all)) where
+module _ (dest : Word) (looked : List LookedFile) (targets : List (String Global)) (paths : List Word) (texts : List (List ℕ)) (all : List Decided)
+    (of : AreOf dest looked (words_of targets) paths texts (map decision_seen all)) where
   pub as_many_files : length looked ≡ length all
   as_many_files = omega (arith, ap length of.decisions_are, length-map all decision_seen, length-map looked (λ (x : LookedFile). x.decision))
 
+  as_many_targets : length targets ≡ length looked
+  as_many_targets = omega (arith, ap length of.targets_are, length-map targets string_bytes, length-map looked (λ (x : LookedFile). in_folder dest x.file))
+
+  as_many_paths : length paths ≡ length looked
+  as_many_paths = ap length of.paths_are ∙ length-map looked (λ (x : LookedFile). x.file)
+
+  as_many_texts : length texts ≡ length looked
+  as_many_texts = ap length of.texts_are ∙ length-map looked (λ (x : LookedFile). x.bytes)
+
   module _ (i : ℕ) (target path : Word) (t : List ℕ) (d : Decision) (inside : i < length looked) where
-    next_file : target ≡ get_or (words_of targets) i target → path ≡ get_or (words_of paths) i path → t ≡ get_or texts i t → d ≡ get_or (map decision_seen all) i d
+    next_file : target ≡ get_or (words_of targets) i target → path ≡ get_or paths i path → t ≡ get_or texts i t → d ≡ get_or (map decision_seen all) i d
         → IsNext dest looked i target path t d
     next_file at_target at_path at_text at_decision =
         let l : LookedFile = record { file = path; bytes = t; decision = d } in
@@ -112,17 +121,16 @@ module _ (dest : Word) (looked : List LookedFile) (targets paths : List (String 
         }
 
   -- the file of a turn of the loop
-  pub turn_file : (i index : ℕ) (target path : String Global) (b t : List ℕ) (decided : Decided) (target_path file : Word)
-      → length targets ≡ length paths → length texts ≡ length paths → length all ≡ length paths → AtPlace all i index decided
-      → target ≡ get_or targets index target → path ≡ get_or paths index path → b ≡ get_or texts index b → target_path ≡ string_bytes target → file ≡ string_bytes path → t ≡ b
-      → IsNext dest looked i target_path file t (decision_seen decided)
-  turn_file i index target path b t decided target_path file targets_many texts_many all_many place at_target at_path at_text named_target named_path same =
+  pub turn_file : (i index : ℕ) (target : String Global) (b t : List ℕ) (decided : Decided) (target_path path : Word) → AtPlace all i index decided
+      → target ≡ get_or targets index target → path ≡ get_or paths index [] → b ≡ get_or texts index [] → target_path ≡ string_bytes target → t ≡ b
+      → IsNext dest looked i target_path path t (decision_seen decided)
+  turn_file i index target b t decided target_path path place at_target at_path at_text named_target same =
       let within = place.within in
       let inside : i < length looked = omega (arith, within, as_many_files) in
-      next_file i target_path file t (decision_seen decided) inside
-      (named_at targets i index target target_path (omega (arith, within, targets_many, all_many)) place.index_is at_target named_target)
-      (named_at paths i index path file (omega (arith, within, all_many)) place.index_is at_path named_path)
-      (text_at texts i index b t place.index_is at_text same)
+      next_file i target_path path t (decision_seen decided) inside
+      (named_at targets i index target target_path (omega (arith, inside, as_many_targets)) place.index_is at_target named_target)
+      (item_at paths i index path path (omega (arith, inside, as_many_paths)) place.index_is at_path refl)
+      (item_at texts i index b t (omega (arith, inside, as_many_texts)) place.index_is at_text same)
       (ap decision_seen place.at ∙ sym (get_or-map decision_seen all i decided (decision_seen decided) within))
 
 -- ---- the loop

@@ -1,6 +1,5 @@
 -- The class files that weren't refused, and a run of them.
-use Rattle.std.specs.Prelude.{◌≡◌, ◌<◌, ◌≤◌, ◌^◌, ℕ, All, List, length, map}
-use Rattle.jc_bytes.specs.Reader.{most_read}
+use Rattle.std.specs.Prelude.{◌≡◌, ◌<◌, ◌^◌, ℕ, List, length, map}
 use Rattle.jc_paths.specs.Paths.{in_folder}
 use Rattle.jc_programs.specs.declared.program.Program.{Program}
 use Rattle.jc_programs.specs.declared.run_plan.RunPlan.{RunPlan}
@@ -21,29 +20,32 @@ pub record AreOfAll (dest : Word) (looked : List LookedFile) (paths written_to :
   pub texts_are : texts ≡ texts_in looked
   pub places_are : places ≡ places_from 0 looked
 
+-- so of some files
+pub record AreOfSome (paths written_to : List Word) (texts : List (List ℕ)) (places : List ℕ) : Type 0 where
+  pub dest : Word
+  pub looked : List LookedFile
+  pub of : AreOfAll dest looked paths written_to texts places
+
 -- these are the accepted ones of the files that were looked at
 pub record AreAccepted (dest : Word) (looked : List LookedFile) (those : Accepted) : Type 0 where
   pub places : those.places.items ≡ places_from 0 looked
-  pub paths : texts_of those.paths.items ≡ paths_in (accepted looked)
+  pub paths : those.inputs.paths ≡ paths_in (accepted looked)
   pub targets : texts_of those.targets.items ≡ targets dest looked
-  pub texts : those.texts.items ≡ accepted_texts looked
+  pub texts : those.inputs.texts ≡ accepted_texts looked
 
--- each has a place, two paths and a text that was read
+-- each was written to a path
 pub record AreWhole (those : Accepted) : Type 0 where
-  pub few : length those.texts.items < 2 ^ 32
-  pub places : length those.places.items ≡ length those.texts.items
-  pub paths : length those.paths.items ≡ length those.texts.items
-  pub targets : length those.targets.items ≡ length those.texts.items
-  pub short : All (λ t. length t ≤ most_read) those.texts.items
+  pub few : length those.inputs.paths < 2 ^ 32
+  pub targets : length those.targets.items ≡ length those.inputs.paths
 
 -- ---- a run of them
 
--- A run plan, files that were looked at, and a program: these are the accepted ones of the files, and this came of the run plan's
--- cases on the program.
-pub record RunOf (those : Accepted) (ran : Ran) : Type 0 where
+-- A run plan, files that were looked at, and a program: these are the texts of the accepted ones of the files, and this came of the
+-- run plan's cases on the program.
+pub record RunOf (texts : List (List ℕ)) (ran : Ran) : Type 0 where
   pub plan : RunPlan
   pub looked : List LookedFile
   pub program : Program
-  pub texts_are : those.texts.items ≡ accepted_texts looked
+  pub texts_are : texts ≡ accepted_texts looked
   pub store_is : ran.store ≡ run_store program plan
   pub text_is : ran.text.items ≡ case_texts program 1 plan.cases

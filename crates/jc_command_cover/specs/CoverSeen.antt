@@ -9,11 +9,11 @@ use Rattle.jc_command_work.specs.Step.{to_file, to_out}
 use Rattle.jc_command_work.specs.Part.{Command, done, ending, deciding, writing, ◌>>=◌, ◌>>◌}
 use Rattle.jc_command_run.specs.RunStore.{run_store}
 use Rattle.jc_headline.specs.CoverWork.{Cover, LookedFile, accepted_texts, IsReportText, IsClashEnd}
-use Rattle.jc_command_cover.specs.declared.words.CoverWords.{CoverWords}
+use Rattle.jc_command_cover.specs.declared.options.CoverOptions.{CoverOptions}
 
--- what the words say, with the files that they name
-abbrev pub cover_seen : CoverWords → List FileText → Cover
-cover_seen w files = record { dest = w.dest.now; plan = w.plan.now; exec = w.destfile.now; csv = w.csv.now; name = w.name.now; files = files }
+-- what the words say: what their options are given, and the files that they name
+abbrev pub cover_seen : CoverOptions → List FileText → Cover
+cover_seen o files = record { dest = o.dest.now; plan = o.plan.now; exec = o.destfile.now; csv = o.csv.now; name = o.name.now; files = files }
 
 -- the last part, of a program that was run: writes the execution data, reports on the originals, and writes what the cases print
 abbrev pub writing_results : Cover → RunPlan → List LookedFile → Program → Command

@@ -4,3 +4,4 @@ pub mod Deciding
 pub mod Accepted
 pub mod CoverSeen
 pub mod Placed
+pub mod Runs

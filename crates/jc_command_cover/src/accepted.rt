@@ -1,13 +1,13 @@
 //! The class files that weren't refused.
-ghost use Rattle.std.specs.Prelude.{◌≤◌, ◌<◌, ◌^◌, All, List, IfOk, length};
-ghost use Rattle.jc_bytes.specs.Reader.{most_read};
+ghost use Rattle.std.specs.Prelude.{◌<◌, ◌^◌, List, IfOk, length};
 ghost use Rattle.jc_headline.specs.CoverWork.{LookedFile};
-ghost use Rattle.jc_command_cover.specs.Accepted.{AreAccepted, AreOfAll, AreWhole};
+ghost use Rattle.jc_command_cover.specs.Accepted.{AreAccepted, AreOfAll, AreOfSome, AreWhole};
 ghost use Rattle.jc_command_work.specs.Seen.{texts_of};
 ghost use Rattle.jc_command_work.specs.Step.{Word};
 
 use crate::accepted_items::accepted_of;
-use jc_bytes::{Bytes, Memory};
+use jc_bytes::Memory;
+use jc_command_work::InputFiles;
 use std::alloc::Global;
 
 /// The class files that weren't refused, in order.
@@ -15,36 +15,34 @@ use std::alloc::Global;
 pub struct Accepted<'a> {
     /// The place of each among all files.
     pub places: Vec<u32>,
-    /// Its path.
-    pub paths: Vec<&'a str>,
     /// The path that it was written to.
     pub targets: Vec<&'a str>,
-    /// Its bytes as they were read.
-    pub texts: Vec<Bytes>,
+    /// Its own path, and its bytes as they were read.
+    pub inputs: InputFiles<'a>,
 }
 
-/// The accepted ones of class files, by their places: all files are given by their paths, by the paths that they were written
-/// to, and by their bytes as they were read.
+/// The accepted ones of class files, by their places: all files are given as they were read, and by the paths that they were
+/// written to.
 pub fn accepted_files<'a>(
     alloc: Global,
-    paths: Vec<&'a str>,
+    inputs: InputFiles<'a>,
     targets: Vec<&'a str>,
-    texts: Vec<Bytes>,
     places: Vec<u32>,
 ) -> Result<Accepted<'a>, Memory>
-    requires few { length texts.items < 2 ^ 32 }
-    requires short { All (λ t. length t ≤ most_read) texts.items }
+    requires few { length inputs.paths < 2 ^ 32 }
+    requires some { AreOfSome inputs.paths (texts_of targets.items) inputs.texts places.items }
     ensures { (dest : Word) (looked : List LookedFile)
-        → AreOfAll dest looked (texts_of paths.entry.items) (texts_of targets.entry.items) texts.items places.items
+        → AreOfAll dest looked inputs.entry.paths (texts_of targets.entry.items) inputs.entry.texts places.items
         → IfOk result (λ those. AreWhole those × AreAccepted dest looked those) }
 {
+    let (paths, texts) = inputs.into_parts();
     let paths = accepted_of(alloc, paths, &places)?;
     let targets = accepted_of(alloc, targets, &places)?;
     let texts = accepted_of(alloc, texts, &places)?;
+    let inputs = InputFiles::new(paths, texts);
     Ok(Accepted {
         places,
-        paths,
         targets,
-        texts,
+        inputs,
     })
 }

@@ -3,21 +3,20 @@ ghost use Rattle.std.specs.Prelude.{◌≡◌, ◌≤◌, ◌<◌, ◌^◌, List
 ghost use Rattle.jc_bytes.specs.Reader.{most_read};
 ghost use Rattle.jc_paths.specs.Paths.{FileText, in_folder};
 ghost use Rattle.jc_headline.specs.CoverWork.{covering};
-ghost use Rattle.jc_headline.specs.Runs.{Between};
 ghost use Rattle.jc_command_cover.specs.CoverSeen.{cover_seen};
 ghost use Rattle.jc_command_work.specs.Ending.{Ran};
+ghost use Rattle.jc_command_work.specs.Handed.{OnOutside};
 ghost use Rattle.jc_command_work.specs.Seen.{stop_seen, words_of};
 
 use crate::accepted::accepted_files;
 use crate::files::instrument_files;
+use crate::options::CoverOptions;
 use crate::running::run_accepted;
-use crate::words::CoverWords;
 use jc_bytes::Bytes;
 use jc_command_run::plan_of;
-use jc_command_work::{Stop, as_texts, read_all};
+use jc_command_work::{Outside, Resources, Stop, as_texts, read_listed};
 use jc_outside::{Files, Sink};
 use jc_workers::Gate;
-use std::alloc::Global;
 use std::marker::Sync;
 use std::thread::Threads;
 
@@ -36,29 +35,25 @@ use std::thread::Threads;
 /// method to begin with; and, once the execution data is written, a record of it that clashes with a class of the files as they
 /// were read at first, which names the file of execution data as the first input. `Memory` may come at any time.
 pub fn cover<'a, R: Threads + Sync, F: Files, O: Sink, E: Sink, G: Gate + Sync>(
-    rt: &R,
-    alloc: Global,
-    files: &mut F,
-    out: &mut O,
-    err: &mut E,
-    gate: &G,
-    words: &CoverWords<'a>,
+    resources: &Resources<'_, '_, R, G>,
+    outside: &mut Outside<'_, '_, '_, F, O, E>,
+    options: &CoverOptions<'a>,
     plan_text: &Bytes,
     paths: &'a [String],
     targets: &'a [String],
 ) -> Result<(), Stop<'a>>
     requires few { length paths.now < 2 ^ 32 }
-    requires workers { (1 ≤ words.now.workers) × (words.now.workers ≤ 16) }
+    requires workers { (1 ≤ options.now.workers) × (options.now.workers ≤ 16) }
     requires short { length plan_text.now ≤ most_read }
-    requires targets { words_of targets.now ≡ map (in_folder words.now.dest.now) (words_of paths.now) }
-    ensures { (named : List FileText) → Between F.Files O.Sink E.Sink (files.old, out.old, err.old) (files.new, out.new, err.new)
-        (Ran F.landed (covering (cover_seen words.entry.now named) plan_text.now (words_of paths.entry.now)) stop_seen) result }
+    requires targets { words_of targets.now ≡ map (in_folder options.now.dest.now) (words_of paths.now) }
+    ensures { (named : List FileText) → OnOutside F.Files O.Sink E.Sink outside.old outside.new
+        (Ran F.landed (covering (cover_seen options.entry.now named) plan_text.now (words_of paths.entry.now)) stop_seen) result }
 {
-    let file_paths = as_texts(alloc, paths)?;
-    let texts = read_all(alloc, files, &file_paths)?;
-    let plan = plan_of(alloc, words.plan, plan_text)?;
-    let places = instrument_files(rt, alloc, files, out, err, paths, targets, &texts)?;
+    let alloc = resources.alloc;
+    let inputs = read_listed(alloc, outside.files, paths)?;
+    let plan = plan_of(alloc, options.plan, plan_text)?;
+    let places = instrument_files(resources.rt, alloc, outside, &inputs, targets)?;
     let file_targets = as_texts(alloc, targets)?;
-    let accepted = accepted_files(alloc, file_paths, file_targets, texts, places)?;
-    run_accepted(rt, alloc, files, out, gate, words, &plan, accepted)
+    let accepted = accepted_files(alloc, inputs, file_targets, places)?;
+    run_accepted(resources, outside, options, &plan, accepted)
 }

@@ -8,9 +8,9 @@ mod covering;
 mod entries;
 mod files;
 mod linking;
+mod options;
 mod results;
 mod running;
-mod words;
 
 pub use covering::cover;
-pub use words::CoverWords;
+pub use options::CoverOptions;

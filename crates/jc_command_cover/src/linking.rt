@@ -1,23 +1,17 @@
 //! The program of the files that were read back.
-ghost use Rattle.std.specs.Prelude.{◌≡◌, ◌≤◌, List, ℕ, All, length, option_map, slice_index_or, IfOk};
-ghost use Rattle.jc_bytes.specs.Failing.{Said};
-ghost use Rattle.jc_bytes.specs.Reader.{most_read};
-ghost use Rattle.jc_link_programs.specs.Linking.{IsProgramOf, IsLinkClash};
+ghost use Rattle.std.specs.Prelude.{◌≡◌, ◌<◌, ◌^◌, List, ℕ, length, option_map, slice_index_or, IfOk};
+ghost use Rattle.jc_link_programs.specs.Linking.{IsProgramOf};
 ghost use Rattle.jc_machine_laws.specs.Frameless.{frameless};
 ghost use Rattle.jc_command_run.specs.RunAnswers.{IsRunProgram};
-ghost use Rattle.jc_headline.specs.CoverWork.{LookedFile, IsLinkEnd};
-ghost use Rattle.jc_command_cover.specs.Accepted.{AreAccepted, AreWhole};
-ghost use Rattle.jc_command_cover.specs.Deciding.{Decides, StopsBy};
+ghost use Rattle.jc_headline.specs.CoverWork.{LookedFile, accepted, paths_in, places_from, IsLinkEnd};
+ghost use Rattle.jc_command_cover.specs.Deciding.{Decides};
 ghost use Rattle.jc_command_cover.specs.Placed.{placed, end_placed};
 ghost use Rattle.jc_command_work.specs.Seen.{stop_seen};
-ghost use Rattle.jc_command_work.specs.Step.{Word};
 ghost use Rattle.jc_machine_model.specs.Programs.{IsProgram};
 
-use crate::accepted::Accepted;
-use jc_bytes::{Bytes, Fail};
 use jc_command_run::link_stop;
-use jc_command_work::{Fault, Stop};
-use jc_link_programs::{LinkClash, link_or_clash};
+use jc_command_work::{Fault, InputFiles, Stop};
+use jc_link_programs::link_or_clash;
 use jc_programs::Program;
 use std::alloc::Global;
 
@@ -76,39 +70,23 @@ fn among_all<'a>(stop: Stop<'a>, places: &[u32]) -> Stop<'a>
     }
 }
 
-/// How accepted files that are read back as no program stop the command: they are named by their places among all files.
-fn no_program<'a>(
-    alloc: Global,
-    fail: Fail<LinkClash>,
-    accepted: &Accepted<'a>,
-    written: &[Bytes],
-) -> Stop<'a>
-    requires refused { Said fail (IsLinkClash written.now) }
-    requires whole { AreWhole accepted.now }
-    requires each { length written.now ≡ length accepted.now.targets.items }
-    ensures { (dest : Word) (looked : List LookedFile) → AreAccepted dest looked accepted.entry.now
-        → StopsBy (IsLinkEnd looked written.now) (stop_seen result) }
-{
-    let stop = link_stop(alloc, fail, written, &accepted.paths);
-    among_all(stop, &accepted.places)
-}
-
-/// The program of the accepted files as they were read back.
+/// The program of the accepted files as they were read back, each under its own path, by their places among all files.
 pub fn program_of<'a>(
     alloc: Global,
-    accepted: &Accepted<'a>,
-    written: &[Bytes],
+    places: &[u32],
+    written: &InputFiles<'a>,
 ) -> Result<Program, Stop<'a>>
-    requires whole { AreWhole accepted.now }
-    requires each { length written.now ≡ length accepted.now.targets.items }
-    requires short { All (λ t. length t ≤ most_read) written.now }
-    ensures linked { IfOk result (IsProgramOf written.now) }
+    requires { length written.now.paths < 2 ^ 32 }
+    ensures linked { IfOk result (IsProgramOf written.entry.now.texts) }
     ensures program { IfOk result IsProgram }
-    ensures decides { (dest : Word) (looked : List LookedFile) → AreAccepted dest looked accepted.entry.now
-        → Decides (IsRunProgram written.now) (IsLinkEnd looked written.now) frameless stop_seen result }
+    ensures decides { (looked : List LookedFile) → places.now ≡ places_from 0 looked → written.entry.now.paths ≡ paths_in (accepted looked)
+        → Decides (IsRunProgram written.entry.now.texts) (IsLinkEnd looked written.entry.now.texts) frameless stop_seen result }
 {
-    match link_or_clash(alloc, written) {
+    match link_or_clash(alloc, written.texts()) {
         Ok(program) => Ok(program),
-        Err(fail) => Err(no_program(alloc, fail, accepted, written)),
+        Err(fail) => {
+            let stop = link_stop(alloc, fail, written);
+            Err(among_all(stop, places))
+        }
     }
 }

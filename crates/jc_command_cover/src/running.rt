@@ -2,46 +2,41 @@
 ghost use Rattle.std.specs.Prelude.{◌≤◌, List};
 ghost use Rattle.jc_paths.specs.Paths.{FileText};
 ghost use Rattle.jc_programs.specs.Turns.{IsRunPlan};
-ghost use Rattle.jc_headline.specs.CoverWork.{LookedFile, running};
-ghost use Rattle.jc_command_cover.specs.Accepted.{AreAccepted, AreWhole};
+ghost use Rattle.jc_command_cover.specs.Accepted.{AreWhole};
 ghost use Rattle.jc_command_cover.specs.CoverSeen.{cover_seen};
-ghost use Rattle.jc_command_cover.specs.Deciding.{RanAside};
+ghost use Rattle.jc_command_cover.specs.Runs.{RunsAccepted};
+ghost use Rattle.jc_command_work.specs.Handed.{OnOutside};
 
 use crate::accepted::Accepted;
 use crate::entries::check_entries;
 use crate::linking::program_of;
+use crate::options::CoverOptions;
 use crate::results::write_results;
-use crate::words::CoverWords;
 use jc_command_run::run_program;
-use jc_command_work::{Stop, read_all};
+use jc_command_work::{Outside, Resources, Stop, read_again};
 use jc_outside::{Files, Sink};
 use jc_programs::RunPlan;
 use jc_workers::Gate;
-use std::alloc::Global;
 use std::marker::Sync;
 use std::thread::Threads;
 
 /// Reads back the accepted files, runs their program, and writes what comes of it.
-pub fn run_accepted<'a, R: Threads + Sync, F: Files, O: Sink, G: Gate + Sync>(
-    rt: &R,
-    alloc: Global,
-    files: &mut F,
-    out: &mut O,
-    gate: &G,
-    words: &CoverWords<'a>,
+pub fn run_accepted<'a, R: Threads + Sync, F: Files, O: Sink, E: Sink, G: Gate + Sync>(
+    resources: &Resources<'_, '_, R, G>,
+    outside: &mut Outside<'_, '_, '_, F, O, E>,
+    options: &CoverOptions<'a>,
     plan: &RunPlan,
     accepted: Accepted<'a>,
 ) -> Result<(), Stop<'a>>
-    requires workers { (1 ≤ words.now.workers) × (words.now.workers ≤ 16) }
+    requires workers { (1 ≤ options.now.workers) × (options.now.workers ≤ 16) }
     requires plan { IsRunPlan plan.now }
     requires whole { AreWhole accepted }
-    ensures { (named : List FileText) (looked : List LookedFile) → let c = cover_seen words.entry.now named in
-        AreAccepted c.dest looked accepted.entry
-        → RanAside F.Files O.Sink (running c plan.now looked) (files.old, out.old) (files.new, out.new) result }
+    ensures { (named : List FileText) → OnOutside F.Files O.Sink E.Sink outside.old outside.new (RunsAccepted F.landed (cover_seen options.entry.now named) plan.now accepted.entry) result }
 {
-    let written = read_all(alloc, files, &accepted.targets)?;
-    let program = program_of(alloc, &accepted, &written)?;
-    check_entries(words.plan, &program, plan)?;
-    let ran = run_program(rt, alloc, &program, plan, words.workers, gate)?;
-    write_results(rt, alloc, files, out, words, accepted, ran)
+    let alloc = resources.alloc;
+    let written = read_again(alloc, outside.files, &accepted.inputs, &accepted.targets)?;
+    let program = program_of(alloc, &accepted.places, &written)?;
+    check_entries(options.plan, &program, plan)?;
+    let ran = run_program(resources, &program, plan, options.workers)?;
+    write_results(resources.rt, alloc, outside, options, &accepted.inputs, ran)
 }

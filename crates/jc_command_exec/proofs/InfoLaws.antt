@@ -1,6 +1,6 @@
 -- What is printed of execution data, file after file.
-use Rattle.std.proofs.Common.{◌≡◌, ℕ, ◌+◌, ◌<◌, ◌≤◌, List, [], ◌∷◌, ◌++◌, length, take, get_or, map, Ok, Err, Vec, Bor, refl, sym, ◌∙◌, ap, subst, arith, append_assoc}
-use Rattle.std.proofs.lemmas.List.{append-nil, take_more, take_all, map-append}
+use Rattle.std.proofs.Common.{◌≡◌, ℕ, ◌+◌, ◌<◌, ◌≤◌, List, [], ◌∷◌, ◌++◌, length, take, slice_index_or, map, Ok, Err, Vec, Bor, refl, sym, ◌∙◌, ap, subst, arith, append_assoc}
+use Rattle.std.proofs.lemmas.List.{append-nil, take_all, map-append}
 use Rattle.std.specs.List.{AllByRecursion}
 use Rattle.std.specs.declared.alloc.Global.{Global}
 use Rattle.jc_bytes.specs.declared.fail.Fail.{Fail}
@@ -13,12 +13,12 @@ use Rattle.jc_command_work.specs.declared.output.Write.{Write as Written}
 use Rattle.jc_command_work.specs.Part.{gives}
 use Rattle.jc_command_exec.specs.ExecData.{IsUnionOf, IsInput, no_data}
 use Rattle.jc_command_exec.specs.ExecInfo.{file_lines, AreInfo, InfoAnswers, informed, exec_info_refused}
-use Rattle.jc_command_work.specs.Seen.{write_seen, texts_of}
+use Rattle.jc_command_work.specs.Seen.{write_seen}
 use Rattle.jc_command_work.specs.Step.{Word, Write, to_out}
 use Rattle.jc_command_work.specs.Answered.{AnswersWith}
 use Rattle.jc_command_work.specs.Stopping.{exec_stop}
 use Rattle.jc_command_exec.proofs.ExecDataLaws.{IsData, union_more, union_of_none, one_union_of}
-use Rattle.jc_bytes.proofs.ListLaws.{map_take_more}
+use Rattle.jc_command_exec.proofs.MergeLaws.{text_last}
 
 -- ---- file after file
 
@@ -64,46 +64,40 @@ pub record InfoOf (paths : List Word) (texts : List (List ℕ)) (writes : List W
   pub writes_are : map write_seen writes ≡ map to_out lines
   pub info : AreInfo paths texts lines
 
-pub info_start : (files : List (Bor (List ℕ))) (texts : List (List ℕ)) (writes : List Written) → writes ≡ []
-    → InfoOf (texts_of (take 0 files)) (take 0 texts) writes
-info_start files texts writes none = record { lines = []; writes_are = ap (map write_seen) none; info = refl }
+pub info_start : (paths : List Word) (texts : List (List ℕ)) (writes : List Written) → writes ≡ [] → InfoOf (take 0 paths) (take 0 texts) writes
+info_start paths texts writes none = record { lines = []; writes_are = ap (map write_seen) none; info = refl }
 
-pub info_on : (files : List (Bor (List ℕ))) (texts : List (List ℕ)) (i : ℕ) (file : Bor (List ℕ)) (t : List ℕ) (store : Store)
-    (old new : List Written) → length texts ≡ length files → i < length texts → t ≡ get_or texts i t → file ≡ get_or files i file
-    → InfoOf (texts_of (take i files)) (take i texts) old → IsUnionOf (t ∷ []) store
-    → map write_seen new ≡ map write_seen old ++ map to_out (file_lines file.now store)
-    → InfoOf (texts_of (take (i + 1) files)) (take (i + 1) texts) new
-info_on files texts i file t store old new same within text is so_far union grows =
-    let paths : texts_of (take (i + 1) files) ≡ texts_of (take i files) ++ file.now ∷ [] =
-    map_take_more (λ (w : Bor (List ℕ)). w.now) files i file (omega (arith, same, within)) is in
-    let more : take (i + 1) texts ≡ take i texts ++ t ∷ [] = take_more texts i t within ∙ ap (λ (u : List ℕ). take i texts ++ u ∷ []) (sym text) in
-    record {
-      lines = so_far.lines ++ file_lines file.now store;
-      writes_are =
-          grows ∙ ap (λ (ws : List Write). ws ++ map to_out (file_lines file.now store)) so_far.writes_are
-          ∙ sym (map-append to_out so_far.lines (file_lines file.now store));
-      info = subst (λ (ps : List Word). AreInfo ps (take (i + 1) texts) (so_far.lines ++ file_lines file.now store)) (sym paths)
-          (subst (λ (ts : List (List ℕ)). AreInfo (texts_of (take i files) ++ file.now ∷ []) ts (so_far.lines ++ file_lines file.now store)) (sym more)
-          (info_more (texts_of (take i files)) (take i texts) so_far.lines file.now t store so_far.info union));
-    }
+pub info_on : (paths : List Word) (texts : List (List ℕ)) (i : ℕ) (path : Word) (t : List ℕ) (store : Store) (old new : List Written)
+    → i < length paths → i < length texts → path ≡ slice_index_or paths i [] → t ≡ slice_index_or texts i []
+    → InfoOf (take i paths) (take i texts) old → IsUnionOf (t ∷ []) store
+    → map write_seen new ≡ map write_seen old ++ map to_out (file_lines path store)
+    → InfoOf (take (i + 1) paths) (take (i + 1) texts) new
+info_on paths texts i path t store old new within within' is text so_far union grows = record {
+  lines = so_far.lines ++ file_lines path store;
+  writes_are =
+      grows ∙ ap (λ (ws : List Write). ws ++ map to_out (file_lines path store)) so_far.writes_are
+      ∙ sym (map-append to_out so_far.lines (file_lines path store));
+  info = subst (λ (ps : List Word). AreInfo ps (take (i + 1) texts) (so_far.lines ++ file_lines path store)) (sym (text_last paths i path within is))
+      (subst (λ (ts : List (List ℕ)). AreInfo (take i paths ++ path ∷ []) ts (so_far.lines ++ file_lines path store)) (sym (text_last texts i t within' text))
+      (info_more (take i paths) (take i texts) so_far.lines path t store so_far.info union));
+}
 
-pub info_end : (files : List (Bor (List ℕ))) (texts : List (List ℕ)) (i : ℕ) (writes : Vec Written Global) → length texts ≡ length files
-    → length texts ≤ i → InfoOf (texts_of (take i files)) (take i texts) writes.items → AnswersWith (InfoAnswers (texts_of files) texts) (Ok writes)
-info_end files texts i writes same all so_far =
-    let paths : texts_of (take i files) ≡ texts_of files = ap texts_of (take_all i files (omega (arith, same, all))) in
-    subst (λ (ws : List Write). InfoAnswers (texts_of files) texts (gives ws)) (sym so_far.writes_are)
+pub info_end : (paths : List Word) (texts : List (List ℕ)) (i : ℕ) (writes : Vec Written Global) → length paths ≤ i → length texts ≤ i
+    → InfoOf (take i paths) (take i texts) writes.items → AnswersWith (InfoAnswers paths texts) (Ok writes)
+info_end paths texts i writes all all' so_far =
+    subst (λ (ws : List Write). InfoAnswers paths texts (gives ws)) (sym so_far.writes_are)
     (informed so_far.lines
-    (subst (λ (ps : List Word). AreInfo ps texts so_far.lines) paths
-    (subst (λ (ts : List (List ℕ)). AreInfo (texts_of (take i files)) ts so_far.lines) (take_all i texts all) so_far.info)))
+    (subst (λ (ps : List Word). AreInfo ps texts so_far.lines) (take_all i paths all)
+    (subst (λ (ts : List (List ℕ)). AreInfo (take i paths) ts so_far.lines) (take_all i texts all') so_far.info)))
 
-pub info_stops : (files : List (Bor (List ℕ))) (texts : List (List ℕ)) (i : ℕ) (t : List ℕ) (writes : List Written) (fail : Fail ExecRefusal)
-    (file : Bor (List ℕ)) → IsInput (texts_of files) texts i file.now t → InfoOf (texts_of (take i files)) (take i texts) writes
+pub info_stops : (paths : List Word) (texts : List (List ℕ)) (i : ℕ) (t : List ℕ) (writes : List Written) (fail : Fail ExecRefusal)
+    (file : Bor (List ℕ)) → IsInput paths texts i file.now t → InfoOf (take i paths) (take i texts) writes
     → Refuses fail no_data t
-    → AnswersWith (InfoAnswers (texts_of files) texts) (Err (exec_stop fail i file))
-info_stops files texts i t writes fails.Memory file input so_far refuses = tt
-info_stops files texts i t writes (fails.Said refusal) file input so_far refuses =
+    → AnswersWith (InfoAnswers paths texts) (Err (exec_stop fail i file))
+info_stops paths texts i t writes fails.Memory file input so_far refuses = tt
+info_stops paths texts i t writes (fails.Said refusal) file input so_far refuses =
     exec_info_refused i file.now refusal
-    (record { text = t; input = input; before = info_is_data (texts_of (take i files)) (take i texts) so_far.lines so_far.info; refused = refuses })
+    (record { text = t; input = input; before = info_is_data (take i paths) (take i texts) so_far.lines so_far.info; refused = refuses })
 
 -- one file alone
 pub data_read : (bytes : List ℕ) (old new : Store) → old ≡ no_data → ReadsOn bytes old new → IsUnionOf (bytes ∷ []) new

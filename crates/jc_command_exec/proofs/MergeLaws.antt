@@ -1,6 +1,6 @@
 -- Inputs of execution data, read into a store one after the other.
-use Rattle.std.proofs.Common.{◌≡◌, ℕ, ◌+◌, ◌<◌, ◌≤◌, List, [], ◌∷◌, ◌++◌, length, take, get_or, map, Result, Ok, Err, IfOk, IfErr, Vec, Bor, refl, sym, ◌∙◌, ap, subst, arith}
-use Rattle.std.proofs.lemmas.List.{take_more, take_all, get_or-map, get_or_default}
+use Rattle.std.proofs.Common.{◌≡◌, ℕ, ◌+◌, ◌<◌, ◌≤◌, List, [], ◌∷◌, ◌++◌, length, take, slice_index_or, map, Result, Ok, Err, IfOk, IfErr, Vec, Bor, refl, sym, ◌∙◌, ap, subst}
+use Rattle.std.proofs.lemmas.List.{take_more, take_all}
 use Rattle.std.specs.declared.alloc.Global.{Global}
 use Rattle.jc_bytes.specs.declared.fail.Fail.{Fail}
 use Rattle.jc_bytes.specs.declared.fail.Fail.TheVariants as fails
@@ -17,7 +17,6 @@ use Rattle.jc_command_work.specs.declared.stop.Stop.TheVariants as stops
 use Rattle.jc_command_exec.specs.ExecData.{IsUnionOf, IsInput}
 use Rattle.jc_command_work.specs.Seen.{write_seen}
 use Rattle.jc_command_work.specs.Step.{Word}
-use Rattle.jc_command_work.specs.Seen.{texts_of}
 use Rattle.jc_command_work.specs.Step.{Write, to_file}
 use Rattle.jc_command_exec.specs.Merge.{MergeAnswers, merged, merge_refused}
 use Rattle.jc_command_work.specs.Answered.{AnswersWith}
@@ -27,30 +26,28 @@ use Rattle.jc_command_exec.proofs.ExecDataLaws.{union_more}
 pub merge_start : (texts : List (List ℕ)) (store : Store) → IsUnion [] store → IsUnionOf (take 0 texts) store
 merge_start texts store u = record { read = []; blocks = refl; union = u }
 
-pub merge_on : (texts : List (List ℕ)) (i : ℕ) (t : List ℕ) (old new : Store) → i < length texts → t ≡ get_or texts i t → IsUnionOf (take i texts) old
+-- the texts up to and with the one at an index
+pub text_last : (texts : List (List ℕ)) (i : ℕ) (t : List ℕ) → i < length texts → t ≡ slice_index_or texts i [] → take (i + 1) texts ≡ take i texts ++ t ∷ []
+text_last texts i t within is = take_more texts i [] within ∙ ap (λ (u : List ℕ). take i texts ++ u ∷ []) (sym is)
+
+pub merge_on : (texts : List (List ℕ)) (i : ℕ) (t : List ℕ) (old new : Store) → i < length texts → t ≡ slice_index_or texts i [] → IsUnionOf (take i texts) old
     → ReadsOn t old new → IsUnionOf (take (i + 1) texts) new
 merge_on texts i t old new within is so_far reads =
-    let more : take (i + 1) texts ≡ take i texts ++ t ∷ [] = take_more texts i t within ∙ ap (λ (u : List ℕ). take i texts ++ u ∷ []) (sym is) in
-    subst (λ (l : List (List ℕ)). IsUnionOf l new) (sym more) (union_more (take i texts) t old new so_far reads)
+    subst (λ (l : List (List ℕ)). IsUnionOf l new) (sym (text_last texts i t within is)) (union_more (take i texts) t old new so_far reads)
 
 pub merge_end : (texts : List (List ℕ)) (i : ℕ) (store : Store) → length texts ≤ i → IsUnionOf (take i texts) store → IsUnionOf texts store
 merge_end texts i store all u = subst (λ (l : List (List ℕ)). IsUnionOf l store) (take_all i texts all) u
 
 -- the input at an index of the loop
-pub input_at : (inputs : List (Bor (List ℕ))) (texts : List (List ℕ)) (i : ℕ) (d : Bor (List ℕ)) (t : List ℕ)
-    → length texts ≡ length inputs → i < length texts → t ≡ get_or texts i t
-    → IsInput (texts_of inputs) texts i (get_or inputs i d).now t
-input_at inputs texts i d t same within text = record {
-  within = within;
-  path_is = sym (get_or-map (λ (w : Bor (List ℕ)). w.now) inputs i d [] (omega (arith, same, within)));
-  text_is = text ∙ get_or_default texts i t [] within;
-}
+pub input_at : (paths : List Word) (texts : List (List ℕ)) (i : ℕ) (path : Word) (t : List ℕ) → i < length texts → path ≡ slice_index_or paths i [] → t ≡ slice_index_or texts i []
+    → IsInput paths texts i path t
+input_at paths texts i path t within path_is text_is = record { within = within; path_is = path_is; text_is = text_is }
 
-pub merge_stops : (inputs : List (Bor (List ℕ))) (texts : List (List ℕ)) (i : ℕ) (t : List ℕ) (store : Store) (fail : Fail ExecRefusal)
-    (file : Bor (List ℕ)) → IsInput (texts_of inputs) texts i file.now t → IsUnionOf (take i texts) store → Refuses fail store t
-    → (out : Word) → AnswersWith (MergeAnswers out (texts_of inputs) texts) (Err (exec_stop fail i file))
-merge_stops inputs texts i t store fails.Memory file input so_far refuses out = tt
-merge_stops inputs texts i t store (fails.Said refusal) file input so_far refuses out =
+pub merge_stops : (paths : List Word) (texts : List (List ℕ)) (i : ℕ) (t : List ℕ) (store : Store) (fail : Fail ExecRefusal)
+    (file : Bor (List ℕ)) → IsInput paths texts i file.now t → IsUnionOf (take i texts) store → Refuses fail store t
+    → (out : Word) → AnswersWith (MergeAnswers out paths texts) (Err (exec_stop fail i file))
+merge_stops paths texts i t store fails.Memory file input so_far refuses out = tt
+merge_stops paths texts i t store (fails.Said refusal) file input so_far refuses out =
     merge_refused i file.now refusal (record { text = t; input = input; store = store; before = so_far; refused = refuses })
 
 pub merge_writes : (destfile : Bor (List ℕ)) (inputs : List Word) (texts : List (List ℕ)) (store : Store) (v : Vec ℕ Global)

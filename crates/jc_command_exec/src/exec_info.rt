@@ -1,6 +1,6 @@
 //! The command `execinfo`.
 ghost use Rattle.std.specs.Prelude.{◌≡◌, ◌≤◌, ◌<◌, ◌^◌, ◌++◌, ◌∷◌, []};
-ghost use Rattle.std.specs.Prelude.{All, count_by, length, map, IfOk, IfErr, OnOk, string_bytes};
+ghost use Rattle.std.specs.Prelude.{count_by, length, map, IfOk, IfErr, OnOk, string_bytes};
 ghost use Rattle.jc_bytes.specs.Reader.{most_read};
 ghost use Rattle.jc_exec.specs.Answers.{Refuses};
 ghost use Rattle.jc_command_exec.specs.ExecData.{IsUnionOf, no_data};
@@ -10,8 +10,8 @@ ghost use Rattle.jc_command_work.specs.Seen.{texts_of};
 ghost use Rattle.jc_command_work.specs.Answered.{AnswersWith, Prepares};
 ghost use Rattle.jc_command_work.specs.Handed.{BetweenFiles};
 
-use jc_bytes::{Bytes, Fail, Memory};
-use jc_command_work::{Stop, Write, exec_stop, keep, read_all};
+use jc_bytes::{Fail, Memory};
+use jc_command_work::{InputFiles, Stop, Write, exec_stop, keep, read_files};
 use jc_exec::{ClassHits, ExecRefusal, ExecStore, Session};
 use jc_outside::Files;
 use std::alloc::{AllocError, Global};
@@ -131,20 +131,14 @@ pub fn data_of(alloc: Global, bytes: &[u8]) -> Result<ExecStore, Fail<ExecRefusa
 }
 
 /// The lines of the files, in order.
-fn informed<'a>(
-    alloc: Global,
-    paths: &[&'a str],
-    texts: &[Bytes],
-) -> Result<Vec<Write<'a>>, Stop<'a>>
-    requires few { length paths.now < 2 ^ 32 }
-    requires each { length texts.now ≡ length paths.now }
-    requires short { All (λ t. length t ≤ most_read) texts.now }
-    ensures { AnswersWith (InfoAnswers (texts_of paths.entry.now) texts.now) result }
+fn informed<'a>(alloc: Global, inputs: &InputFiles<'a>) -> Result<Vec<Write<'a>>, Stop<'a>>
+    requires { length inputs.now.paths < 2 ^ 32 }
+    ensures { AnswersWith (InfoAnswers inputs.entry.now.paths inputs.entry.now.texts) result }
 {
     let mut writes = Vec::new(alloc);
-    'informing: for index in 0..texts.len() {
-        let path = paths[index];
-        match data_of(alloc, &texts[index]) {
+    'informing: for index in 0..inputs.len() {
+        let path = inputs.path(index);
+        match data_of(alloc, inputs.text(index)) {
             Ok(store) => put_file(alloc, &mut writes, path, &store)?,
             Err(fail) => return Err(exec_stop(fail, index as u32, path)),
         }
@@ -161,6 +155,6 @@ pub fn prepare_exec_info<'a, F: Files>(
     requires { length paths.now < 2 ^ 32 }
     ensures { BetweenFiles F.Files files.old files.new (Prepares F.landed (texts_of paths.entry.now) (InfoAnswers (texts_of paths.entry.now))) result }
 {
-    let texts = read_all(alloc, files, paths)?;
-    informed(alloc, paths, &texts)
+    let inputs = read_files(alloc, files, paths)?;
+    informed(alloc, &inputs)
 }

@@ -1,6 +1,5 @@
 -- Files that are no program.
-use Rattle.std.proofs.Common.{◌≡◌, ℕ, zero, suc, ◌<◌, List, [], ◌∷◌, length, get_or, slice_get, Option, None, Some, Bor, arith}
-use Rattle.std.proofs.lemmas.List.{get_or-map}
+use Rattle.std.proofs.Common.{◌≡◌, ℕ, zero, suc, ◌<◌, List, [], ◌∷◌, length, slice_get, Option, None, Some, arith}
 use Rattle.jc_methods.specs.VerificationTypes.{Names}
 use Rattle.jc_programs.specs.declared.program.Linked.{Linked}
 use Rattle.jc_link_programs.specs.declared.link_refusal.LinkRefusal.{LinkRefusal}
@@ -8,10 +7,8 @@ use Rattle.jc_link_programs.specs.declared.link_refusal.LinkRefusal.TheVariants 
 use Rattle.jc_link_programs.specs.Linking.{AreLinkedClasses, IsLinkRefusal, refused, one_name, one_id}
 use Rattle.jc_link_programs.specs.Pairs.{HaveOne}
 use Rattle.jc_link_programs.proofs.LinkingLaws.{linked_count}
-use Rattle.jc_command_run.specs.RunAnswers.{path_at}
 use Rattle.jc_command_work.specs.Part.{End}
 use Rattle.jc_command_run.specs.Clash.{StopsAs, LinkStops}
-use Rattle.jc_command_work.specs.Seen.{texts_of}
 
 -- ---- indices
 
@@ -42,15 +39,7 @@ are_within files r (refused {index = index} {refusal = why} is) = within files i
 are_within files r (one_name {first = first} {second = second} names classes are pair) = pair_within names files classes _ first second are pair.there
 are_within files r (one_id {first = first} {second = second} names classes are none pair) = pair_within names files classes _ first second are pair.there
 
--- ---- paths
-
--- a path of no index
-abbrev pub no_path : Bor (List ℕ)
-no_path = record { ref_ptr = (0, 0); now = [] }
-
--- the path of an index
-pub path_is : (paths : List (Bor (List ℕ))) (i : ℕ) (d : Bor (List ℕ)) → i < length paths → path_at (texts_of paths) i ≡ (get_or paths i d).now
-path_is paths i d less = get_or-map (λ (p : Bor (List ℕ)). p.now) paths i d [] less
+-- ---- how files that are no program stop a command
 
 pub stops_so : (paths : List (List ℕ)) (files : List (List ℕ)) (r : LinkRefusal) (o : Option End) → IsLinkRefusal files r → StopsAs paths files r o → LinkStops paths files o
 stops_so paths files r None is so = tt

@@ -1,11 +1,8 @@
 -- What is decided of a run plan's text and class files.
-use Rattle.std.proofs.Common.{◌≡◌, inl, inr, ℕ, ◌≤◌, List, [], ◌∷◌, length, Option, None, Some, Result, Ok, Err, Vec, Bor, All, refl, sym, ◌∙◌, ap, ap₂}
+use Rattle.std.proofs.Common.{◌≡◌, inl, inr, ℕ, List, [], ◌∷◌, Option, None, Some, Result, Ok, Err, Vec, refl, sym, ◌∙◌, ap, ap₂}
 use Rattle.std.specs.List.{AllByRecursion}
 use Rattle.std.specs.declared.alloc.Global.{Global}
-use Rattle.std.proofs.lemmas.List.{length-map}
-use Rattle.std.proofs.lemmas.List.Elements.{All-from_recursion}
 use Rattle.jc_bytes.specs.ByteLists.{AreBytes}
-use Rattle.jc_bytes.specs.Reader.{most_read}
 use Rattle.jc_exec.specs.Store.{Store}
 use Rattle.jc_exec.specs.Writing.{exec_text}
 use Rattle.jc_run_plans.specs.Plans.{IsPlanText}
@@ -20,8 +17,7 @@ use Rattle.jc_command_work.specs.declared.stop.Stop.{Stop}
 use Rattle.jc_command_work.specs.Step.{Word, AreTexts, to_file, to_out}
 use Rattle.jc_command_work.specs.Part.{End, gives}
 use Rattle.jc_command_work.specs.Answered.{Answer, EndsSo, AnswersWith}
-use Rattle.jc_command_work.specs.Seen.{texts_of, stop_seen}
-use Rattle.jc_command_work.proofs.AnsweredLaws.{as_many_texts}
+use Rattle.jc_command_work.specs.Seen.{stop_seen}
 use Rattle.jc_command_run.specs.RunAnswers.{run_answer, RunsFiles}
 use Rattle.jc_command_run.specs.RunStore.{threads_of, first_without}
 use Rattle.jc_command_run.proofs.StoreLaws.{same_store, same_without}
@@ -71,15 +67,3 @@ are_bytes [] [] are = tt
 are_bytes [] (t ∷ ts) are = absurd are
 are_bytes (p ∷ ps) [] are = absurd are
 are_bytes (p ∷ ps) (t ∷ ts) are = (are.0.are_bytes, are_bytes ps ts are.1)
-
-each_short : (paths : List Word) (texts : List (List ℕ)) → AreTexts paths texts → AllByRecursion (λ (t : List ℕ). length t ≤ most_read) texts
-each_short [] [] are = tt
-each_short [] (t ∷ ts) are = absurd are
-each_short (p ∷ ps) [] are = absurd are
-each_short (p ∷ ps) (t ∷ ts) are = (are.0.short, each_short ps ts are.1)
-
-pub are_short : (paths : List Word) (texts : List (List ℕ)) → AreTexts paths texts → All (λ (t : List ℕ). length t ≤ most_read) texts
-are_short paths texts are = All-from_recursion (λ (t : List ℕ). length t ≤ most_read) texts (each_short paths texts are)
-
-pub as_many_files : (paths : List (Bor (List ℕ))) (texts : List (List ℕ)) → AreTexts (texts_of paths) texts → length texts ≡ length paths
-as_many_files paths texts are = sym (sym (length-map paths (λ (p : Bor (List ℕ)). p.now)) ∙ as_many_texts (texts_of paths) texts are)

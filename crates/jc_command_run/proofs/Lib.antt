@@ -11,4 +11,3 @@ pub mod HitLaws
 pub mod TextLaws
 pub mod AnswerLaws
 pub mod DecidedLaws
-pub mod PreparedLaws

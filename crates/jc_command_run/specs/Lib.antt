@@ -6,4 +6,3 @@ pub mod Clash
 pub mod HitStore
 pub mod PlanStops
 pub mod Texts
-pub mod Handed

@@ -9,6 +9,7 @@ ghost use Rattle.jc_machine_model.specs.Run.{IsHit as IsHitBy};
 
 use jc_board::Board;
 use jc_bytes::Memory;
+use jc_command_work::Resources;
 use jc_programs::{CaseEnd, HitSet, Program, RunPlan};
 use jc_workers::{Gate, run_cases};
 use std::alloc::Global;
@@ -34,12 +35,10 @@ pub struct Outcome {
 
 /// Runs the cases of a run plan on so many workers.
 pub fn run_plan<R: Threads + Sync, G: Gate + Sync>(
-    rt: &R,
-    alloc: Global,
+    resources: &Resources<'_, '_, R, G>,
     program: &Program,
     plan: &RunPlan,
     workers: u32,
-    gate: &G,
 ) -> Result<Outcome, Memory>
     requires program { IsProgram program.now }
     requires plan { IsRunPlan plan.now }
@@ -49,6 +48,7 @@ pub fn run_plan<R: Threads + Sync, G: Gate + Sync>(
     ensures counts { IfOk result (λ o. counts_of o.hits ≡ probe_counts program.now) }
     ensures hits { IfOk result (λ o. (class id : ℕ) → IsHit o.hits class id ↔ IsHitBy program.now plan.now (record { class = class; id = id })) }
 {
+    let Resources { rt, alloc, gate } = *resources;
     let counts = probe_counts(alloc, program)?;
     let mut hits = HitSet::new(alloc, &counts)?;
     let (board, seat) = Board::new(alloc, &counts)?;

@@ -4,10 +4,10 @@ ghost use Rattle.jc_bytes.specs.Failing.{Said};
 ghost use Rattle.jc_link_programs.specs.Linking.{HasId, HasName, IsLinkClash};
 ghost use Rattle.jc_command_run.specs.PairTexts.{pair_start, same_name_text, same_id_text};
 ghost use Rattle.jc_command_run.specs.Clash.{StopsAs, LinkStops, id_end};
-ghost use Rattle.jc_command_work.specs.Seen.{texts_of, stop_seen};
+ghost use Rattle.jc_command_work.specs.Seen.{stop_seen};
 
-use jc_bytes::{Bytes, Fail, Memory};
-use jc_command_work::{Fault, Stop, class_stop};
+use jc_bytes::{Fail, Memory};
+use jc_command_work::{Fault, InputFiles, Stop, class_stop};
 use jc_link_programs::{LinkClash, LinkRefusal};
 use std::alloc::{AllocError, Global};
 
@@ -54,17 +54,19 @@ fn same_id_text(alloc: Global, first: &str, second: &str, id: u64) -> Result<Vec
 /// How two files of one class name stop a command.
 fn name_stop<'a>(
     alloc: Global,
-    paths: &[&'a str],
+    inputs: &InputFiles<'a>,
     first: u32,
     second: u32,
     name: &[u8],
 ) -> Result<Stop<'a>, Memory>
-    requires first { first < length paths.now }
-    requires second { second < length paths.now }
+    requires first { first < length inputs.now.texts }
+    requires second { second < length inputs.now.texts }
     ensures { (files : Seq (Seq ℕ)) → HasName files first name.now
-        → IfOk result (λ stop. StopsAs (texts_of paths.entry.now) files (LinkRefusal.SameName first second) (stop_seen stop)) }
+        → IfOk result (λ stop. StopsAs inputs.entry.now.paths files (LinkRefusal.SameName first second) (stop_seen stop)) }
 {
-    let line = same_name_text(alloc, paths[first as usize], paths[second as usize], name)?;
+    let first_path = inputs.path(first as usize);
+    let second_path = inputs.path(second as usize);
+    let line = same_name_text(alloc, first_path, second_path, name)?;
     let fault = Fault::SameName { first, second };
     Ok(Stop::Clash { fault, line })
 }
@@ -72,42 +74,43 @@ fn name_stop<'a>(
 /// How two files whose probes have one class id stop a command.
 fn id_stop<'a>(
     alloc: Global,
-    paths: &[&'a str],
+    inputs: &InputFiles<'a>,
     first: u32,
     second: u32,
     id: u64,
 ) -> Result<Stop<'a>, Memory>
-    requires first { first < length paths.now }
-    requires second { second < length paths.now }
+    requires first { first < length inputs.now.texts }
+    requires second { second < length inputs.now.texts }
     ensures { (files : Seq (Seq ℕ)) → HasId files first id
-        → IfOk result (λ stop. StopsAs (texts_of paths.entry.now) files (LinkRefusal.SameId first second) (stop_seen stop)) }
+        → IfOk result (λ stop. StopsAs inputs.entry.now.paths files (LinkRefusal.SameId first second) (stop_seen stop)) }
 {
-    let line = same_id_text(alloc, paths[first as usize], paths[second as usize], id)?;
+    let first_path = inputs.path(first as usize);
+    let second_path = inputs.path(second as usize);
+    let line = same_id_text(alloc, first_path, second_path, id)?;
     let fault = Fault::SameId { first, second };
     Ok(Stop::Clash { fault, line })
 }
 
 /// How a reason for which class files are no program stops a command. A line that names two files has what they have in
 /// common.
-fn clash_stop<'a>(alloc: Global, clash: LinkClash, files: &[Bytes], paths: &[&'a str]) -> Stop<'a>
-    requires refused { IsLinkClash files.now clash }
-    requires each { length files.now ≡ length paths.now }
-    ensures { LinkStops (texts_of paths.entry.now) files.now (stop_seen result) }
+fn clash_stop<'a>(alloc: Global, clash: LinkClash, inputs: &InputFiles<'a>) -> Stop<'a>
+    requires { IsLinkClash inputs.now.texts clash }
+    ensures { LinkStops inputs.entry.now.paths inputs.entry.now.texts (stop_seen result) }
 {
     match clash {
         LinkClash::Class { index, refusal } => {
-            class_stop(Fail::Said(refusal), index, paths[index as usize])
+            class_stop(Fail::Said(refusal), index, inputs.path(index as usize))
         }
         LinkClash::SameName {
             first,
             second,
             name,
-        } => match name_stop(alloc, paths, first, second, &name) {
+        } => match name_stop(alloc, inputs, first, second, &name) {
             Ok(stop) => stop,
             Err(Memory) => Stop::Memory,
         },
         LinkClash::SameId { first, second, id } => {
-            match id_stop(alloc, paths, first, second, id) {
+            match id_stop(alloc, inputs, first, second, id) {
                 Ok(stop) => stop,
                 Err(Memory) => Stop::Memory,
             }
@@ -117,18 +120,12 @@ fn clash_stop<'a>(alloc: Global, clash: LinkClash, files: &[Bytes], paths: &[&'a
 
 /// How class files that are no program stop a command: the line names the file that isn't linked, or the two files that have
 /// one class name or one id of their probes.
-pub fn link_stop<'a>(
-    alloc: Global,
-    fail: Fail<LinkClash>,
-    files: &[Bytes],
-    paths: &[&'a str],
-) -> Stop<'a>
-    requires refused { Said fail (IsLinkClash files.now) }
-    requires each { length files.now ≡ length paths.now }
-    ensures { LinkStops (texts_of paths.entry.now) files.now (stop_seen result) }
+pub fn link_stop<'a>(alloc: Global, fail: Fail<LinkClash>, inputs: &InputFiles<'a>) -> Stop<'a>
+    requires { Said fail (IsLinkClash inputs.now.texts) }
+    ensures { LinkStops inputs.entry.now.paths inputs.entry.now.texts (stop_seen result) }
 {
     match fail {
         Fail::Memory => Stop::Memory,
-        Fail::Said(clash) => clash_stop(alloc, clash, files, paths),
+        Fail::Said(clash) => clash_stop(alloc, clash, inputs),
     }
 }

@@ -1,22 +1,22 @@
 //! What `run` reads, and what it writes of it.
 ghost use Rattle.std.specs.Prelude.{◌<◌, ◌≤◌, ◌^◌, ◌∷◌, length};
 ghost use Rattle.jc_bytes.specs.Reader.{most_read};
-ghost use Rattle.jc_command_run.specs.Handed.{BetweenFiles};
 ghost use Rattle.jc_command_run.specs.RunAnswers.{RunAnswers};
 ghost use Rattle.jc_command_work.specs.Answered.{Prepares};
+ghost use Rattle.jc_command_work.specs.Handed.{BetweenFiles};
 ghost use Rattle.jc_command_work.specs.Seen.{words_of};
 
 use crate::answer::decided;
+use crate::options::RunOptions;
 use jc_bytes::Bytes;
-use jc_command_work::{Stop, Write, as_texts, read_all};
+use jc_command_work::{Resources, Stop, Write, read_listed};
 use jc_outside::Files;
 use jc_workers::Gate;
-use std::alloc::Global;
 use std::marker::Sync;
 use std::thread::Threads;
 
-/// The writes of `run`, of a run plan's text that was read: the execution data, to `destfile`, and then the text of the cases, on
-/// `out`. The cases run on so many workers, and each passes through `gate` when it begins.
+/// The writes of `run`, of a run plan's text that was read: the execution data, to its file, and then the text of the cases, on
+/// `out`. Each case passes through the gate when it begins.
 ///
 /// # Errors
 ///
@@ -25,25 +25,18 @@ use std::thread::Threads;
 /// `Clash` with those of two files of one class name, or else of two whose probes have one id; `Refused` with the path of the
 /// run plan and the line of the first thread that has no method to begin with. `Memory` at any time.
 pub fn prepare_run<'a, R: Threads + Sync, F: Files, G: Gate + Sync>(
-    rt: &R,
-    alloc: Global,
+    resources: &Resources<'_, '_, R, G>,
     files: &mut F,
-    gate: &G,
-    plan: &'a str,
-    destfile: &'a str,
-    workers: u32,
+    options: &RunOptions<'a>,
     plan_text: &Bytes,
     paths: &'a [String],
 ) -> Result<Vec<Write<'a>>, Stop<'a>>
     requires few { length paths.now < 2 ^ 32 }
-    requires workers { (1 ≤ workers) × (workers ≤ 16) }
+    requires workers { (1 ≤ options.now.workers) × (options.now.workers ≤ 16) }
     requires plan { length plan_text.now ≤ most_read }
     ensures { BetweenFiles F.Files files.old files.new (Prepares F.landed (words_of paths.entry.now)
-        (λ read. RunAnswers plan.entry.now destfile.entry.now (words_of paths.entry.now) (plan_text.now ∷ read))) result }
+        (λ read. RunAnswers options.entry.now.plan.now options.entry.now.destfile.now (words_of paths.entry.now) (plan_text.now ∷ read))) result }
 {
-    let paths = as_texts(alloc, paths)?;
-    let texts = read_all(alloc, files, &paths)?;
-    decided(
-        rt, alloc, gate, plan, destfile, workers, plan_text, &paths, &texts,
-    )
+    let inputs = read_listed(resources.alloc, files, paths)?;
+    decided(resources, options, plan_text, &inputs)
 }

@@ -10,10 +10,10 @@ use crate::cases::{Outcome, run_plan};
 use crate::records::hit_store;
 use crate::texts::texts_of;
 use jc_bytes::Memory;
+use jc_command_work::Resources;
 use jc_exec::ExecStore;
 use jc_programs::{Program, RunPlan};
 use jc_workers::Gate;
-use std::alloc::Global;
 use std::marker::Sync;
 use std::thread::Threads;
 
@@ -36,12 +36,10 @@ pub struct Ran {
 ///
 /// `Memory` where memory was refused.
 pub fn run_program<R: Threads + Sync, G: Gate + Sync>(
-    rt: &R,
-    alloc: Global,
+    resources: &Resources<'_, '_, R, G>,
     program: &Program,
     plan: &RunPlan,
     workers: u32,
-    gate: &G,
 ) -> Result<Ran, Memory>
     requires program { IsProgram program.now }
     requires fits { FitRecords program.now }
@@ -51,8 +49,8 @@ pub fn run_program<R: Threads + Sync, G: Gate + Sync>(
     ensures store { IfOk result (λ ran. ran.store ≡ run_store program.now plan.now) }
     ensures text { IfOk result (λ ran. ran.text.items ≡ case_texts program.now 1 plan.now.cases) }
 {
-    let Outcome { ends, hits } = run_plan(rt, alloc, program, plan, workers, gate)?;
-    let store = hit_store(alloc, program, &hits)?;
-    let text = texts_of(alloc, program, &ends)?;
+    let Outcome { ends, hits } = run_plan(resources, program, plan, workers)?;
+    let store = hit_store(resources.alloc, program, &hits)?;
+    let text = texts_of(resources.alloc, program, &ends)?;
     Ok(Ran { store, text })
 }

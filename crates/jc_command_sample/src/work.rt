@@ -19,7 +19,7 @@ use crate::line::sample_text;
 use crate::plan::sample_plan;
 use jc_bytes::{Bytes, Fail, MOST_READ, Memory, are_bytes, not_a_class};
 use jc_command_run::{line_without_entry, run_program};
-use jc_command_work::{Fault, Stop, class_stop, put_out};
+use jc_command_work::{Fault, Resources, Stop, class_stop, put_out};
 use jc_instrument::{Instrumented, instrument};
 use jc_link_programs::{LinkRefusal, link};
 use jc_outside::Sink;
@@ -88,9 +88,7 @@ fn check_entries<'a>(program: &Program, plan: &RunPlan) -> Result<(), Stop<'a>>
 
 /// The line of a sample with so many methods, of a class with these probes and of its program.
 fn run_sample<'a, R: Threads + Sync, G: Gate + Sync>(
-    rt: &R,
-    alloc: Global,
-    gate: &G,
+    resources: &Resources<'_, '_, R, G>,
     methods: u32,
     bytes: &[u8],
     probes: u32,
@@ -102,9 +100,10 @@ fn run_sample<'a, R: Threads + Sync, G: Gate + Sync>(
     requires fits { FitRecords program.now }
     ensures { Decides (running methods probes (frameless program.now)) (λ line. line.items) result }
 {
+    let alloc = resources.alloc;
     let plan = sample_plan(alloc, methods)?;
     check_entries(program, &plan)?;
-    let ran = run_program(rt, alloc, program, &plan, 1, gate)?;
+    let ran = run_program(resources, program, &plan, 1)?;
     let counters = file_counters(alloc, bytes, &ran.store)?;
     Ok(sample_text(alloc, methods, probes, plan.cases.len(), counters)?)
 }
@@ -114,25 +113,24 @@ fn run_sample<'a, R: Threads + Sync, G: Gate + Sync>(
 /// The class `Sample` has the static methods `m0`, `m1` and so on, each of an int: method k gives back its argument, or k
 /// where k + 2 divides the argument. The class is instrumented. Its run plan has a case for each method, but at most 256; case j
 /// is one thread of method j - 1, whose argument is the number of methods, and has 64 turns. The cases run on one worker, and
-/// each passes through `gate` when it begins. The counters are those of the class before it was instrumented, by the hits.
+/// each passes through the gate when it begins. The counters are those of the class before it was instrumented, by the hits.
 ///
 /// # Errors
 ///
 /// `Memory` where memory was refused. Else `Refused`, as the commands end where a class file isn't instrumented or isn't linked,
 /// where a thread has no method to begin with, or where a record of execution data clashes with a class.
 pub fn sample_line<'a, R: Threads + Sync, G: Gate + Sync>(
-    rt: &R,
-    alloc: Global,
-    gate: &G,
+    resources: &Resources<'_, '_, R, G>,
     methods: u32,
 ) -> Result<Vec<u8>, Stop<'a>>
     requires { (1 ≤ methods) × (methods ≤ 1000) }
     ensures { Decides (line_part methods) (λ line. line.items) result }
 {
+    let alloc = resources.alloc;
     let bytes = sample_file(alloc, methods)?;
     let class = instrumented(alloc, &bytes)?;
     let program = linked(alloc, class.bytes)?;
-    run_sample(rt, alloc, gate, methods, &bytes, class.probes, &program)
+    run_sample(resources, methods, &bytes, class.probes, &program)
 }
 
 /// Writes the line of a sample with so many methods on `out`, as [`sample_line`] gives it.
@@ -141,15 +139,13 @@ pub fn sample_line<'a, R: Threads + Sync, G: Gate + Sync>(
 ///
 /// Those of [`sample_line`], before anything is written. `Output` where the line couldn't be written.
 pub fn sample<'a, R: Threads + Sync, O: Sink, G: Gate + Sync>(
-    rt: &R,
-    alloc: Global,
+    resources: &Resources<'_, '_, R, G>,
     out: &mut O,
-    gate: &G,
     methods: u32,
 ) -> Result<(), Stop<'a>>
     requires { (1 ≤ methods) × (methods ≤ 1000) }
     ensures { RanOut (sample_work methods) (O.told out.old) (O.told out.new) (O.faults out.old) (O.faults out.new) result }
 {
-    let line = sample_line(rt, alloc, gate, methods)?;
+    let line = sample_line(resources, methods)?;
     put_out(out, &line)
 }

@@ -6,15 +6,15 @@ ghost use Rattle.jc_command_words.specs.Seen.{command_seen};
 ghost use Rattle.jc_command_words.specs.Words.{words_of};
 ghost use Rattle.jc_command_work.specs.Step.{outside};
 ghost use Rattle.jc_command_work.specs.Ending.{Ends};
-ghost use Rattle.jc_headline.specs.Runs.{Between};
+ghost use Rattle.jc_command_work.specs.Handed.{Between};
 ghost use Rattle.jc_top.specs.Bounds.{IsBounded};
 ghost use Rattle.jc_top.specs.CoverHeadline.{KeepsHeadline};
-ghost use Rattle.jc_top.specs.Work.{work_of, the_work};
+ghost use Rattle.jc_top.specs.Work.{the_work};
 
-use crate::commands::{class_info, cover, cover_sample, exec_info, instrument, merge, report, run};
+use crate::commands::run_command;
 use jc_bytes::Fail;
 use jc_command_words::{Command, Usage, read_words};
-use jc_command_work::{Status, report_usage};
+use jc_command_work::{Outside, Resources, Status, report_usage};
 use jc_outside::{Files, Sink};
 use jc_workers::Gate;
 use std::alloc::Global;
@@ -28,57 +28,6 @@ fn read_command<'a>(alloc: Global, words: &'a [String]) -> Result<Command<'a>, F
     ensures bounded { IfOk result (λ command. IsBounded (command_seen command)) }
 {
     read_words(alloc, words)
-}
-
-/// Does what the command asks for.
-fn run_command<R: Threads + Sync, F: Files, O: Sink, E: Sink, G: Gate + Sync>(
-    rt: &R,
-    alloc: Global,
-    files: &mut F,
-    out: &mut O,
-    err: &mut E,
-    gate: &G,
-    command: &Command<'_>,
-) -> Status
-    requires few { length (files_of (command_seen command.now)) < 2 ^ 32 }
-    requires bounded { IsBounded (command_seen command.now) }
-    ensures { Between F.Files O.Sink E.Sink (files.old, out.old, err.old) (files.new, out.new, err.new)
-        (Ends F.landed (work_of (command_seen command.now))) result }
-{
-    match command {
-        Command::Instrument { dest, files: words } => {
-            instrument(rt, alloc, files, out, err, dest, words)
-        }
-        Command::Run {
-            plan,
-            destfile,
-            workers,
-            files: words,
-        } => run(
-            rt, alloc, files, out, err, gate, plan, destfile, *workers, words,
-        ),
-        Command::Merge { destfile, inputs } => merge(alloc, files, out, err, destfile, inputs),
-        Command::Report {
-            csv,
-            name,
-            exec,
-            files: words,
-        } => report(rt, alloc, files, out, err, csv, name, *exec, words),
-        Command::ExecInfo { inputs } => exec_info(alloc, files, out, err, inputs),
-        Command::ClassInfo { files: words } => class_info(rt, alloc, files, out, err, words),
-        Command::Cover {
-            dest,
-            plan,
-            destfile,
-            csv,
-            workers,
-            name,
-            files: words,
-        } => cover(
-            rt, alloc, files, out, err, gate, dest, plan, destfile, csv, *workers, name, words,
-        ),
-        Command::CoverSample { methods } => cover_sample(rt, alloc, out, err, gate, *methods),
-    }
 }
 
 /// Does all that the words behind the program's name ask for, and answers how it ended.
@@ -132,7 +81,11 @@ pub fn run_tool<R: Threads + Sync, F: Files, O: Sink, E: Sink, G: Gate + Sync>(
         (outside (F.contents files.new) (O.told out.new) (E.told err.new)) result }
 {
     match read_command(alloc, words) {
-        Ok(command) => run_command(rt, alloc, files, out, err, gate, &command),
+        Ok(command) => {
+            let resources = Resources { rt, alloc, gate };
+            let mut outside = Outside { files, out, err };
+            run_command(&resources, &mut outside, &command)
+        }
         Err(Fail::Memory) => Status::Memory,
         Err(Fail::Said(Usage)) => report_usage(err),
     }

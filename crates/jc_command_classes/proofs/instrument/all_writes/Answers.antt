@@ -1,4 +1,4 @@
-use Rattle.std.proofs.Common.{◌≡◌, rules, ℕ, List, length, min, ◌∙◌, subst, arith}
+use Rattle.std.proofs.Common.{◌≡◌, ◌<◌, rules, ℕ, List, length, min, sym, ◌∙◌, ap, subst, arith}
 use Rattle.std.specs.List.{AllZip, zip}
 use Rattle.std.proofs.lemmas.Iterator.{YieldsList-from_zip}
 use Rattle.std.proofs.lemmas.Iterator.Adapters.{YieldsList-from_vec}
@@ -8,44 +8,52 @@ use Rattle.std.proofs.lemmas.Slice.Zip.{AllZip-long, length-zip}
 use Rattle.std.proofs.lemmas.List.{length_push}
 use Rattle.jc_command_classes.specs.declared.instrument.Decided.{Decided}
 use Rattle.jc_command_classes.specs.Instrument.{IsDecision, decision_seen}
-use Rattle.jc_command_classes.proofs.EachLaws.{at_place}
-use Rattle.jc_command_classes.proofs.InstrumentLaws.{decided_written, all_written}
+use Rattle.jc_command_classes.proofs.EachLaws.{AtPlace, at_place}
+use Rattle.jc_command_classes.proofs.InstrumentLaws.{path_at, decided_written, all_written}
 use Rattle.jc_command_classes.proofs.instrument.all_writes.Goals as goal
 
 pub instrumenting-preserved : goal.instrumenting-preserved
 instrumenting-preserved g c =
     let all = c.in_ok-all.all.items in
-    let texts = c.args.texts.items in
+    let inputs = c.args.inputs in
+    let read = c.into_parts-paths.result.1.items in
     let n = length c.instrumenting.yielded in
     let item : ℕ × (Decided × List ℕ) = (c.in-Some.index, (c.in-Some.decided, c.in-Some.bytes)) in
     let pairs = YieldsList-from_zip (YieldsList-at c.zip.ensures.first (YieldsList-from_vec all c.into_iter.ensures.rest (search rules)))
-    (YieldsList-from_vec texts c.zip.ensures.second.0 (search rules)) in
+    (YieldsList-from_vec read c.zip.ensures.second.0 (search rules)) in
     let turn = YieldsList-turn
     (YieldsList-at c.into_iter-index-iterator.ensures.into_iter_gives
     (YieldsList-from_enumerate (YieldsList-at c.enumerate-index-items.ensures.source pairs) c.enumerate-index-items.ensures.count))
     c.instrumenting.yielded c.instrumenting.index-iterator c.instrumenting.yielded_by c.next.result c.next.new.self item c.in-Some.is c.next.ensures.steps in
+    let place = at_place (zip all read) n c.in-Some.index (c.in-Some.decided, c.in-Some.bytes) turn.0 turn.1 in
+    let zipped : n < min (length all) (length read) = subst (λ (k : ℕ). n < k) (length-zip all read) place.within in
+    let inside : c.in-Some.index < length c.into_parts-paths.result.0.items = (let many = c.into_parts-paths.ensures.each in let at = place.index_is in omega (arith, zipped, many, at)) in
     rw (length_push c.instrumenting.yielded item)
-    (decided_written c.args.targets.now c.args.paths.now texts all n c.in-Some.index c.in-Some.decided c.in-Some.bytes
-    c.index-targets-index.result c.index-paths-index.result c.as_str.result.now c.as_str-in-instrumenting.result.now
+    (decided_written c.args.targets.now inputs.paths inputs.texts all n c.in-Some.index c.in-Some.decided c.in-Some.bytes
+    c.index-targets-index.result c.as_str.result.now c.index.result.now.now
     c.instrumenting.writes.items c.put_file.new.writes.items
-    (subst (λ (ts : List (List ℕ)). AllZip (λ t d. IsDecision t (decision_seen d)) ts all) c.deref.ensures.value c.in_ok-all.ensures)
-    c.requires.targets c.requires.each
-    (at_place (zip all texts) n c.in-Some.index (c.in-Some.decided, c.in-Some.bytes) turn.0 turn.1) c.index-targets-index.is c.index-paths-index.is
-    c.as_str.ensures.value c.as_str-in-instrumenting.ensures.value c.instrumenting.invariant c.in_ok-put_file.ensures)
+    (subst (λ (ts : List (List ℕ)). AllZip (λ t d. IsDecision t (decision_seen d)) ts all) c.texts.ensures.texts c.in_ok-all.ensures)
+    c.requires (sym (ap length c.texts.ensures.texts) ∙ c.texts.ensures.each)
+    (subst (λ (ts : List (List ℕ)). AtPlace (zip all ts) n c.in-Some.index (c.in-Some.decided, c.in-Some.bytes)) c.into_parts-paths.ensures.texts place) c.index-targets-index.is
+    (path_at c.into_parts-paths.result.0.items inputs.paths c.in-Some.index c.index.result.now c.into_parts-paths.ensures.paths inside c.index.ensures)
+    c.as_str.ensures.value c.instrumenting.invariant c.in_ok-put_file.ensures)
 
 pub returns : goal.returns
 returns g c =
     let all = c.in_ok-all.all.items in
-    let texts = c.args.texts.items in
+    let inputs = c.args.inputs in
+    let read = c.into_parts-paths.result.1.items in
     let n = length c.instrumenting.yielded in
     let pairs = YieldsList-from_zip (YieldsList-at c.zip.ensures.first (YieldsList-from_vec all c.into_iter.ensures.rest (search rules)))
-    (YieldsList-from_vec texts c.zip.ensures.second.0 (search rules)) in
+    (YieldsList-from_vec read c.zip.ensures.second.0 (search rules)) in
     let end = YieldsList-end
     (YieldsList-at c.into_iter-index-iterator.ensures.into_iter_gives
     (YieldsList-from_enumerate (YieldsList-at c.enumerate-index-items.ensures.source pairs) c.enumerate-index-items.ensures.count))
     c.instrumenting.yielded c.instrumenting.index-iterator c.instrumenting.yielded_by c.next.result c.next.new.self c.in-None.is c.next.ensures.steps in
-    let each = subst (λ (ts : List (List ℕ)). AllZip (λ t d. IsDecision t (decision_seen d)) ts all) c.deref.ensures.value c.in_ok-all.ensures in
-    let long = AllZip-long _ texts all each in
-    let made : n ≡ min (length all) (length texts) = end.1 ∙ length-enumerate_from 0 (zip all texts) ∙ length-zip all texts in
-    all_written c.args.targets.now c.args.paths.now texts n c.instrumenting.writes.items (omega (arith, made, long, c.requires.targets, c.requires.each))
-    (omega (arith, made, long, c.requires.each)) (omega (arith, made, long)) c.instrumenting.invariant
+    let each = subst (λ (ts : List (List ℕ)). AllZip (λ t d. IsDecision t (decision_seen d)) ts all) c.texts.ensures.texts c.in_ok-all.ensures in
+    let long = AllZip-long _ inputs.texts all each in
+    let many : length inputs.texts ≡ length inputs.paths = sym (ap length c.texts.ensures.texts) ∙ c.texts.ensures.each in
+    let same : length read ≡ length inputs.texts = ap length c.into_parts-paths.ensures.texts in
+    let made : n ≡ min (length all) (length read) = end.1 ∙ length-enumerate_from 0 (zip all read) ∙ length-zip all read in
+    all_written c.args.targets.now inputs.paths inputs.texts n c.instrumenting.writes.items (omega (arith, made, same, long, c.requires, many))
+    (omega (arith, made, same, long, many)) (omega (arith, made, same, long)) c.instrumenting.invariant

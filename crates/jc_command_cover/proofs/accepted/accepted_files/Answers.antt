@@ -3,18 +3,34 @@ use Rattle.std.specs.Borrow.{Bor}
 use Rattle.std.proofs.lemmas.Simd.{map-map}
 use Rattle.jc_paths.specs.Paths.{in_folder}
 use Rattle.jc_headline.specs.CoverWork.{LookedFile}
-use Rattle.jc_command_cover.proofs.AcceptedLaws.{are_accepted}
+use Rattle.jc_command_work.specs.Seen.{texts_of}
+use Rattle.jc_command_cover.proofs.AcceptedLaws.{are_accepted, kept_texts}
 use Rattle.jc_command_cover.proofs.accepted.accepted_files.Goals as goal
 
 as_items : (texts : List (List ℕ)) → map (λ (t : List ℕ). t) texts ≡ texts
 as_items [] = refl
 as_items (t ∷ texts) = ap (λ (ts : List (List ℕ)). t ∷ ts) (as_items texts)
 
+pub new-inputs-requires : goal.new-inputs-requires
+new-inputs-requires c =
+    let now = λ (t : Bor (List ℕ)). t.now in
+    let looked = c.requires.some.looked in
+    let all = c.requires.some.of in
+    let parts = c.into_parts-paths.ensures in
+    let paths_are = parts.paths ∙ all.paths_are in
+    let texts_are = parts.texts ∙ all.texts_are in
+    kept_texts looked (texts_of c.into_parts-paths.result.0.items) (texts_of c.in_ok-paths.paths.items) c.into_parts-paths.result.1.items c.in_ok-texts.texts.items paths_are texts_are
+    (c.in_ok-paths.ensures now (λ l. l.file) looked paths_are (c.deref.ensures.value ∙ all.places_are))
+    (sym (as_items c.in_ok-texts.texts.items)
+    ∙ c.in_ok-texts.ensures (λ t. t) (λ l. l.bytes) looked (as_items c.into_parts-paths.result.1.items ∙ texts_are) (c.deref-3.ensures.value ∙ all.places_are))
+    parts.read
+
 pub returns : goal.returns
 returns c dest looked all =
     let now = λ (t : Bor (List ℕ)). t.now in
-    are_accepted dest looked _ c.args.texts.items c.requires.few c.requires.short all.texts_are all.places_are
-    (c.in_ok-paths.ensures now (λ l. l.file) looked all.paths_are (c.deref.ensures.value ∙ all.places_are))
+    let parts = c.into_parts-paths.ensures in
+    are_accepted dest looked _ c.args.inputs.paths c.requires.few all.paths_are all.places_are
+    (c.new-inputs.ensures.paths ∙ c.in_ok-paths.ensures now (λ l. l.file) looked (parts.paths ∙ all.paths_are) (c.deref.ensures.value ∙ all.places_are))
     (c.in_ok-targets.ensures now (λ l. in_folder dest l.file) looked (all.targets_are ∙ map-map (in_folder dest) (λ (l : LookedFile). l.file) looked) (c.deref-2.ensures.value ∙ all.places_are))
-    (sym (as_items c.in_ok-texts.texts.items)
-    ∙ c.in_ok-texts.ensures (λ t. t) (λ l. l.bytes) looked (as_items c.args.texts.items ∙ all.texts_are) (c.deref-3.ensures.value ∙ all.places_are))
+    (c.new-inputs.ensures.texts ∙ sym (as_items c.in_ok-texts.texts.items)
+    ∙ c.in_ok-texts.ensures (λ t. t) (λ l. l.bytes) looked (as_items c.into_parts-paths.result.1.items ∙ parts.texts ∙ all.texts_are) (c.deref-3.ensures.value ∙ all.places_are))

@@ -1,5 +1,6 @@
 use Rattle.std.proofs.Common.{List, length, map}
 use Rattle.jc_command_work.specs.Step.{Word, outside, counts}
+use Rattle.jc_command_work.specs.Handed.{SameReferences}
 use Rattle.jc_command_work.specs.Seen.{words_of}
 use Rattle.jc_command_classes.specs.Instrument.{decision_seen}
 use Rattle.jc_headline.specs.CoverWork.{LookedFile}
@@ -13,8 +14,10 @@ invariant-writing g l =
     let F = g.F.Files in
     let O = g.O.Sink in
     let E = g.E.Sink in
-    (dest : Word) (looked : List LookedFile) → AreOf dest looked (words_of l.targets) (words_of l.paths) l.texts (map decision_seen l.fn.all.items)
+    SameReferences l.fn.outside l.outside
+    × ((dest : Word) (looked : List LookedFile) → AreOf dest looked (words_of l.targets) l.inputs.paths l.inputs.texts (map decision_seen l.fn.all.items)
     → WroteFirst F.landed dest looked (length l.yielded)
-    (outside (F.contents l.fn.files) (O.told l.fn.out) (E.told l.fn.err)) (outside (F.contents l.files) (O.told l.out) (E.told l.err))
-    (counts (F.read_faults l.fn.files) (F.write_faults l.fn.files) (O.faults l.fn.out) (E.faults l.fn.err))
-    (counts (F.read_faults l.files) (F.write_faults l.files) (O.faults l.out) (E.faults l.err)) l.places.items
+    (outside (F.contents l.fn.outside.files.now) (O.told l.fn.outside.out.now) (E.told l.fn.outside.err.now))
+    (outside (F.contents l.outside.files.now) (O.told l.outside.out.now) (E.told l.outside.err.now))
+    (counts (F.read_faults l.fn.outside.files.now) (F.write_faults l.fn.outside.files.now) (O.faults l.fn.outside.out.now) (E.faults l.fn.outside.err.now))
+    (counts (F.read_faults l.outside.files.now) (F.write_faults l.outside.files.now) (O.faults l.outside.out.now) (E.faults l.outside.err.now)) l.places.items)

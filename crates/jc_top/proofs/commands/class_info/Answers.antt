@@ -9,10 +9,13 @@ pub returns-in-Err : goal.returns-in-Err
 returns-in-Err g c =
     let F = g.F.Files in
     let O = g.O.Sink in
-    let E = g.E.Sink in
-    unlisted_ends F.landed (map file_view c.args.words.now) ListAnswers _ _ _ _ _ _ (stop_seen c.in-Err.stop) c.report.result
-    (c.in-Err.ensures.does (O.told c.args.out.now) (E.told c.args.err.now) (O.faults c.args.out.now) (E.faults c.args.err.now))
-    (c.report.ensures (F.contents c.list_files.new.files) (O.told c.args.out.now) (F.read_faults c.list_files.new.files) (F.write_faults c.list_files.new.files) (O.faults c.args.out.now))
+    let E = g.E.Sink in (
+      (refl, refl, refl),
+      unlisted_ends F.landed (map file_view c.args.words.now) ListAnswers _ _ _ _ _ _ (stop_seen c.in-Err.stop) c.report.result
+          (c.in-Err.ensures.does (O.told c.args.outside.now.out.now) (E.told c.args.outside.now.err.now) (O.faults c.args.outside.now.out.now) (E.faults c.args.outside.now.err.now))
+          (c.report.ensures (F.contents c.list_files.new.files) (O.told c.args.outside.now.out.now) (F.read_faults c.list_files.new.files)
+          (F.write_faults c.list_files.new.files) (O.faults c.args.outside.now.out.now)),
+    )
 
 pub returns : goal.returns
 returns g c =
@@ -20,9 +23,12 @@ returns g c =
     let O = g.O.Sink in
     let E = g.E.Sink in
     let paths = words_of c.in-Ok.paths.items in
-    let listed = words_of c.deref.result.now in
-    listed_ends F.landed (map file_view c.args.words.now) ListAnswers _ _ paths _ _ _ _ c.complete.result
-    (c.in-Ok.ensures.does (O.told c.args.out.now) (E.told c.args.err.now) (O.faults c.args.out.now) (E.faults c.args.err.now))
-    (ends_same F.landed (λ _. ListAnswers) [] [] listed paths refl (ap words_of c.deref.ensures.value) _ _ _ _ c.complete.result
-    (completed F.landed listed (ListAnswers listed) _ _ _ _ _ _ c.prepare_class_info-prepared.result c.complete.result
-    (c.prepare_class_info-prepared.ensures (O.told c.args.out.now) (E.told c.args.err.now) (O.faults c.args.out.now) (E.faults c.args.err.now)) c.complete.ensures))
+    let listed = words_of c.deref.result.now in (
+      c.complete.ensures.0,
+      listed_ends F.landed (map file_view c.args.words.now) ListAnswers _ _ paths _ _ _ _ c.complete.result
+          (c.in-Ok.ensures.does (O.told c.args.outside.now.out.now) (E.told c.args.outside.now.err.now) (O.faults c.args.outside.now.out.now) (E.faults c.args.outside.now.err.now))
+          (ends_same F.landed (λ _. ListAnswers) [] [] listed paths refl (ap words_of c.deref.ensures.value) _ _ _ _ c.complete.result
+          (completed F.landed listed (ListAnswers listed) _ _ _ _ _ _ c.prepare_class_info-prepared.result c.complete.result
+          (c.prepare_class_info-prepared.ensures (O.told c.args.outside.now.out.now) (E.told c.args.outside.now.err.now)
+          (O.faults c.args.outside.now.out.now) (E.faults c.args.outside.now.err.now)) c.complete.ensures.1)),
+    )

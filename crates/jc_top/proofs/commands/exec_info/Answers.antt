@@ -7,6 +7,9 @@ pub returns : goal.returns
 returns g c =
     let O = g.O.Sink in
     let E = g.E.Sink in
-    let inputs = texts_of c.args.inputs.now in
-    completed g.F.Files.landed inputs (InfoAnswers inputs) _ _ _ _ _ _ c.prepare_exec_info-prepared.result c.complete.result
-    (c.prepare_exec_info-prepared.ensures (O.told c.args.out.now) (E.told c.args.err.now) (O.faults c.args.out.now) (E.faults c.args.err.now)) c.complete.ensures
+    let inputs = texts_of c.args.inputs.now in (
+      c.complete.ensures.0,
+      completed g.F.Files.landed inputs (InfoAnswers inputs) _ _ _ _ _ _ c.prepare_exec_info-prepared.result c.complete.result
+          (c.prepare_exec_info-prepared.ensures (O.told c.args.outside.now.out.now) (E.told c.args.outside.now.err.now)
+          (O.faults c.args.outside.now.out.now) (E.faults c.args.outside.now.err.now)) c.complete.ensures.1,
+    )

@@ -4,13 +4,16 @@ use Rattle.jc_top.proofs.complete.complete.Goals as goal
 
 pub returns-in-Ok-write_all : goal.returns-in-Ok-write_all
 returns-in-Ok-write_all g c =
-    rw c.in-Ok.is (wrote_all g.F.Files.landed c.deref.result.now c.in-Ok.writes.items c.deref.ensures.value _ _ _ _ c.in-Ok-write_all.ensures.does)
+    rw c.in-Ok.is (c.in-Ok-write_all.ensures.does.0, wrote_all g.F.Files.landed c.deref.result.now c.in-Ok.writes.items c.deref.ensures.value _ _ _ _ c.in-Ok-write_all.ensures.does.1)
 
 pub returns : goal.returns
 returns g c =
     let F = g.F.Files in
     let O = g.O.Sink in
-    rw c.in-Ok.is
-    (wrote_some F.landed c.deref.result.now c.in-Ok.writes.items c.deref.ensures.value _ _ _ _ _ _ (stop_seen c.in-Err-write_all.stop) c.report-in-Err-write_all.result c.in-Err-write_all.ensures.does
-    (c.report-in-Err-write_all.ensures (F.contents c.write_all.new.files) (O.told c.write_all.new.out) (F.read_faults c.write_all.new.files)
-    (F.write_faults c.write_all.new.files) (O.faults c.write_all.new.out)))
+    rw c.in-Ok.is (
+      c.in-Err-write_all.ensures.does.0,
+      wrote_some F.landed c.deref.result.now c.in-Ok.writes.items c.deref.ensures.value _ _ _ _ _ _ (stop_seen c.in-Err-write_all.stop)
+          c.report-in-Err-write_all.result c.in-Err-write_all.ensures.does.1
+          (c.report-in-Err-write_all.ensures (F.contents c.write_all.new.outside.files.now) (O.told c.write_all.new.outside.out.now)
+          (F.read_faults c.write_all.new.outside.files.now) (F.write_faults c.write_all.new.outside.files.now) (O.faults c.write_all.new.outside.out.now)),
+    )

@@ -1,3 +1,4 @@
+use Rattle.std.proofs.Common.{sym}
 use Rattle.jc_command_words.specs.Words.{words_of}
 use Rattle.jc_command_words.specs.Seen.{command_seen}
 use Rattle.jc_top.proofs.CommandLaws.{called_ends, usage_ends, memory_ends}
@@ -8,8 +9,10 @@ use Rattle.jc_top.proofs.run.run_tool.Goals as goal
 pub returns-in-Ok : goal.returns-in-Ok
 returns-in-Ok g c =
     let words = words_of c.args.words.now in
-    let ends = called_ends g.F.Files.landed words _ _ _ _ c.run_command.result (command_seen c.in-Ok.command) c.in-Ok.ensures.read c.run_command.ensures in
-    record { work = ends; headline = keeps_headline g.F.Files.landed words _ _ _ _ c.run_command.result ends }
+    let ran = c.run_command.ensures in
+    let ends = called_ends g.F.Files.landed words _ _ _ _ c.run_command.result (command_seen c.in-Ok.command) c.in-Ok.ensures.read ran.1 in
+    rw (c.files-1.given.1 (sym ran.0.0), c.out-1.given.1 (sym ran.0.1), c.err-1.given.1 (sym ran.0.2))
+    (record { work = ends; headline = keeps_headline g.F.Files.landed words _ _ _ _ c.run_command.result ends })
 
 pub returns-in-Err-Memory : goal.returns-in-Err-Memory
 returns-in-Err-Memory g c =

@@ -1,8 +1,8 @@
-//! What the words of `cover` say.
+//! What the options of `cover` are given.
 
-/// What the words of `cover` say, but for its files.
+/// What the options of `cover` are given.
 #[derive(Clone, Copy)]
-pub struct CoverWords<'a> {
+pub struct CoverOptions<'a> {
     /// The folder to which the class files are written.
     pub dest: &'a str,
     /// The file of the run plan.
