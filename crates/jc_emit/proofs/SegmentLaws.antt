@@ -8,6 +8,7 @@ use Rattle.jc_methods.specs.Flow.{flow_of, targets_of, jump_target}
 use Rattle.jc_bytes.specs.FirstSeen.{first_seen}
 use Rattle.jc_methods.specs.Insn.{IsWellFormed, with_places}
 use Rattle.jc_methods.specs.InsnUse.{is_of_two_slots, LocalsWithin, LeadsWithin}
+use Rattle.jc_methods.specs.ProbeMembers.{most_probes, most_short}
 use Rattle.jc_methods.specs.Slots.{slot_of}
 use Rattle.jc_methods.specs.WellMade.{IsWellMadeOfAnySize}
 use Rattle.jc_methods.specs.Widened.{inverted}
@@ -87,12 +88,12 @@ few_ids b p =
     count_le (λ x. is_probed b x && is_before (position_of x) p) (is_probed b) (branches b.code)
     (λ x e. and_front (is_probed b x) (is_before (position_of x) p) e)
 
-pushed_if : (t : Bool) (id : ℕ) → id ≤ 32767 → IsPushed (id_if t id)
+pushed_if : (t : Bool) (id : ℕ) → id ≤ most_short → IsPushed (id_if t id)
 pushed_if true id le = le
 pushed_if false id le = tt
 
-module _ (b : Body) (first : ℕ) (plan : Plan) (is : plan ≡ plan_of b first) (next : plan.next ≤ 32767) where
-  few_next : (p : Position) → first + probes_before b p ≤ 32767
+module _ (b : Body) (first : ℕ) (plan : Plan) (is : plan ≡ plan_of b first) (next : plan.next ≤ most_probes) where
+  few_next : (p : Position) → first + probes_before b p ≤ most_probes
   few_next p = let n : plan.next ≡ first + probe_count b = ap (λ (q : Plan). q.next) is in omega (arith, n, next, few_ids b p)
 
   pub lead_pushed : (i : ℕ) → IsPushed (lead_probe b first i)

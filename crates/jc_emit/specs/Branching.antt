@@ -2,6 +2,7 @@
 use Rattle.std.specs.Prelude.{◌≡◌, ◌<◌, length, ⊤, ℕ, ◌+◌, ◌≤◌, List, [], ◌∷◌, Option, Some, None, slice_index, slice_index_or, nat_eq, if◌then◌else◌}
 use Rattle.std.specs.List.{sum_by}
 use Rattle.jc_methods.specs.Insn.{with_places}
+use Rattle.jc_methods.specs.ProbeMembers.{most_short}
 use Rattle.jc_methods.specs.Widened.{inverted}
 use Rattle.jc_methods.specs.declared.insn.Insn.{Insn}
 use Rattle.jc_methods.specs.declared.insn.Flow.{Flow}
@@ -32,7 +33,7 @@ behind_in _ ids = 0
 -- an id that one instruction pushes (JVM Specification 6.5, sipush)
 abbrev pub IsPushed : Option ℕ → Type 0
 IsPushed None = ⊤
-IsPushed (Some id) = id ≤ 32767
+IsPushed (Some id) = id ≤ most_short
 
 -- the image of a conditional jump: with a probe its inverse, which leads to where the fall-through does
 abbrev pub test_image : (ℕ → ℕ) → (next : ℕ) → Insn → Option ℕ → Insn

@@ -1,5 +1,6 @@
 -- The code of an instrumented method as it is written.
 use Rattle.std.specs.Prelude.{◌≡◌, ℕ, ◌≤◌, List, ◌++◌, map}
+use Rattle.jc_methods.specs.ProbeMembers.{most_probes}
 use Rattle.jc_methods.specs.WellMade.{IsWellMadeOfAnySize}
 use Rattle.jc_methods.specs.declared.body.Body.{Body}
 use Rattle.jc_methods.specs.declared.plan.Plan.{Plan}
@@ -20,5 +21,5 @@ pub record Grows (v : ℕ) (old new : Written) (items : List Item) : Type 0 wher
 pub record CanWrite (b : Body) (plan : Plan) (places : Places) : Type 0 where
   pub made : IsWellMadeOfAnySize b
   pub planned : HasPlan b plan
-  pub next : plan.next ≤ 32767
+  pub next : plan.next ≤ most_probes
   pub placed : (first : ℕ) → plan ≡ plan_of b first → ArePlaces b first places

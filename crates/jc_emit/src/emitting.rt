@@ -2,6 +2,7 @@
 ghost use Rattle.std.specs.Prelude.{◌≡◌, ◌⊎◌, ⊤, ℕ, ◌+◌, ◌≤◌};
 ghost use Rattle.std.specs.Prelude.{Some, None, length, IfOk, OnOk, IfErr, IfSome, MatchResult};
 ghost use Rattle.std.specs.List.{sum_by};
+ghost use Rattle.jc_methods.specs.ProbeMembers.{most_probes};
 ghost use Rattle.jc_methods.specs.VerificationTypes.{Grows, AreNumberedFrames};
 ghost use Rattle.jc_methods.specs.Insn.{arm_count};
 ghost use Rattle.jc_bytes.specs.Names.{with_name};
@@ -70,7 +71,7 @@ fn instrumented(
 ) -> Result<Emitted, Memory>
     requires body { IsWellMade body.now }
     requires plan { HasPlan body.now plan.now }
-    requires next { plan.now.next ≤ 32767 }
+    requires next { plan.now.next ≤ most_probes }
     requires states { ArePut body.now states.now }
     requires room { HasRoom body.now }
     ensures { (first : ℕ) → plan.now ≡ plan_of body.now first → IfOk result (λ e. e ≡ emission body.now first states.now array) }
@@ -138,7 +139,7 @@ pub fn emit(
 ) -> Result<Emitted, Fail<Refusal>>
     requires body { IsWellMade body.now }
     requires plan { HasPlan body.now plan.now }
-    requires next { plan.now.next ≤ 32767 }
+    requires next { plan.now.next ≤ most_probes }
     requires states { AreStates names.old body.now states.now }
     requires frames { AreNumberedFrames (length names.old) body.now.frames }
     // What is given is the emission of the definition, with the number of `[Z` in the names afterwards.

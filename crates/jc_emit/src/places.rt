@@ -1,6 +1,7 @@
 //! Where the instructions of an instrumented method stand, in the narrow layout.
 ghost use Rattle.std.specs.Prelude.{◌≡◌, ◌≤◌, ◌+◌, ◌*◌, [], ◌∷◌, ◌++◌, ℕ, length, IfOk, OnOk};
 ghost use Rattle.std.specs.List.{sum_by};
+ghost use Rattle.jc_methods.specs.ProbeMembers.{most_probes};
 ghost use Rattle.jc_methods.specs.WellMade.{IsWellMadeOfAnySize};
 ghost use Rattle.jc_emit.specs.Branching.{early_in, late_in, behind_in};
 ghost use Rattle.jc_emit.specs.Sizes.{probe_size, hop_size};
@@ -139,7 +140,7 @@ impl Places {
     pub(crate) fn of(alloc: Global, body: &Body, plan: &Plan) -> Result<Places, Memory>
         requires made { IsWellMadeOfAnySize body.now }
         requires plan { HasPlan body.now plan.now }
-        requires next { plan.now.next ≤ 32767 }
+        requires next { plan.now.next ≤ most_probes }
         ensures places { (first : ℕ) → plan.now ≡ plan_of body.now first → IfOk result (ArePlaces body.now first) }
         ensures small { IfOk result AreSmall }
     {

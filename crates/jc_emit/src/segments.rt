@@ -3,6 +3,7 @@ ghost use Rattle.std.specs.Prelude.{◌≡◌, ◌<◌, ◌≤◌, ◌+◌, ℕ,
 ghost use Rattle.jc_methods.specs.Flow.{flow_of};
 ghost use Rattle.jc_methods.specs.Insn.{IsWellFormed};
 ghost use Rattle.jc_methods.specs.InsnUse.{LeadsWithin};
+ghost use Rattle.jc_methods.specs.ProbeMembers.{most_probes};
 ghost use Rattle.jc_methods.specs.WellMade.{IsWellMadeOfAnySize};
 ghost use Rattle.jc_methods.specs.declared.body.Body.{Body as MethodBody};
 ghost use Rattle.jc_methods.specs.declared.insn.Flow.TheVariants as flows;
@@ -218,7 +219,7 @@ pub(crate) fn write_code(
 ) -> Result<Written, Memory>
     requires made { IsWellMadeOfAnySize body.now }
     requires plan { HasPlan body.now plan.now }
-    requires next { plan.now.next ≤ 32767 }
+    requires next { plan.now.next ≤ most_probes }
     requires places { (first : ℕ) → plan.now ≡ plan_of body.now first → ArePlaces body.now first places.now }
     ensures { (first : ℕ) → plan.now ≡ plan_of body.now first
         → IfOk result (Shows body.now.arg_slots (twin_items body.now first false)) }

@@ -1,5 +1,6 @@
 //! The instrumented code of a method in stages: its code, and then its tables and the frames of the layout that is chosen.
 ghost use Rattle.std.specs.Prelude.{◌≡◌, ℕ, ◌≤◌, length, IfOk, IfErr};
+ghost use Rattle.jc_methods.specs.ProbeMembers.{most_probes};
 ghost use Rattle.jc_methods.specs.VerificationTypes.{Grows, AreNumberedFrames};
 ghost use Rattle.jc_methods.specs.WellMade.{IsWellMade};
 ghost use Rattle.jc_bytes.specs.Failing.{Said};
@@ -27,7 +28,7 @@ use std::alloc::Global;
 pub fn emit_code(alloc: Global, body: &Body, plan: &Plan) -> Result<List<Insn>, Fail<Refusal>>
     requires body { IsWellMade body.now }
     requires plan { HasPlan body.now plan.now }
-    requires next { plan.now.next ≤ 32767 }
+    requires next { plan.now.next ≤ most_probes }
     ensures code { (first : ℕ) → plan.now ≡ plan_of body.now first → IfOk result (λ code. code ≡ emitted_code body.now first) }
     ensures room { IfOk result (λ _. HasRoom body.now) }
     ensures refused { IfErr result (λ e. Said e (IsEmitRefusal body.now)) }
@@ -69,7 +70,7 @@ pub fn emit_parts(
 ) -> Result<EmittedParts, Memory>
     requires body { IsWellMade body.now }
     requires plan { HasPlan body.now plan.now }
-    requires next { plan.now.next ≤ 32767 }
+    requires next { plan.now.next ≤ most_probes }
     requires room { HasRoom body.now }
     requires states { AreStates names.old body.now states.now }
     requires frames { AreNumberedFrames (length names.old) body.now.frames }

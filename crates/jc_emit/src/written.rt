@@ -1,5 +1,6 @@
 //! The code of an instrumented method as it is written.
 ghost use Rattle.std.specs.Prelude.{◌≡◌, ◌≤◌, [], ◌∷◌, ◌++◌, Bool, Option, ℕ, IfOk, OnOk};
+ghost use Rattle.jc_methods.specs.ProbeMembers.{most_short};
 ghost use Rattle.jc_methods.specs.Widened.{goto};
 ghost use Rattle.jc_emit.specs.Branching.{IsPushed};
 ghost use Rattle.jc_emit.specs.Items.{prelude, image, probe, hop, lead_part, early_part, hop_part};
@@ -24,7 +25,7 @@ pub(crate) struct Written {
 
 /// The shortest instruction that pushes an id (JVM Specification 6.5, iconst, bipush and sipush).
 fn push(id: u32) -> Insn
-    requires { id ≤ 32767 }
+    requires { id ≤ most_short }
     ensures { result ≡ push id }
 {
     if id <= 5 {
@@ -98,7 +99,7 @@ impl Written {
     /// Puts a probe, which belongs to the instruction at a place: it stores true in the array of
     /// probes.
     fn put_probe(&mut self, slot: u16, id: u32, at: u32) -> Result<(), Memory>
-        requires { id ≤ 32767 }
+        requires { id ≤ most_short }
         ensures { OnOk result ((late : Bool) → Grows slot self.old self.new (probe id at late)) }
     {
         let array = Insn::Local {

@@ -1,6 +1,7 @@
 -- The bodies of a class that no cause refuses have room for their probes.
 use Rattle.std.proofs.Common.{◌≡◌, ◌⊎◌, inl, inr, ℕ, ◌<◌, ◌≤◌, List, [], ◌∷◌, ◌++◌, slice_get, Some, false, refl, arith}
 use Rattle.std.proofs.lemmas.Bool.{cases_lt}
+use Rattle.jc_methods.specs.ProbeMembers.{most_probes}
 use Rattle.jc_methods.specs.declared.body.Body.{Body}
 use Rattle.jc_bytes.specs.declared.refusal.RefusalKind.TheVariants as kinds
 use Rattle.jc_class.specs.Writable.{IsClassFile}
@@ -23,10 +24,10 @@ module _ (c : ClassFile) (bodies : List Body) (is : IsClassFile c) (changes : is
   room : NoCause (early_room_causes c ++ (HasTooLargeCode c ∷ []))
   room = none_behind (code_causes c) (early_room_causes c ++ (HasTooLargeCode c ∷ [])) none
 
-  probes_few : all_probes bodies ≤ 32767
-  probes_few = by (cases_lt 32767 (all_probes bodies))
+  probes_few : all_probes bodies ≤ most_probes
+  probes_few = by (cases_lt most_probes (all_probes bodies))
     where
-      by : (32767 < all_probes bodies) ⊎ (all_probes bodies ≤ 32767) → all_probes bodies ≤ 32767
+      by : (most_probes < all_probes bodies) ⊎ (all_probes bodies ≤ most_probes) → all_probes bodies ≤ most_probes
       by (inl many) = absurd (room.1.0 (of_class kinds.TooManyProbes (all_probes bodies))
           (record { bodies = bodies; are = are; many = many; refusal = refl }))
       by (inr few) = few

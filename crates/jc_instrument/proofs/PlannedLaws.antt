@@ -4,6 +4,7 @@ use Rattle.std.specs.Prelude.{IfSome}
 use Rattle.std.specs.List.{list_any}
 use Rattle.std.proofs.lemmas.List.Sums.{sum_by_push}
 use Rattle.std.proofs.lemmas.Option.{none-some, same_Some}
+use Rattle.jc_methods.specs.ProbeMembers.{most_probes}
 use Rattle.jc_methods.specs.VerificationTypes.{Names, Grows, AreNumberedFrames, type_state_at}
 use Rattle.jc_methods.specs.WellMade.{IsWellMade}
 use Rattle.jc_methods.specs.declared.body.Body.{Body}
@@ -107,7 +108,8 @@ module _ (names : Names) (b : Body) (plan : Plan) (first : ℕ) (l : Laid) (plan
       subst (λ (code : List Insn). chosen_length code ≤ 65535) (emission_code b first [] 0) (laid_length (emission b first [] 0) l (laid first [] 0 plan_is))
 
   module _ (old new : List PlannedBody) where
-    pub puts_ready : (states : List State) → IsWellMade b → plan.next ≤ 32767 → HasRoom b → length b.handlers ≤ 65535 → AreNumberedFrames (length names) b.frames → AreStates names b states
+    pub puts_ready : (states : List State) → IsWellMade b → plan.next ≤ most_probes → HasRoom b → length b.handlers ≤ 65535
+        → AreNumberedFrames (length names) b.frames → AreStates names b states
         → new ≡ old ++ Ready (record { body = b; plan = plan; laid = l; states = states }) ∷ [] → PutsPlanned names b first old new
     puts_ready states made few room rows numbered are put = record {
       planned = Ready (record { body = b; plan = plan; laid = l; states = states });
@@ -120,12 +122,12 @@ module _ (names : Names) (b : Body) (plan : Plan) (first : ℕ) (l : Laid) (plan
       short = laid_short;
     }
 
-    pub puts_unread : IsWellMade b → IsTaken b → length b.handlers ≤ 65535 → plan.next ≤ 32767 → new ≡ old ++ Unread (record { method = b.method; first = first }) ∷ []
+    pub puts_unread : IsWellMade b → IsTaken b → length b.handlers ≤ 65535 → plan.next ≤ most_probes → new ≡ old ++ Unread (record { method = b.method; first = first }) ∷ []
         → PutsPlanned names b first old new
     puts_unread made taken rows few put = record {
       planned = Unread (record { method = b.method; first = first });
       put = put;
-      is = (refl, refl, record { made = made; taken = taken; rows = rows; next = subst (λ (p : Plan). p.next ≤ 32767) plan_is few; short = laid_short });
+      is = (refl, refl, record { made = made; taken = taken; rows = rows; next = subst (λ (p : Plan). p.next ≤ most_probes) plan_is few; short = laid_short });
       short = laid_short;
     }
 

@@ -6,6 +6,7 @@ use Rattle.std.proofs.lemmas.Bool.{cases_lt}
 use Rattle.std.proofs.lemmas.List.{length-map}
 use Rattle.std.proofs.lemmas.List.Elements.{All-nil}
 use Rattle.std.proofs.lemmas.Option.{same_Some, slice_get-get_or}
+use Rattle.jc_methods.specs.ProbeMembers.{most_probes}
 use Rattle.jc_methods.specs.VerificationTypes.{Names}
 use Rattle.jc_methods.specs.WellMade.{IsWellMade}
 use Rattle.jc_methods.specs.declared.body.Body.{Body}
@@ -64,10 +65,10 @@ module _ (names : Names) (c : ClassFile) (bodies : List Body) (changes : is_left
       first_behind (code_causes c) (room c) r no_code (first_in_front (early_room_causes c) (HasTooLargeCode c ∷ []) r first)
 
   module _ (none : NoCause (early_room_causes c)) where
-    pub few_probes_then : all_probes bodies ≤ 32767
-    few_probes_then = by (cases_lt 32767 (all_probes bodies))
+    pub few_probes_then : all_probes bodies ≤ most_probes
+    few_probes_then = by (cases_lt most_probes (all_probes bodies))
       where
-        by : (32767 < all_probes bodies) ⊎ (all_probes bodies ≤ 32767) → all_probes bodies ≤ 32767
+        by : (most_probes < all_probes bodies) ⊎ (all_probes bodies ≤ most_probes) → all_probes bodies ≤ most_probes
         by (inl many) = absurd (none.1.0 _ (record { bodies = bodies; are = of_class; many = many; refusal = refl }))
         by (inr few) = few
 

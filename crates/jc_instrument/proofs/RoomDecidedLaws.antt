@@ -3,6 +3,7 @@ use Rattle.std.proofs.Common.{◌≡◌, ◌≢◌, ◌⊎◌, inl, inr, ℕ, ze
 use Rattle.std.specs.Prelude.{Contains}
 use Rattle.std.proofs.lemmas.Bool.{cases_lt, cases_eq}
 use Rattle.std.proofs.lemmas.Option.{none-some, same_Some, slice_get_within, slice_get_cases}
+use Rattle.jc_methods.specs.ProbeMembers.{most_probes}
 use Rattle.jc_methods.specs.VerificationTypes.{Names}
 use Rattle.jc_methods.specs.InsnUse.{is_of_two_slots}
 use Rattle.jc_bytes.specs.Least.{IsLeast}
@@ -193,9 +194,9 @@ none_straddles c is never names number b body i there =
 -- ---- counts
 
 probes_decided : (c : ClassFile) (bodies : List Body) → AreBodiesOf c bodies → IsDecided (HasTooManyProbes c)
-probes_decided c bodies are = by (cases_lt 32767 (all_probes bodies))
+probes_decided c bodies are = by (cases_lt most_probes (all_probes bodies))
   where
-    by : (32767 < all_probes bodies) ⊎ (all_probes bodies ≤ 32767) → IsDecided (HasTooManyProbes c)
+    by : (most_probes < all_probes bodies) ⊎ (all_probes bodies ≤ most_probes) → IsDecided (HasTooManyProbes c)
     by (inl many) = inl (of_class kinds.TooManyProbes (all_probes bodies), record { bodies = bodies; are = are; many = many; refusal = refl })
     by (inr few) = inr (few_probes c bodies are few)
 

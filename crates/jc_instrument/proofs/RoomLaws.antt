@@ -1,5 +1,6 @@
 -- Bodies that have no room for probes, as causes of the class.
 use Rattle.std.proofs.Common.{◌≡◌, inl, ℕ, ◌+◌, ◌≤◌, Bool, false, List, [], ◌∷◌, ◌++◌, Option, Some, None, sym, ◌∙◌, ap, subst, arith}
+use Rattle.jc_methods.specs.ProbeMembers.{most_probes}
 use Rattle.jc_methods.specs.VerificationTypes.{Names}
 use Rattle.jc_bytes.specs.Least.{IsLeast}
 use Rattle.jc_methods.specs.declared.body.Body.{Body}
@@ -63,7 +64,7 @@ module _ (c : ClassFile) (bodies : List Body) (changes : is_left_alone c ≡ fal
 
 -- ---- counts
 
-pub few_probes : (c : ClassFile) (bodies : List Body) → AreBodiesOf c bodies → all_probes bodies ≤ 32767 → Never (HasTooManyProbes c)
+pub few_probes : (c : ClassFile) (bodies : List Body) → AreBodiesOf c bodies → all_probes bodies ≤ most_probes → Never (HasTooManyProbes c)
 few_probes c bodies are few = λ r many.
     let same = same_probes bodies ∙ ap all_probes (same_bodies c bodies many.bodies are many.are) ∙ sym (same_probes many.bodies) in
     let more = many.many in

@@ -32,7 +32,7 @@ use Rattle.jc_frames.proofs.FullTextLaws.{both_parts}
 use Rattle.jc_kinds.specs.Answers.{AreStates}
 use Rattle.jc_kinds.specs.Checked.{Checked}
 use Rattle.jc_plan.proofs.PlanLaws.{mapped_at}
-use Rattle.jc_methods.specs.ProbeMembers.{data_type, init_name, init_type}
+use Rattle.jc_methods.specs.ProbeMembers.{data_type, init_name, init_type, most_probes}
 use Rattle.jc_emit.specs.Emission.{HasFrameStates, IsArrayNumber}
 use Rattle.jc_emit.specs.Straddling.{NoneStraddles}
 use Rattle.jc_emit.proofs.WideFrameLaws.{emitted}
@@ -195,13 +195,13 @@ pub record AreWrittenWorks (id : ℕ) (names : Names) (array : ℕ) (works : Lis
   pub few : length pool ≤ 65535
   pub fits : (i : ℕ) (x : BodyWithStates) → slice_get works i ≡ Some x → HasFrameStates x.body x.states
   pub sound : AreSoundBodies names (bodies_of works)
-  pub probes : all_probes (bodies_of works) ≤ 32767
+  pub probes : all_probes (bodies_of works) ≤ most_probes
   pub coded : (number : ℕ) (x : BodyWithStates) → work_of number works ≡ Some x → IsWrittenCode pool (code_places pool places) names (emitted_of array x)
 
 module _ (id : ℕ) (names : Names) (array : ℕ) (works : List BodyWithStates) (c : ClassFile) (pool : PoolValue) (places : MemberPlaces)
     (are : AreBodiesWithStates names array c works) (takes : TakesNeeds id names array c works pool places) (few : length pool ≤ 65535)
     (is : IsClassFile c) (fits : (i : ℕ) (x : BodyWithStates) → slice_get works i ≡ Some x → HasFrameStates x.body x.states) (sound : AreSoundBodies names (bodies_of works))
-    (probes : all_probes (bodies_of works) ≤ 32767)
+    (probes : all_probes (bodies_of works) ≤ most_probes)
     (coded : (number : ℕ) (x : BodyWithStates) → work_of number works ≡ Some x → IsWrittenCode pool (code_places pool places) names (emitted_of array x)) where
   abbrev pub code : BodyWithStates → List ℕ
   code w = twin_code pool places.method places.frames names (emitted_of array w)
@@ -450,7 +450,8 @@ method_there names array c works pool places number m there =
 
 -- each method of the twin class that is written has no code, or its instrumented code, or is the added one
 pub written_methods : (id : ℕ) (names : Names) (array : ℕ) (works : List BodyWithStates) (c twin : ClassFile) (w : IsWritten id names array works c twin)
-    → IsClassFile c → ((i : ℕ) (x : BodyWithStates) → slice_get works i ≡ Some x → HasFrameStates x.body x.states) → AreSoundBodies names (bodies_of works) → all_probes (bodies_of works) ≤ 32767
+    → IsClassFile c → ((i : ℕ) (x : BodyWithStates) → slice_get works i ≡ Some x → HasFrameStates x.body x.states) → AreSoundBodies names (bodies_of works)
+    → all_probes (bodies_of works) ≤ most_probes
     → ((number : ℕ) (x : BodyWithStates) → work_of number works ≡ Some x → IsWrittenCode w.pool (code_places w.pool w.places) names (emitted_of array x))
     → AreWrittenMethods names c twin (code_places w.pool w.places) array
 written_methods id names array works c twin w is fits sound probes coded =

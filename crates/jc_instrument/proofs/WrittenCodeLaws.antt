@@ -6,6 +6,7 @@ use Rattle.std.proofs.lemmas.Bool.{cases_lt}
 use Rattle.std.proofs.lemmas.List.Sums.{sum_by-cons}
 use Rattle.std.proofs.lemmas.Option.{none-some, same_Some, slice_get_within}
 use Rattle.std.proofs.lemmas.Slice.Eq.{bytes_eq-Decides}
+use Rattle.jc_methods.specs.ProbeMembers.{most_probes}
 use Rattle.jc_methods.specs.VerificationTypes.{Names}
 use Rattle.jc_methods.specs.WellMade.{IsWellMadeOfAnySize}
 use Rattle.jc_methods.specs.declared.body.Body.{Body}
@@ -129,7 +130,7 @@ ids_among (x ∷ bodies) (suc i) b at =
 pub record HasRoom (bodies : List Body) : Type 0 where
   pub locals : NoneLacks kinds.LocalsFull bodies
   pub stack : NoneLacks kinds.StackFull bodies
-  pub probes : all_probes bodies ≤ 32767
+  pub probes : all_probes bodies ≤ most_probes
   pub short : AreShortBelow bodies (length bodies)
 
 module _ (bodies : List Body) (room : HasRoom bodies) (i : ℕ) (b : Body) (at : slice_get bodies i ≡ Some b) where

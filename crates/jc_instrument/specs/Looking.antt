@@ -1,5 +1,6 @@
 -- What is known of the first methods of a class that gets probes.
 use Rattle.std.specs.Prelude.{◌≡◌, ◌⊎◌, ℕ, ◌<◌, ◌≤◌, List, [], ◌∷◌, ◌++◌, Option, Some, None, All, MatchOption}
+use Rattle.jc_methods.specs.ProbeMembers.{most_probes}
 use Rattle.jc_methods.specs.VerificationTypes.{Names}
 use Rattle.jc_methods.specs.WellMade.{IsWellMade}
 use Rattle.jc_methods.specs.declared.body.Body.{Body}
@@ -33,7 +34,7 @@ PlannedSoFar names bodies planned (Some r) = IsFirstTooLong bodies r
 pub record RoomSoFar (names : Names) (bodies : List Body) (s : Looking) : Type 0 where
   pub lacks : AreFirstLacks bodies s.room
   pub probes : s.probes ≡ all_probes bodies
-  pub planned : HasRoomSoFar s.room → s.probes ≤ 32767 → PlannedSoFar names bodies s.bodies s.large
+  pub planned : HasRoomSoFar s.room → s.probes ≤ most_probes → PlannedSoFar names bodies s.bodies s.large
 
 -- what is known of these bodies
 pub record AreLookedAt (names : Names) (bodies : List Body) (s : Looking) : Type 0 where
@@ -77,7 +78,7 @@ pub record LooksOn (names : Names) (b : Body) (old new : Looking) : Type 0 where
   pub locals : KeepsLack kinds.LocalsFull b old.room.locals new.room.locals
   pub stack : KeepsLack kinds.StackFull b old.room.stack new.room.stack
   pub probes : new.probes ≡ (plan_of b old.probes).next
-  pub planned : HasRoomSoFar new.room → new.probes ≤ 32767 → PlansOn names b old new old.large
+  pub planned : HasRoomSoFar new.room → new.probes ≤ most_probes → PlansOn names b old new old.large
 
 -- it passes the kind check, and is looked at where all bodies did
 pub record PassesOn (names : Names) (b : Body) (old new : Looking) : Type 0 where

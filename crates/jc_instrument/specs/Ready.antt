@@ -2,6 +2,7 @@
 use Rattle.std.specs.Prelude.{◌≡◌, ℕ, ◌≤◌, Bool, true, false, List, length, Option, Some, None, All, slice_get, MatchOption, if◌then◌else◌}
 use Rattle.std.specs.List.{AllByRecursion, list_any}
 use Rattle.jc_bytes.specs.Reader.{most_read}
+use Rattle.jc_methods.specs.ProbeMembers.{most_probes}
 use Rattle.jc_methods.specs.VerificationTypes.{AreNumberedFrames, Names}
 use Rattle.jc_methods.specs.WellMade.{IsWellMade}
 use Rattle.jc_methods.specs.declared.body.Body.{Body}
@@ -39,7 +40,7 @@ pub record IsReady (names : Names) (r : ReadyBody) : Type 0 where
   pub made : IsWellMade r.body
   pub numbered : AreNumberedFrames (length names) r.body.frames
   pub plan : HasPlan r.body r.plan
-  pub next : r.plan.next ≤ 32767
+  pub next : r.plan.next ≤ most_probes
   pub room : HasRoom r.body
   pub rows : length r.body.handlers ≤ 65535
   pub laid : IsLaidFor r.body r.plan r.laid
@@ -52,7 +53,7 @@ pub record TakesProbes (b : Body) (first : ℕ) : Type 0 where
   pub made : IsWellMade b
   pub taken : IsTaken b
   pub rows : length b.handlers ≤ 65535
-  pub next : (plan_of b first).next ≤ 32767
+  pub next : (plan_of b first).next ≤ most_probes
   pub short : chosen_length (probed_code b first) ≤ 65535
 
 -- the class file can be read from, body by body

@@ -1,5 +1,6 @@
 -- Why there is no room in a class for its probes.
 use Rattle.std.specs.Prelude.{◌≡◌, ◌⊎◌, ℕ, ◌+◌, ◌<◌, false, List, [], ◌∷◌, ◌++◌, length, map, Some, slice_get}
+use Rattle.jc_methods.specs.ProbeMembers.{most_probes}
 use Rattle.jc_methods.specs.VerificationTypes.{Names}
 use Rattle.jc_methods.specs.declared.body.Body.{Body}
 use Rattle.jc_methods.specs.declared.insn.Insn.{Insn}
@@ -32,7 +33,7 @@ HasStraddling c = InMethod kinds.StraddlingLocal (StraddlesArguments c)
 pub record HasTooManyProbes (c : ClassFile) (r : Refusal) : Type 0 where
   pub bodies : List Body
   pub are : AreBodiesOf c bodies
-  pub many : 32767 < all_probes bodies
+  pub many : most_probes < all_probes bodies
   pub refusal : r ≡ of_class kinds.TooManyProbes (all_probes bodies)
 
 -- ---- the added members, and room in methods

@@ -1,5 +1,6 @@
 //! The methods of a class that gets probes are looked at, one after the other.
 ghost use Rattle.std.specs.Prelude.{◌≡◌, ◌<◌, ◌+◌, ◌≤◌, ◌↔◌, ℕ, length, All, None, IfOk, IfErr, IfSome, IsTrue, OnErr, OnOk};
+ghost use Rattle.jc_methods.specs.ProbeMembers.{most_probes};
 ghost use Rattle.jc_methods.specs.VerificationTypes.{AreNumberedFrames, Grows, Names as ClassNames};
 ghost use Rattle.jc_methods.specs.WellMade.{IsWellMade};
 ghost use Rattle.jc_bytes.specs.Failing.{Said};
@@ -25,12 +26,9 @@ use crate::states::checked_states;
 use jc_body::read_body;
 use jc_bytes::{Fail, List, Memory, Names, Refusal, RefusalKind};
 use jc_class::ClassFile;
-use jc_methods::{Body, Plan, State};
+use jc_methods::{Body, MOST_PROBES, Plan, State};
 use jc_plan::plan;
 use std::alloc::Global;
-
-/// The most probes that a class has: `sipush` pushes each id (JVM Specification 6.5).
-pub const MOST_PROBES: u32 = 32_767;
 
 /// What is known of the first methods of a class.
 #[derive(Debug, Drop)]
@@ -63,7 +61,7 @@ fn plan_next(
 ) -> Result<(), Fail<Refusal>>
     requires made { IsWellMade body }
     requires plan { plan ≡ plan_of body first }
-    requires next { plan.next ≤ 32767 }
+    requires next { plan.next ≤ most_probes }
     requires taken { IsTaken body }
     requires rows { length body.handlers ≤ 65535 }
     ensures put { (names : ClassNames) → AreNumberedFrames (length names) body.frames → IfSome states (AreStates names body)

@@ -1,5 +1,6 @@
 //! The members of an instrumented class: methods with their new code, and the field and the method that are added.
 ghost use Rattle.std.specs.Prelude.{◌≡◌, ◌≤◌, ℕ, List as Seq, codes, map, IsTrue, IfOk, IfErr};
+ghost use Rattle.jc_methods.specs.ProbeMembers.{most_probes};
 ghost use Rattle.jc_methods.specs.VerificationTypes.{Names as ClassNames};
 ghost use Rattle.jc_body.specs.Attributes.{has_name};
 ghost use Rattle.jc_body.specs.First.{FirstItem};
@@ -111,7 +112,7 @@ pub fn data_member(alloc: Global, places: &MemberPlaces) -> Member
 ///
 /// `Memory` where memory was refused.
 pub fn init_member(alloc: Global, places: &MemberPlaces, count: u32) -> Result<Member, Memory>
-    requires { count ≤ 32767 }
+    requires { count ≤ most_probes }
     ensures { IfOk result (λ method. method ≡ init_member places.now count) }
 {
     let added = AddedPlaces {

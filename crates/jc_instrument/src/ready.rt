@@ -1,5 +1,6 @@
 //! Bodies that are ready for their instrumented code to be written.
 ghost use Rattle.std.specs.Prelude.{◌≡◌, ◌≤◌, ℕ, IfOk, IfErr};
+ghost use Rattle.jc_methods.specs.ProbeMembers.{most_probes};
 ghost use Rattle.jc_methods.specs.WellMade.{IsWellMade};
 ghost use Rattle.jc_methods.specs.declared.emitted.Emitted.{Emitted as Emission};
 ghost use Rattle.jc_bytes.specs.Failing.{Said};
@@ -64,7 +65,7 @@ pub fn method_of(planned: &PlannedBody) -> u16
 fn emitted_code(alloc: Global, body: &Body, plan: &Plan) -> Result<List<Insn>, Memory>
     requires made { IsWellMade body.now }
     requires plan { HasPlan body.now plan.now }
-    requires next { plan.now.next ≤ 32767 }
+    requires next { plan.now.next ≤ most_probes }
     requires taken { IsTaken body.now }
     ensures code { (first : ℕ) → plan.now ≡ plan_of body.now first → IfOk result (λ code. code ≡ probed_code body.now first) }
     ensures room { IfOk result (λ _. HasRoom body.now) }
@@ -99,7 +100,7 @@ fn laid(alloc: Global, method: u16, insns: &[Insn]) -> Result<Laid, Fail<Refusal
 pub fn laid_body(alloc: Global, body: &Body, plan: &Plan) -> Result<Laid, Fail<Refusal>>
     requires made { IsWellMade body.now }
     requires plan { HasPlan body.now plan.now }
-    requires next { plan.now.next ≤ 32767 }
+    requires next { plan.now.next ≤ most_probes }
     requires taken { IsTaken body.now }
     ensures laid { IfOk result (IsLaidFor body.now plan.now) }
     ensures room { IfOk result (λ _. HasRoom body.now) }

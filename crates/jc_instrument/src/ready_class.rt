@@ -4,6 +4,7 @@ ghost use Rattle.jc_bytes.specs.Reader.{most_read};
 ghost use Rattle.jc_class.specs.Sizes.{BodiesWithin};
 ghost use Rattle.jc_class.specs.Writable.{IsClassFile};
 ghost use Rattle.jc_bytes.specs.Failing.{Said};
+ghost use Rattle.jc_methods.specs.ProbeMembers.{most_probes};
 ghost use Rattle.jc_instrument.specs.Bodies.{IsReadable};
 ghost use Rattle.jc_instrument.specs.Causes.{IsFirstCause};
 ghost use Rattle.jc_instrument.specs.Found.{first_of};
@@ -52,7 +53,7 @@ pub fn ready_class(
     requires text { IsReadable class.now }
     requires changes { is_left_alone class.now ≡ false }
     ensures ready { IfOk result (IsReadyClass names.new class.now) }
-    ensures few { IfOk result (λ r. r.probes ≤ 32767) }
+    ensures few { IfOk result (λ r. r.probes ≤ most_probes) }
     ensures refused { IfErr result (λ e. Said e (IsFirstCause (making_causes class.now))) }
 {
     let looked = look_at_methods(alloc, class, MOST_KEPT_PLACES, names)?;

@@ -1,5 +1,6 @@
 //! Whether a class has room for its probes, as far as this is known before its code is made.
 ghost use Rattle.std.specs.Prelude.{◌≡◌, ◌≤◌, ◌↔◌, ◌∷◌, [], false, List as Seq, None, IsTrue, length};
+ghost use Rattle.jc_methods.specs.ProbeMembers.{most_probes};
 ghost use Rattle.jc_methods.specs.declared.body.Body.{Body};
 ghost use Rattle.jc_plan.specs.Analysed.{all_probes};
 ghost use Rattle.jc_instrument.specs.Bodies.{AreBodiesOf};
@@ -10,9 +11,9 @@ ghost use Rattle.jc_instrument.specs.Room.{AreFirstLacks};
 ghost use Rattle.jc_instrument.specs.RoomCauses.{HasTooManyProbes, IsFull, HasFullMembers, early_room_causes};
 
 use crate::found::{ONE_TOO_MANY, RoomRefusals};
-use crate::looking::MOST_PROBES;
 use jc_bytes::{Refusal, RefusalKind};
 use jc_class::ClassFile;
+use jc_methods::MOST_PROBES;
 
 /// The most fields and the most methods that a class has (JVM Specification 4.1).
 const MOST_MEMBERS: usize = 65_535;
@@ -43,7 +44,7 @@ fn count_refusal(class: &ClassFile, probes: u32) -> Option<Refusal>
     requires methods { length class.now.methods ≤ 65535 }
     ensures first { (bodies : Seq Body) → AreBodiesOf class.now bodies → probes ≡ all_probes bodies
         → FirstCause (HasTooManyProbes class.now ∷ HasFullMembers class.now ∷ []) result }
-    ensures few { result ≡ None → probes ≤ 32767 }
+    ensures few { result ≡ None → probes ≤ most_probes }
 {
     if probes > MOST_PROBES {
         return Some(of_class(RefusalKind::TooManyProbes, probes));
@@ -64,7 +65,7 @@ pub fn room_refusal(class: &ClassFile, first: &RoomRefusals, probes: u32) -> Opt
     ensures first { (bodies : Seq Body) → AreBodiesOf class.now bodies → AreFirstLacks bodies first.now → probes ≡ all_probes bodies
         → FirstCause (early_room_causes class.now) result }
     ensures room { result ≡ None → HasRoomSoFar first.now }
-    ensures few { result ≡ None → probes ≤ 32767 }
+    ensures few { result ≡ None → probes ≤ most_probes }
 {
     if let Some(refusal) = first.straddling {
         return Some(refusal);

@@ -1,5 +1,6 @@
 //! The instrumented class, from its parts.
 ghost use Rattle.std.specs.Prelude.{◌≡◌, ◌≤◌, ℕ, List as Seq, All, IfOk, IfErr, length};
+ghost use Rattle.jc_methods.specs.ProbeMembers.{most_probes};
 ghost use Rattle.jc_methods.specs.VerificationTypes.{Names as ClassNames};
 ghost use Rattle.jc_bytes.specs.Reader.{most_read};
 ghost use Rattle.jc_class.specs.ClassText.{ClassText};
@@ -76,7 +77,7 @@ fn twin_class(
     names: &mut Names,
     places: &TwinPlaces,
 ) -> Result<ClassFile, Fail<PoolFull>>
-    requires few { ready.probes ≤ 32767 }
+    requires few { ready.probes ≤ most_probes }
     requires method { places.now.codes.method ≡ places.now.members.method }
     requires frames { places.now.codes.frames ≡ places.now.members.frames }
     requires ready { AreReadyFrom names.old source.now ready.bodies }
@@ -144,7 +145,7 @@ fn written_twin(
     requires ready { IsReadyClass names.old class ready }
     requires source { source.now ≡ source_of ready.bodies class }
     requires sizes { All (λ m. BodiesWithin most_read m.attributes) class.methods }
-    requires few { ready.probes ≤ 32767 }
+    requires few { ready.probes ≤ most_probes }
     ensures twin { IfOk result (IsWrittenFor identity.entry.id class) }
     ensures refused { IfErr result (IsFullFor identity.entry.id class) }
 {
@@ -170,7 +171,7 @@ fn twin_from(
     requires ready { IsReadyClass names.old class ready }
     requires source { source ≡ source_of ready.bodies class }
     requires sizes { All (λ m. BodiesWithin most_read m.attributes) class.methods }
-    requires few { ready.probes ≤ 32767 }
+    requires few { ready.probes ≤ most_probes }
     ensures twin { IfOk result (IsWrittenFor identity.entry.id class) }
     ensures refused { IfErr result (IsFullFor identity.entry.id class) }
 {
@@ -194,7 +195,7 @@ pub fn grown_twin(
     requires short { IsShortText identity.name.now }
     requires ready { IsReadyClass names.old class ready }
     requires sizes { All (λ m. BodiesWithin most_read m.attributes) class.methods }
-    requires few { ready.probes ≤ 32767 }
+    requires few { ready.probes ≤ most_probes }
     ensures twin { IfOk result (IsWrittenFor identity.entry.id class) }
     ensures refused { IfErr result (λ e. Said e (HasFullPool identity.entry.id class)) }
 {

@@ -11,6 +11,7 @@ ghost use Rattle.jc_class.specs.ClassText.{ClassText};
 ghost use Rattle.jc_class.specs.Sizes.{BodiesWithin};
 ghost use Rattle.jc_class.specs.Writable.{IsClassFile};
 ghost use Rattle.jc_bytes.specs.Failing.{Said};
+ghost use Rattle.jc_methods.specs.ProbeMembers.{most_probes};
 ghost use Rattle.jc_pool.specs.Lookup.{class_name_of};
 ghost use Rattle.jc_instrument.specs.Bodies.{IsReadable};
 ghost use Rattle.jc_instrument.specs.Causes.{IsFirstCause};
@@ -110,7 +111,7 @@ fn named_class(
     requires text { IsReadable class.now }
     requires changes { is_left_alone class.now ≡ false }
     ensures ready { IfOk result (λ named. IsReadyClass names.new class.now named.ready) }
-    ensures few { IfOk result (λ named. named.ready.probes ≤ 32767) }
+    ensures few { IfOk result (λ named. named.ready.probes ≤ most_probes) }
     ensures name { IfOk result (λ named. class_name_of class.now.pool class.now.this_class ≡ Some named.name) }
     ensures short { IfOk result (λ named. IsShortText named.name) }
     ensures refused { IfErr result (λ e. Said e (IsFirstCause (making_causes class.now))) }
@@ -151,7 +152,7 @@ fn twin_bytes(
     requires short { IsShortText identity.name.now }
     requires ready { IsReadyClass names.old class ready }
     requires sizes { All (λ m. BodiesWithin most_read m.attributes) class.methods }
-    requires few { ready.probes ≤ 32767 }
+    requires few { ready.probes ≤ most_probes }
     ensures text { IfOk result (IsTwinText identity.entry.id class) }
     ensures refused { IfErr result (λ e. Said e (HasFullPool identity.entry.id class)) }
 {

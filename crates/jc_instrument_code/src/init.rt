@@ -1,6 +1,7 @@
 //! The method that gives the probe array of a class.
 ghost use Rattle.std.specs.Prelude.{◌≡◌, ◌≤◌, ◌+◌, ◌++◌, ◌∷◌, IfOk, OnOk, length};
 ghost use Rattle.jc_bytes.specs.BigNumbers.{short};
+ghost use Rattle.jc_methods.specs.ProbeMembers.{most_probes, most_short};
 ghost use Rattle.jc_instrument_code.specs.CodeText.{attribute_text};
 ghost use Rattle.jc_instrument_code.specs.InitText.{init_bytes, init_frames, init_text, named_places, push_count};
 
@@ -41,7 +42,7 @@ pub struct AddedPlaces {
 
 /// Puts the shortest instruction that pushes a number at the end (JVM Specification 6.5).
 fn put_push(into: &mut Vec<u8>, number: u32) -> Result<(), Memory>
-    requires { number ≤ 32767 }
+    requires { number ≤ most_short }
     ensures { OnOk result (into.new.items ≡ into.old.items ++ push_count number) }
 {
     if number <= 5 {
@@ -103,7 +104,7 @@ fn put_frame(into: &mut Vec<u8>, places: &AddedPlaces, pushed: &[u8]) -> Result<
 ///
 /// `Memory` where memory was refused.
 pub fn write_init(alloc: Global, places: &AddedPlaces, count: u32) -> Result<Bytes, Memory>
-    requires { count ≤ 32767 }
+    requires { count ≤ most_probes }
     ensures { IfOk result (λ text. text ≡ init_text (named_places places.now) places.now.frames places.now.array count) }
 {
     let mut pushed = Vec::new(alloc);

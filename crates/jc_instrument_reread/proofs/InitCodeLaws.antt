@@ -9,6 +9,7 @@ use Rattle.jc_bytes.specs.BigNumbers.{short}
 use Rattle.jc_methods.specs.Insn.{IsWellFormed, with_places}
 use Rattle.jc_methods.specs.InsnForm.{form_of}
 use Rattle.jc_methods.specs.Opcode as opcode
+use Rattle.jc_methods.specs.ProbeMembers.{most_probes, most_short}
 use Rattle.jc_methods.specs.Starts.{insn_number}
 use Rattle.jc_methods.specs.declared.form.Form.TheVariants as forms
 use Rattle.jc_methods.specs.declared.insn.Insn.{Insn}
@@ -41,10 +42,10 @@ same_text_by at n true t = refl
 same_text_by at n false true = refl
 same_text_by at n false false = refl
 
-fits_short : (n : ℕ) → n ≤ 32767 → FitsSigned w16 (pos n)
+fits_short : (n : ℕ) → n ≤ most_short → FitsSigned w16 (pos n)
 fits_short n le = fits_signed_from_abs w16 (pos n) (omega (arith, le))
 
-fits_by : (at n : ℕ) (s t : Bool) → at < 4294967296 → n ≤ 32767 → IsWellFormed (push_by n s t) → Fits at (push_by n s t)
+fits_by : (at n : ℕ) (s t : Bool) → at < 4294967296 → n ≤ most_short → IsWellFormed (push_by n s t) → Fits at (push_by n s t)
 fits_by at n true t lt le well = record { at_fits = lt; well_formed = well; in_range = tt; places = All-nil (λ to. to < 4294967296) }
 fits_by at n false true lt le well = record { at_fits = lt; well_formed = well; in_range = fits_short n le; places = All-nil (λ to. to < 4294967296) }
 fits_by at n false false lt le well = record { at_fits = lt; well_formed = well; in_range = fits_short n le; places = All-nil (λ to. to < 4294967296) }
@@ -54,7 +55,7 @@ near_by at n true t = tt
 near_by at n false true = tt
 near_by at n false false = tt
 
-push_item : (at n : ℕ) → at < 4294967296 → n ≤ 32767 → IsItem at (push_count n) (items.Insn (push n))
+push_item : (at n : ℕ) → at < 4294967296 → n ≤ most_short → IsItem at (push_count n) (items.Insn (push n))
 push_item at n lt le =
     let s = nat_le n 5 in
     let t = nat_le n 127 in
@@ -171,7 +172,7 @@ end_number k (inr (inr is)) = ap (λ (n : ℕ). insn_number (init_starts n) (21 
 
 -- ---- the code
 
-module _ (p : InitPlaces) (count : ℕ) (few : count ≤ 32767) (field : p.field < 65536) (id : p.id < 65536)
+module _ (p : InitPlaces) (count : ℕ) (few : count ≤ most_probes) (field : p.field < 65536) (id : p.id < 65536)
     (name : p.name < 65536) (fetch : p.fetch < 65536) where
   abbrev pushed : List ℕ
   pushed = push_count count

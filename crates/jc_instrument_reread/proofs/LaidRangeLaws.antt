@@ -11,6 +11,7 @@ use Rattle.jc_methods.specs.Flow.{flow_of, jump_target, targets_of}
 use Rattle.jc_methods.specs.Insn.{with_places}
 use Rattle.jc_methods.specs.InsnUse.{LocalsWithin, is_of_two_slots}
 use Rattle.jc_bytes.specs.PlainLists.{pieces}
+use Rattle.jc_methods.specs.ProbeMembers.{most_probes, most_short}
 use Rattle.jc_methods.specs.WellMade.{IsWellMadeOfAnySize}
 use Rattle.jc_methods.specs.Widened.{inverted}
 use Rattle.jc_methods.specs.declared.body.Body.{Body}
@@ -65,7 +66,7 @@ inverted_range : (to : ℕ) (insn : Insn) → IsInRange insn → IsInRange (inve
 inverted_range to (insns.Jump op other) h = tt
 inverted_range to insn h = h
 
-push_range : (n : ℕ) → n ≤ 32767 → IsInRange (push n)
+push_range : (n : ℕ) → n ≤ most_short → IsInRange (push n)
 push_range n le = by (nat_le n 5) (nat_le n 127)
   where
     by : (s t : Bool) → IsInRange (if s then insns.Simple (opcode.iconst_0 + n) else if t then insns.Push opcode.bipush (pos n) else insns.Push opcode.sipush (pos n))
@@ -78,15 +79,15 @@ push_range n le = by (nat_le n 5) (nat_le n 127)
 -- an id can be pushed
 abbrev IsFewId : Option ℕ → Type 0
 IsFewId None = ⊤
-IsFewId (Some id) = id ≤ 32767
+IsFewId (Some id) = id ≤ most_short
 
-few_if : (test : Bool) (id : ℕ) → id ≤ 32767 → IsFewId (id_if test id)
+few_if : (test : Bool) (id : ℕ) → id ≤ most_short → IsFewId (id_if test id)
 few_if true id le = le
 few_if false id le = tt
 
 module _ (b : Body) (first : ℕ) (states : List State) (array : ℕ) (well : IsWellMadeOfAnySize b) (ranges : All IsInRange b.code)
-    (locals : b.max_locals + 1 ≤ 65535) (ids : first + probe_count b ≤ 32767) where
-  few_before : (p : Position) → first + probes_before b p ≤ 32767
+    (locals : b.max_locals + 1 ≤ 65535) (ids : first + probe_count b ≤ most_probes) where
+  few_before : (p : Position) → first + probes_before b p ≤ most_probes
   few_before p =
       let less = count_le (λ (x : Branch). is_probed b x && is_before (position_of x) p) (is_probed b) (branches b.code)
       (λ x both. (and_parts (is_probed b x) (is_before (position_of x) p) both).0) in
@@ -119,7 +120,7 @@ module _ (b : Body) (first : ℕ) (states : List State) (array : ℕ) (well : Is
   slot_fits : b.arg_slots < 65536
   slot_fits = let le = well.arguments_fit in omega (arith, le, locals)
 
-  probe_fits : (id at : ℕ) (late : Bool) → id ≤ 32767 → All_fit (probe id at late)
+  probe_fits : (id at : ℕ) (late : Bool) → id ≤ most_short → All_fit (probe id at late)
   probe_fits id at late le = (slot_fits, (push_range id le, (tt, (tt, tt))))
 
   lead_fits : (o : Option ℕ) (i : ℕ) → IsFewId o → All_fit (lead_part o i)
@@ -216,7 +217,7 @@ spelled_by code starts true out near = spells_wide code starts out
 
 -- the layout that is chosen spells the instrumented code of a body whose instructions fit their types, where its ids can be pushed
 pub chosen_spelled : (b : Body) (first : ℕ) (states : List State) (array : ℕ) → IsWellMadeOfAnySize b → All IsInRange b.code → b.max_locals + 1 ≤ 65535
-    → first + probe_count b ≤ 32767 → chosen_length (emission b first states array).code ≤ 65535
+    → first + probe_count b ≤ most_probes → chosen_length (emission b first states array).code ≤ 65535
     → Spells (chosen_text (emission b first states array).code) (laid_code (is_wide (emission b first states array).code) (emission b first states array).code)
     (laid_starts (is_wide (emission b first states array).code) (emission b first states array).code (chosen_starts (emission b first states array).code))
 unfolding chosen_text emission

@@ -5,6 +5,7 @@ use Rattle.std.proofs.lemmas.List.{length-map}
 use Rattle.jc_bytes.specs.ByteLists.{AreBytes}
 use Rattle.jc_bytes.specs.Counted.{counted}
 use Rattle.jc_bytes.specs.Grammar.{Grammar}
+use Rattle.jc_methods.specs.ProbeMembers.{most_probes}
 use Rattle.jc_methods.specs.VerificationTypes.{Names}
 use Rattle.jc_methods.specs.Starts.{insn_number}
 use Rattle.jc_methods.specs.WellMade.{IsWellMadeOfAnySize}
@@ -258,7 +259,7 @@ pub record IsSpelled (e : Emitted) : Type 0 where
 
 pub is_spelled : (Faults : List Fault) (names : Names) (c : ClassFile) (number : ℕ) (method : Member) (b : Body) (first : ℕ) (states : List State) (array : ℕ)
     → HasBody Faults names c number method b → AllByRecursion HasBytes method.attributes → IsWellMadeOfAnySize b → b.max_locals + 1 ≤ 65535
-    → first + probe_count b ≤ 32767 → chosen_length (emission b first states array).code ≤ 65535 → IsSpelled (emission b first states array)
+    → first + probe_count b ≤ most_probes → chosen_length (emission b first states array).code ≤ 65535 → IsSpelled (emission b first states array)
 is_spelled Faults names c number method b first states array has are well locals ids few =
     let short = body_short Faults names c number method b has are in
     record {

@@ -1,6 +1,7 @@
 -- What is given of written code, by what is known of the body and of the pool.
 use Rattle.std.proofs.Common.{◌≡◌, ℕ, ◌+◌, ◌<◌, ◌≤◌, List, length, Some, subst}
 use Rattle.std.specs.List.{AllByRecursion}
+use Rattle.jc_methods.specs.ProbeMembers.{most_probes}
 use Rattle.jc_methods.specs.VerificationTypes.{Names}
 use Rattle.jc_methods.specs.WellMade.{IsWellMadeOfAnySize}
 use Rattle.jc_methods.specs.declared.body.Body.{Body}
@@ -37,7 +38,7 @@ pub record IsPlacedCode (pool : PoolValue) (places : CodePlaces) (names : Names)
 -- the rest follows from the body of the method, where the bytes of its attributes are bytes and its ids can be pushed
 pub written_code : (Faults : List Fault) (names : Names) (c : ClassFile) (number : ℕ) (method : Member) (b : Body) (first : ℕ) (states : List State) (array : ℕ)
     (pool : PoolValue) (places : CodePlaces) → HasBody Faults names c number method b → AllByRecursion HasBytes method.attributes
-    → IsWellMadeOfAnySize b → first + probe_count b ≤ 32767 → IsPlacedCode pool places names (emission b first states array)
+    → IsWellMadeOfAnySize b → first + probe_count b ≤ most_probes → IsPlacedCode pool places names (emission b first states array)
     → IsWrittenCode pool places names (emission b first states array)
 written_code Faults names c number method b first states array pool places has are well ids placed =
     let locals = subst (λ (n : ℕ). n ≤ 65535) (locals_are b first states array well) placed.locals in

@@ -1,5 +1,6 @@
 -- What is given of the added method's code that was written, and what is read of it.
 use Rattle.std.specs.Prelude.{◌≡◌, ℕ, ◌+◌, ◌<◌, ◌≤◌, List, [], ◌∷◌, length, Some}
+use Rattle.jc_methods.specs.ProbeMembers.{most_probes}
 use Rattle.jc_pool.specs.Lookup.{utf8_of}
 use Rattle.jc_pool.specs.Pool.{PoolValue}
 use Rattle.jc_body.specs.declared.coded.Coded.{Coded}
@@ -12,7 +13,7 @@ use Rattle.jc_instrument_reread.specs.WrittenCode.{frames_name}
 -- the places that the code names are numbers of two bytes, so many probes can be pushed, and the name of its frames' attribute
 -- stands in the pool
 pub record IsWrittenInit (pool : PoolValue) (p : AddedPlaces) (count : ℕ) : Type 0 where
-  pub few : count ≤ 32767
+  pub few : count ≤ most_probes
   pub pool_few : length pool ≤ 65535
   pub field : p.field < 65536
   pub id : p.id < 65536

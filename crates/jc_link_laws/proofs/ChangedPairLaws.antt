@@ -12,7 +12,7 @@ use Rattle.jc_bytes.specs.ByteLists.{AreBytes}
 use Rattle.jc_bytes.proofs.BooleanLaws.{first_in, later_in}
 use Rattle.jc_bytes.proofs.ListLaws.{stands_at}
 use Rattle.jc_methods.specs.VerificationTypes.{Names, TypeStateAt, type_state_at}
-use Rattle.jc_methods.specs.ProbeMembers.{data_name, data_type, init_name, init_type}
+use Rattle.jc_methods.specs.ProbeMembers.{data_name, data_type, init_name, init_type, most_probes}
 use Rattle.jc_methods.specs.WellMade.{what_used}
 use Rattle.jc_methods.specs.declared.body.Body.{Body}
 use Rattle.jc_methods.specs.declared.body.FrameAt.{FrameAt}
@@ -228,10 +228,10 @@ module _ (original written : List ℕ) (are : AreBytes original) (are_new : AreB
   name_is : name_of c ≡ l.name
   name_is = ap (λ (o : Option (List ℕ)). unwrap_or o []) p_is.name
 
-  few : sum_by probe_count l.bodies ≤ 32767
-  few = by (cases_lt 32767 (all_probes l.bodies))
+  few : sum_by probe_count l.bodies ≤ most_probes
+  few = by (cases_lt most_probes (all_probes l.bodies))
     where
-      by : (32767 < all_probes l.bodies) ⊎ (all_probes l.bodies ≤ 32767) → sum_by probe_count l.bodies ≤ 32767
+      by : (most_probes < all_probes l.bodies) ⊎ (all_probes l.bodies ≤ most_probes) → sum_by probe_count l.bodies ≤ most_probes
       by (inr most) = most
       by (inl many) = absurd (room.1.0 _ (record {
         bodies = l.bodies;
@@ -299,7 +299,7 @@ module _ (original written : List ℕ) (are : AreBytes original) (are_new : AreB
   named =
       let owner = q_is.name ∙ ap Some (name_new ∙ sym name_is) in
       let name = last_body.is.parts.name ∙ ap Some added_is.name in
-      text_is t (class_pool written t are_new w.twin.twin_is).few (name_of c) (signed_id id) (all_probes h.bodies) (subst (λ (m : ℕ). m ≤ 32767) (sym count_is) few)
+      text_is t (class_pool written t are_new w.twin.twin_is).few (name_of c) (signed_id id) (all_probes h.bodies) (subst (λ (m : ℕ). m ≤ most_probes) (sym count_is) few)
       owner h.outside.method h.outside.method_is new_names moved.last.method moved.last added_is.places last_body
       (added_at id (all_probes h.bodies) _ c t class not_added h.outside moved.last.method last_body.method last_body.at name)
       (added_is.code ∙ ap (init_code added_is.places) (sym count_is))

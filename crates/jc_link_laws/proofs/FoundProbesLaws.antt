@@ -6,7 +6,7 @@ use Rattle.std.proofs.lemmas.Bool.{cases_lt}
 use Rattle.std.proofs.lemmas.Bool.Decides.{Decides-int_eq}
 use Rattle.std.proofs.lemmas.Int.{of_z-to_z}
 use Rattle.std.proofs.lemmas.Option.{none-some, same_Some}
-use Rattle.jc_methods.specs.ProbeMembers.{data_name, data_type, runtime_class, fetch_name, fetch_type}
+use Rattle.jc_methods.specs.ProbeMembers.{data_name, data_type, runtime_class, fetch_name, fetch_type, most_probes}
 use Rattle.jc_methods.specs.WellMade.{what_used}
 use Rattle.jc_methods.specs.declared.body.Body.{Body}
 use Rattle.jc_methods.specs.declared.body.Use.{Use}
@@ -109,7 +109,7 @@ module _ (pool : PoolValue) (name : List ℕ) (b : Body) where
   Asks = (init : ProbeInit) × AsksFor pool name b init
 
   asks_by : (a : Asked) → asked_in b.code ≡ Some a → OrNot Asks
-  asks_by a there = by (cases_lt 32767 a.count) (code_or_not b.code (init_code (places_of a) a.count))
+  asks_by a there = by (cases_lt most_probes a.count) (code_or_not b.code (init_code (places_of a) a.count))
       (members_or_not b.uses name a) (id_or_not (what_used b.uses a.id)) (text_or_not (string_of pool a.name) name)
     where
       meant : (h : Asks) → Meant name b a h.0 h.1.text
@@ -121,7 +121,7 @@ module _ (pool : PoolValue) (name : List ℕ) (b : Body) where
       text_there : (h : Asks) → string_of pool a.name ≡ Some name
       text_there h = ap (string_of pool) (meant h).name ∙ h.1.name_is
 
-      by : (32767 < a.count) ⊎ (a.count ≤ 32767) → OrNot (b.code ≡ init_code (places_of a) a.count) → OrNot (NamesMembers b.uses name a)
+      by : (most_probes < a.count) ⊎ (a.count ≤ most_probes) → OrNot (b.code ≡ init_code (places_of a) a.count) → OrNot (NamesMembers b.uses name a)
           → OrNot ((id : ℕ) × IsIdOf (what_used b.uses a.id) id) → OrNot (string_of pool a.name ≡ Some name) → OrNot Asks
       by (inl many) code members id text = inr (λ h. let few = (meant h).few in omega (arith, many, few))
       by (inr few) (inr other) members id text = inr (λ h. other (meant h).code)

@@ -5,7 +5,7 @@ use Rattle.std.proofs.lemmas.Bool.{cases_lt}
 use Rattle.std.proofs.lemmas.Option.{none-some, slice_get_within, get_or_from_slice_get}
 use Rattle.jc_bytes.specs.Decoder.{◌>>=◌}
 use Rattle.jc_bytes.proofs.ListLaws.{all_at, put_cases}
-use Rattle.jc_methods.specs.ProbeMembers.{init_name}
+use Rattle.jc_methods.specs.ProbeMembers.{init_name, most_probes}
 use Rattle.jc_methods.specs.VerificationTypes.{Names}
 use Rattle.jc_methods.specs.declared.body.Body.{Body}
 use Rattle.jc_pool.specs.Lookup.{Member as MemberText, class_name_of, long_in, long_of, member_of, string_of, utf8_of}
@@ -63,7 +63,7 @@ module _ (pool : PoolValue) (few : length pool < 65536) where
 
 -- ---- the name that its code names
 
-module _ (t : ClassFile) (few_places : length t.pool < 65536) (owner : List ℕ) (id : ℤ) (count : ℕ) (few : count ≤ 32767)
+module _ (t : ClassFile) (few_places : length t.pool < 65536) (owner : List ℕ) (id : ℤ) (count : ℕ) (few : count ≤ most_probes)
     (owner_is : class_name_of t.pool t.this_class ≡ Some owner) (method : Member) (m : IsInitMethod t.pool owner id count method) where
   abbrev places : AddedPlaces
   places = record {

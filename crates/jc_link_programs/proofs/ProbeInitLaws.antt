@@ -7,6 +7,7 @@ use Rattle.std.specs.Int.{w64, cast_signed, cast_unsigned}
 use Rattle.std.proofs.lemmas.Int.{of_z-to_z}
 use Rattle.std.proofs.lemmas.Option.{same_Some}
 use Rattle.jc_bytes.proofs.OptionLaws.{none_some}
+use Rattle.jc_methods.specs.ProbeMembers.{most_probes}
 use Rattle.jc_methods.specs.declared.insn.Insn.{Insn}
 use Rattle.jc_methods.specs.declared.insn.Insn.TheVariants as insns
 use Rattle.jc_methods.specs.WellMade.{what_used}
@@ -57,7 +58,7 @@ none_asked class b none init text c = none_some (sym none ∙ asked_there class 
 -- what the code asks for, by what stands there
 pub record Meant (class : List ℕ) (b : Body) (a : Asked) (init : ProbeInit) (text : ℕ) : Type 0 where
   pub count : init.count ≡ a.count
-  pub few : a.count ≤ 32767
+  pub few : a.count ≤ most_probes
   pub code : b.code ≡ init_code (places_of a) a.count
   pub members : NamesMembers b.uses class a
   pub id : what_used b.uses a.id ≡ Some (whats.Long (cast_signed w64 init.id))
@@ -80,7 +81,7 @@ pub meant_asks : (class : List ℕ) (b : Body) (a : Asked) (init : ProbeInit) (t
 meant_asks class b a init text m less = record {
   places = places_of a;
   code = m.code ∙ ap (init_code (places_of a)) (sym m.count);
-  count_fits = subst (λ n. n ≤ 32767) (sym m.count) m.few;
+  count_fits = subst (λ n. n ≤ most_probes) (sym m.count) m.few;
   field_is = (m.members).field_is;
   id_is = m.id;
   id_fits = less;

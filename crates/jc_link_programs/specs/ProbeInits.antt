@@ -3,7 +3,7 @@ use Rattle.std.specs.Prelude.{◌≡◌, ℕ, ◌-◌, ◌^◌, ◌<◌, ◌≤�
 use Rattle.std.specs.Int.{w64, cast_signed}
 use Rattle.jc_methods.specs.Opcode as opcode
 use Rattle.jc_methods.specs.InsnUse.{pool_place}
-use Rattle.jc_methods.specs.ProbeMembers.{init_name, init_type, data_name, data_type, runtime_class, fetch_name, fetch_type}
+use Rattle.jc_methods.specs.ProbeMembers.{init_name, init_type, data_name, data_type, runtime_class, fetch_name, fetch_type, most_probes}
 use Rattle.jc_methods.specs.WellMade.{what_used}
 use Rattle.jc_methods.specs.declared.insn.Insn.{Insn}
 use Rattle.jc_methods.specs.declared.insn.Insn.TheVariants as insns
@@ -27,7 +27,7 @@ places_of a = record { field = a.field; id = a.id; name = a.name; fetch = a.fetc
 pub record CodeAsks (name : List ℕ) (b : Body) (init : ProbeInit) (text : ℕ) : Type 0 where
   pub places : InitPlaces
   pub code : b.code ≡ init_code places init.count
-  pub count_fits : init.count ≤ 32767
+  pub count_fits : init.count ≤ most_probes
   pub field_is : what_used b.uses places.field ≡ Some (whats.Field name data_name data_type)
   pub id_is : what_used b.uses places.id ≡ Some (whats.Long (cast_signed w64 init.id))
   pub id_fits : init.id < 2 ^ 64

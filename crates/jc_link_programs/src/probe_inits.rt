@@ -2,7 +2,7 @@
 ghost use Rattle.std.specs.Prelude.{◌≡◌, ◌≤◌, ◌↔◌, ℕ, IsTrue, Some, IfOk, IfSome, IfNone, MatchOption};
 ghost use Rattle.std.specs.Int.{w64, cast_signed};
 ghost use Rattle.std.specs.Option.{option_copied};
-ghost use Rattle.jc_methods.specs.ProbeMembers.{data_name, data_type, runtime_class, fetch_name, fetch_type};
+ghost use Rattle.jc_methods.specs.ProbeMembers.{data_name, data_type, runtime_class, fetch_name, fetch_type, most_probes, most_short};
 ghost use Rattle.jc_methods.specs.WellMade.{what_used};
 ghost use Rattle.jc_methods.specs.declared.body.What.TheVariants as whats;
 ghost use Rattle.jc_programs.specs.declared.program.ProbeInit.{ProbeInit as Init};
@@ -12,15 +12,12 @@ ghost use Rattle.jc_link_programs.specs.ProbeInits.{places_of, pushed, asked_in,
 
 use jc_bytes::{List, Memory};
 use jc_methods::{
-    Body, DATA_NAME, FETCH_NAME, FETCH_TYPE, INIT_NAME, INIT_TYPE, Insn, PROBE_ARRAY,
+    Body, DATA_NAME, FETCH_NAME, FETCH_TYPE, INIT_NAME, INIT_TYPE, Insn, MOST_PROBES, PROBE_ARRAY,
     RUNTIME_CLASS, Use, What, opcode,
 };
 use jc_pool::Pool;
 use jc_programs::ProbeInit;
 use std::alloc::Global;
-
-/// The greatest number that an instruction pushes.
-const MOST_COUNT: u32 = 32_767;
 
 /// What code names in the constant pool where the method that gives the probe array names it, and the number that it
 /// pushes there.
@@ -79,7 +76,7 @@ fn asked_in(code: &[Insn]) -> Option<Asked>
 
 /// The shortest instruction that pushes a number.
 fn push(number: u32) -> Insn
-    requires { number ≤ 32767 }
+    requires { number ≤ most_short }
     ensures { result ≡ push number }
 {
     if number <= 5 {
@@ -106,7 +103,7 @@ fn member(op: u8, place: u16) -> Insn
 
 /// The code of the method.
 fn init_code(alloc: Global, asked: &Asked) -> Result<List<Insn>, Memory>
-    requires { asked.now.count ≤ 32767 }
+    requires { asked.now.count ≤ most_probes }
     ensures { IfOk result (λ code. code ≡ init_code (places_of asked.now) asked.now.count) }
 {
     Ok(List::from_vec(vec![in alloc;
@@ -216,7 +213,7 @@ fn id_at(uses: &[Use], place: u16) -> Option<u64>
 
 /// Whether the code is that of the method, with these places and this number.
 fn has_init_code(alloc: Global, code: &List<Insn>, asked: &Asked) -> Result<bool, Memory>
-    requires { asked.now.count ≤ 32767 }
+    requires { asked.now.count ≤ most_probes }
     ensures { IfOk result (λ same. IsTrue same ↔ (code.now ≡ init_code (places_of asked.now) asked.now.count)) }
 {
     let made = init_code(alloc, asked)?;
@@ -231,7 +228,7 @@ fn code_asks(alloc: Global, class: &[u8], body: &Body) -> Result<Option<(ProbeIn
     let Some(asked) = asked_in(&body.code) else {
         return Ok(None);
     };
-    if asked.count > MOST_COUNT || !has_init_code(alloc, &body.code, &asked)? {
+    if asked.count > MOST_PROBES || !has_init_code(alloc, &body.code, &asked)? {
         return Ok(None);
     }
     if !names_members(&body.uses, class, &asked) {

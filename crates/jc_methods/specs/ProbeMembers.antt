@@ -1,5 +1,5 @@
 -- The field and the method that instrumentation adds to a class, and the method that they call, by their names and types (JVM
--- Specification 4.3, 4.5, 4.6).
+-- Specification 4.3, 4.5, 4.6), and how many probes there may be.
 use Rattle.std.specs.Prelude.{ℕ, List, codes}
 
 -- the field that keeps the probe array: private, static, transient and synthetic
@@ -31,3 +31,13 @@ fetch_name = codes "getProbes"
 
 abbrev pub fetch_type : List ℕ
 fetch_type = codes "(JLjava/lang/String;I)[Z"
+
+-- ---- how many
+
+-- the most probes of an instrumented class
+abbrev pub most_probes : ℕ
+most_probes = 32767
+
+-- the most that sipush pushes (JVM Specification 6.5)
+abbrev pub most_short : ℕ
+most_short = 32767

@@ -34,7 +34,8 @@ pub use insn::{Arm, Flow, Insn, inverse, is_conditional_branch};
 pub use kind::{Kind, State};
 pub use plan::{Edge, Plan};
 pub use probe_members::{
-    DATA_NAME, FETCH_NAME, FETCH_TYPE, INIT_NAME, INIT_TYPE, PROBE_ARRAY, RUNTIME_CLASS,
+    DATA_NAME, FETCH_NAME, FETCH_TYPE, INIT_NAME, INIT_TYPE, MOST_PROBES, PROBE_ARRAY,
+    RUNTIME_CLASS,
 };
 pub use slots::{a_replaced_slot_is_a_mapped_one, mapped_locals_are_within};
 pub use starts::insn_numbers;

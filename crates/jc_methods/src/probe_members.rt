@@ -1,5 +1,5 @@
 //! The names and types of what instrumentation adds to a class, and of what that calls (JVM Specification
-//! 4.3, 4.5, 4.6).
+//! 4.3, 4.5, 4.6), and how many probes there may be.
 
 /// The class of a probe array, which is also its descriptor.
 pub const PROBE_ARRAY: &[u8] = b"[Z";
@@ -21,3 +21,6 @@ pub const FETCH_NAME: &[u8] = b"getProbes";
 
 /// The descriptor of that method, which is given the id and the name of the class and the number of its probes.
 pub const FETCH_TYPE: &[u8] = b"(JLjava/lang/String;I)[Z";
+
+/// The most probes of an instrumented class: `sipush` pushes each id (JVM Specification 6.5).
+pub const MOST_PROBES: u32 = 32_767;

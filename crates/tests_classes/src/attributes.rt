@@ -1,5 +1,6 @@
 //! Calls that take numbers alone: the added method, and frames in their order.
 ghost use Rattle.std.specs.Prelude.{◌≡◌, ◌≤◌};
+ghost use Rattle.jc_methods.specs.ProbeMembers.{most_probes};
 
 use crate::shown::put_bytes;
 use jc_bytes::List;
@@ -48,7 +49,7 @@ fn init(alloc: Global, numbers: &[u16], out: &mut Answer) -> Option<()> {
 
 /// Puts the text of the added method's Code attribute.
 fn init_text(alloc: Global, places: &AddedPlaces, probes: u16, out: &mut Answer) -> Option<()>
-    requires { probes ≤ 32767 }
+    requires { probes ≤ most_probes }
 {
     let text = out.got(write_init(alloc, places, u32::from(probes)))?;
     put_bytes(&text, out);

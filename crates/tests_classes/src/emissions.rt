@@ -1,6 +1,7 @@
 //! Instrumented code of bodies, and its layouts.
 ghost use Rattle.std.specs.Prelude.{◌≡◌, ◌≤◌, true, length, IfOk};
 ghost use Rattle.jc_methods.specs.FrameOrder.{RiseFrom};
+ghost use Rattle.jc_methods.specs.ProbeMembers.{most_probes};
 ghost use Rattle.jc_methods.specs.VerificationTypes.{AreNumberedFrames};
 ghost use Rattle.jc_methods.specs.WellMade.{IsWellMade};
 ghost use Rattle.jc_instrument_code.specs.Given.{AreFrames, IsLaid};
@@ -17,20 +18,17 @@ use jc_emit::emit;
 use jc_instrument_code::{each_layout_can_be_written, frames_of, merged_frames};
 use jc_kinds::states;
 use jc_layout::{Laid, layout};
-use jc_methods::{Body, Emitted, FrameAt, Plan};
+use jc_methods::{Body, Emitted, FrameAt, MOST_PROBES, Plan};
 use jc_plan::plan;
 use jc_pool::Pool;
 use std::alloc::Global;
 use tests_lines::Answer;
 
-/// The most probes of a body whose code is made.
-const MOST_PROBES: u32 = 32_767;
-
 /// The plan of a body, with ids of probes from 0 on.
 fn planned(alloc: Global, body: &Body) -> Result<Plan, Fail<Refusal>>
     requires { IsWellMade body.now }
     ensures plan { IfOk result (λ p. p ≡ plan_of body.now 0) }
-    ensures few { IfOk result (λ p. p.next ≤ 32767) }
+    ensures few { IfOk result (λ p. p.next ≤ most_probes) }
 {
     let plan = plan(alloc, body, 0)?;
     if plan.next > MOST_PROBES {

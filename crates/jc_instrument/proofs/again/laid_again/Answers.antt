@@ -1,4 +1,5 @@
 use Rattle.std.proofs.Common.{◌≤◌, sym, subst, arith}
+use Rattle.jc_methods.specs.ProbeMembers.{most_probes}
 use Rattle.jc_methods.specs.declared.plan.Plan.{Plan}
 use Rattle.jc_bytes.specs.Failing.{Said}
 use Rattle.jc_bytes.specs.declared.fail.Fail.{Fail}
@@ -10,7 +11,7 @@ pub laid_body-requires-clause-plan : goal.laid_body-requires-clause-plan
 laid_body-requires-clause-plan c = (c.requires.0, c.requires.1)
 
 pub laid_body-requires-clause-next : goal.laid_body-requires-clause-next
-laid_body-requires-clause-next c = subst (λ (p : Plan). p.next ≤ 32767) (sym c.requires.1) c.requires.2.next
+laid_body-requires-clause-next c = subst (λ (p : Plan). p.next ≤ most_probes) (sym c.requires.1) c.requires.2.next
 
 pub unreachable-requires : goal.unreachable-requires
 unreachable-requires c =

@@ -1,4 +1,5 @@
 use Rattle.std.proofs.Common.{◌≤◌, ◌+◌, length, sym, subst, arith}
+use Rattle.jc_methods.specs.ProbeMembers.{most_probes}
 use Rattle.jc_methods.specs.declared.plan.Plan.{Plan}
 use Rattle.jc_methods.proofs.NumberedLaws.{frames_numbered, grown_count}
 use Rattle.jc_plan.specs.Probed.{probe_count}
@@ -6,7 +7,7 @@ use Rattle.jc_instrument.proofs.again.ready_again.Goals as goal
 
 pub plan-requires-clause-first : goal.plan-requires-clause-first
 plan-requires-clause-first c =
-    let next : c.args.first + probe_count c.args.body ≤ 32767 = c.requires.takes.next in
+    let next : c.args.first + probe_count c.args.body ≤ most_probes = c.requires.takes.next in
     omega (arith, next)
 
 pub laid_again-requires : goal.laid_again-requires
@@ -22,7 +23,7 @@ returns-clause-ready c =
       made = c.requires.takes.made;
       numbered = frames_numbered (length old) (length names) b.frames (grown_count old names found.names) c.requires.frames;
       plan = (c.args.first, c.in_ok-plan.ensures);
-      next = subst (λ (p : Plan). p.next ≤ 32767) (sym c.in_ok-plan.ensures) c.requires.takes.next;
+      next = subst (λ (p : Plan). p.next ≤ most_probes) (sym c.in_ok-plan.ensures) c.requires.takes.next;
       room = c.in_ok-laid.ensures.room;
       rows = c.requires.takes.rows;
       laid = c.in_ok-laid.ensures.laid;
