@@ -18,7 +18,7 @@ use Rattle.jc_plan.proofs.IdsLaws.{ids_within}
 use Rattle.jc_plan.proofs.ListedLaws.{lists_from}
 use Rattle.jc_emit.specs.Sizes.{insn_at, early_by}
 use Rattle.jc_emit.specs.Marks.{Marks}
-use Rattle.jc_emit.specs.Items.{Item, init_call, init_store, image, probe_array, probe_id, probe_one, probe_store, hop}
+use Rattle.jc_emit.specs.Items.{Item, start, image, probe_array, probe_id, probe_one, probe_store, hop}
 use Rattle.jc_emit.specs.Local.{AllOk, IsOfBranch, IsOfEdge, id_in, early_at}
 use Rattle.jc_emit.specs.Seen.{IsSeen}
 use Rattle.jc_emit.proofs.OthersLaws.{none_some, jumps_target}
@@ -69,8 +69,7 @@ module _ (code : List Insn) (slot : Option ℕ) (ids : Branch → Option ℕ) (i
   each_of_branch all q id x h e = by x h e
     where
       by : (x : Item) → slice_get items q ≡ Some x → id_in x ≡ Some id → OfBranch id
-      by init_call h e = absurd (none_some id e)
-      by init_store h e = absurd (none_some id e)
+      by (start k) h e = absurd (none_some id e)
       by (image insn at early) h e = absurd (none_some id e)
       by (probe_array k at late) h e = subst OfBranch (same_Some k id e) (of_branch k at late (all.ok q (probe_array k at late) h).0)
       by (probe_id k at late) h e = subst OfBranch (same_Some k id e) (of_branch k at late (all.ok q (probe_id k at late) h).0)

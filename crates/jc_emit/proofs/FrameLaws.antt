@@ -24,6 +24,7 @@ use Rattle.jc_emit.specs.Shift.{shifted_state, image_kind, probe_array_class}
 use Rattle.jc_emit.specs.Sizes.{insn_at, late_by, late_probe, arms_at, probe_size, hop_size, arm_sizes}
 use Rattle.jc_emit.specs.TwinCode.{to_of, arm_place}
 use Rattle.jc_emit.specs.TwinFrames.{state_at, left_by, IsNarrowFrame, IsFrame, AreTwinFrames}
+use Rattle.jc_emit.specs.Marks.{prelude_size}
 use Rattle.jc_emit.specs.Items.{lead_of, land_of, image_of}
 use Rattle.jc_emit.specs.Emission.{frame, frame_if, moved_state, has_frame, has_inverse, arm_frame, arm_frames, frames_at}
 use Rattle.jc_emit.proofs.OthersLaws.{Arms, Agrees, agrees_first, agrees_rest, arms_by_list, none_some}
@@ -141,7 +142,7 @@ module _ (b : Body) (first : ℕ) (states : List State) (array : ℕ) (names : L
 
   all_rise : RiseFrom 0 (pieces part (length b.code))
   all_rise =
-      are_rising 0 (lead (length b.code)) (pieces part (length b.code)) (rises_from 0 2 (lead (length b.code)) _ (omega arith) (rises_pieces part lead part_rises (length b.code)))
+      are_rising 0 (lead (length b.code)) (pieces part (length b.code)) (rises_from 0 prelude_size (lead (length b.code)) _ (omega arith) (rises_pieces part lead part_rises (length b.code)))
 
   -- ---- each is asked for
 

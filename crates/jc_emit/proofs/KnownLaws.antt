@@ -14,7 +14,7 @@ use Rattle.jc_plan.specs.declared.branch.Branch.{Branch}
 use Rattle.jc_plan.specs.Probed.{probe_of}
 use Rattle.jc_plan.specs.Plan.{lead_probe}
 use Rattle.jc_emit.specs.Sizes.{insn_at, early_probe, late_probe, arms_at, probe_size, hop_size, wide_by, wide_size}
-use Rattle.jc_emit.specs.Marks.{Marks, HasInsn, IsProbe, iconst_1, bastore, image_place, land_place, lead_place}
+use Rattle.jc_emit.specs.Marks.{Marks, HasInsn, IsProbe, iconst_1, bastore, prelude_size, image_place, land_place, lead_place}
 use Rattle.jc_methods.specs.Widened.{goto, inverted}
 use Rattle.jc_emit.specs.TwinCode.{to_of, Sentences, IsTwinCode, HasTest, HasArm, HasArms}
 use Rattle.jc_emit.specs.Items.{marks_of_items, Item, hop, insn_of, at_of, own_of, extra_of, prelude, probe, lead_part, early_part, hop_part, arm_parts, test_part, segment_size, lead_of, land_of, image_of, tests_part, image_part, segment, twin_items}
@@ -214,7 +214,7 @@ module _ (b : Body) (first : ℕ) (wide : Bool) (call : ℕ) (code : List Insn) 
 
   all_here : Each Here 0 (prelude ++ pieces (segment b first wide) n)
   all_here =
-      (known.prelude.first_insns.0, (known.prelude.first_insns.1.0, each_piece Here (segment b first wide) size (sized b first wide) 2 n (λ i lt. segment_here i lt)))
+      (known.prelude.first_insns.0, (known.prelude.first_insns.1.0, each_piece Here (segment b first wide) size (sized b first wide) prelude_size n (λ i lt. segment_here i lt)))
 
   -- ---- the lists
 

@@ -21,6 +21,7 @@ use Rattle.jc_plan.proofs.ByBranchLaws.{last_parts}
 use Rattle.jc_emit.specs.Sizes.{insn_at, early_by, early_probe, late_by, late_probe, arms_at, probe_size, hop_size, wide_by, behind_size}
 use Rattle.jc_methods.specs.Widened.{inverted}
 use Rattle.jc_emit.specs.TwinCode.{to_of, here_or, arm_place}
+use Rattle.jc_emit.specs.Marks.{prelude_size}
 use Rattle.jc_emit.specs.Items.{Item, image, probe_array, hop, probe, lead_part, early_part, hop_part, arm_parts, test_part, segment_size, lead_of, land_of, image_of, tests_part, image_part, segment, twin_items}
 use Rattle.jc_emit.specs.Local.{Stands, Lands, Ok, OkImage, IsOfEdgeTo, AllOk, TestsAlike, TestsInversely, SwitchesAlike, JumpsAlike}
 use Rattle.jc_emit.proofs.PiecesLaws.{HasAt, has_front, has_back, Each, each_append, each_at, each_piece}
@@ -177,7 +178,7 @@ module _ (b : Body) (first : ℕ) (wide : Bool) (is_code : IsCode b.code) where
   next_lands : (i q : ℕ) → i < length b.code → FallsThrough (old i) → q ≡ q_of i + 1 + behind_size b first wide i
       → In q (i + 1) (ids (sequence i))
   next_lands i q lt falls e =
-      let next : lead (i + 1) ≡ q = ap (λ k. 2 + total (segment_size b first wide) k) (add-one i) ∙ omega (arith, e) in
+      let next : lead (i + 1) ≡ q = ap (λ k. prelude_size + total (segment_size b first wide) k) (add-one i) ∙ omega (arith, e) in
       subst (λ k. In k (i + 1) (ids (sequence i))) next (lead_lands (i + 1) (next_within i lt falls))
 
   pub target_within : (i : ℕ) → i < length b.code → targets_of (old i) ≡ jump_target (old i) ∷ [] → jump_target (old i) < length b.code
@@ -441,13 +442,18 @@ module _ (b : Body) (first : ℕ) (wide : Bool) (is_code : IsCode b.code) where
       (subst (λ k. Each Fine (land i + k) (main i (flow_of (old i)))) (sym (length-early (early_probe b first i) i))
       (main_fine i (flow_of (old i)) lt refl (main_at b first wide 0 i lt)))))
 
-  start_lands : In 2 0 None
+  start_lands : In prelude_size 0 None
   start_lands = lead_lands 0 is_code.some
 
   all_fine : Each Fine 0 items
   unfolding twin_items
-  all_fine =
-      ((refl, refl), (start_lands, each_piece Fine (segment b first wide) (segment_size b first wide) (sized b first wide) 2 (length b.code) (λ i lt. segment_fine i lt)))
+  all_fine = (
+    record { place = refl; within = omega arith; next = refl },
+    (
+      record { place = refl; within = omega arith; next = start_lands },
+      each_piece Fine (segment b first wide) (segment_size b first wide) (sized b first wide) prelude_size (length b.code) (λ i lt. segment_fine i lt),
+    ),
+  )
 
   pub twin_ok : AllOk b.code (Some b.arg_slots) (probe_of b first) items
   twin_ok = record {

@@ -22,10 +22,10 @@ use Rattle.jc_plan.specs.Plan.{lead_probe}
 use Rattle.jc_bytes.proofs.FirstSeenLaws.{contains_one, first_seen_distinct}
 use Rattle.jc_plan.proofs.ListedLaws.{listed_from, lists_from}
 use Rattle.jc_emit.specs.Sizes.{insn_at, early_by, early_probe, late_by, late_probe, arms_by, arms_at, hop_size, wide_by, wide_size}
-use Rattle.jc_emit.specs.Marks.{Marks}
+use Rattle.jc_emit.specs.Marks.{Marks, prelude_size}
 use Rattle.jc_methods.specs.Widened.{inverted}
 use Rattle.jc_emit.specs.TwinCode.{to_of, here_or, arm_place, probe_place, probe_place_by, probe_owner, probe_owner_by, ProbedEdge, InProbe, IsHop, IsWideGoto, NothingElse, HasProbe, HasArm, HasArms, HasGotoBehind}
-use Rattle.jc_emit.specs.Items.{marks_of_items, Item, init_call, hop, insn_of, own_of, probe, lead_part, early_part, hop_part, arm_parts, test_part, segment_size, lead_of, land_of, image_of, tests_part, image_part, segment, twin_items}
+use Rattle.jc_emit.specs.Items.{marks_of_items, Item, start, hop, insn_of, own_of, probe, lead_part, early_part, hop_part, arm_parts, test_part, segment_size, lead_of, land_of, image_of, tests_part, image_part, segment, twin_items}
 use Rattle.jc_emit.proofs.PiecesLaws.{HasAt, has_front, Each, each_append, each_at, each_piece}
 use Rattle.jc_emit.proofs.BuiltLaws.{length-lead, length-early, length-hop, length-test, sized}
 use Rattle.jc_emit.proofs.EndsLaws.{lead_none}
@@ -263,7 +263,7 @@ module _ (b : Body) (first : ℕ) (wide : Bool) (call : ℕ) (is_code : IsCode b
 
   abbrev Role : ℕ → Item → Type 0
   Role q x =
-      (q < 2) ⊎ ((slice_get m.own q ≡ Some true)
+      (q < prelude_size) ⊎ ((slice_get m.own q ≡ Some true)
       ⊎ (InProbe b first wide code m image_at land lead q ⊎ (IsHop b first wide code m image_at land lead q ⊎ IsWideGoto b first wide code m image_at land lead q)))
 
   own_role : (q : ℕ) (x : Item) → slice_get items q ≡ Some x → own_of x ≡ true → Role q x
@@ -274,12 +274,12 @@ module _ (b : Body) (first : ℕ) (wide : Bool) (call : ℕ) (is_code : IsCode b
 
   probe_roles : (q id at : ℕ) (late : Bool) (e : Edge) → q ≡ place e.branch → Each Role q (probe id at late)
   probe_roles q id at late e h = (
-    probe_role q init_call e 0 (omega arith) (omega (arith, h)),
+    probe_role q (start 0) e 0 (omega arith) (omega (arith, h)),
     (
-      probe_role (q + 1) init_call e 1 (omega arith) (omega (arith, h)),
+      probe_role (q + 1) (start 0) e 1 (omega arith) (omega (arith, h)),
       (
-        probe_role (q + 1 + 1) init_call e 2 (omega arith) (omega (arith, h)),
-        (probe_role (q + 1 + 1 + 1) init_call e 3 (omega arith) (omega (arith, h)), tt),
+        probe_role (q + 1 + 1) (start 0) e 2 (omega arith) (omega (arith, h)),
+        (probe_role (q + 1 + 1 + 1) (start 0) e 3 (omega arith) (omega (arith, h)), tt),
       ),
     ),
   )
@@ -412,15 +412,15 @@ module _ (b : Body) (first : ℕ) (wide : Bool) (call : ℕ) (is_code : IsCode b
   all_roles : Each Role 0 items
   unfolding twin_items
   all_roles =
-      (inl (omega arith), (inl (omega arith), each_piece Role (segment b first wide) (segment_size b first wide) (sized b first wide) 2 (length b.code) (λ i lt. segment_roles i lt)))
+      (inl (omega arith), (inl (omega arith), each_piece Role (segment b first wide) (segment_size b first wide) (sized b first wide) prelude_size (length b.code) (λ i lt. segment_roles i lt)))
 
-  others_told : (q : ℕ) → q < length code → Role q init_call
+  others_told : (q : ℕ) → q < length code → Role q (start 0)
   others_told q lt =
       let within : q < length items = omega (arith, length-map items (insn_of call b.arg_slots)) in
-      let here = slice_get-get_or items q init_call within in
+      let here = slice_get-get_or items q (start 0) within in
       let role = each_at Role 0 items q _ all_roles here in
       let e : 0 + q ≡ q = zero-add q in
-      subst (λ k. Role k init_call) e role
+      subst (λ k. Role k (start 0)) e role
 
   pub nothing_else_told : NothingElse b first wide code m image_at land lead
   nothing_else_told = record { probes = probes_told; others = others_told }

@@ -20,7 +20,7 @@ use Rattle.jc_plan.specs.Probed.{probe_of, id_if, is_probed, id_of}
 use Rattle.jc_plan.proofs.OneIdLaws.{one_edge}
 use Rattle.jc_plan.proofs.FlowLaws.{IsAt, all_at}
 use Rattle.jc_emit.specs.Sizes.{insn_at, late_by, late_probe, arms_by, arms_at, hop_size}
-use Rattle.jc_emit.specs.Marks.{Marks, IsProbe, aload, invokestatic, push, image_place, land_place, lead_place}
+use Rattle.jc_emit.specs.Marks.{Marks, IsProbe, aload, invokestatic, prelude_size, push, image_place, land_place, lead_place}
 use Rattle.jc_emit.specs.TwinCode.{to_of, Sentences, IsTwinCode, ProbedEdge, InProbe, IsWideGoto, IsAdded, HasGotoBehind, HasTest, HasHop, HasArm, HasArms, IsProbeOf, IsProbeIn, arm, probe_place, probe_place_by}
 use Rattle.jc_emit.proofs.OthersLaws.{Arms, arm_way, Agrees, agrees_first, agrees_rest, arms_by_list, at_found, tests_target, jumps_target}
 
@@ -161,7 +161,7 @@ module _ (b : Body) (first : ℕ) (wide : Bool) (code : List Insn) (m : Marks) (
   no_probe : (q id at : ℕ) → IsGoto q → IsProbe code m b.arg_slots q id at → ⊥
   no_probe q id at g p = let e = same_Some (goto g.0) (aload b.arg_slots) (sym g.1 ∙ p.array.insn_is) in cc
 
-  in_prelude : (q id at : ℕ) → q < 2 → IsProbe code m b.arg_slots q id at → ⊥
+  in_prelude : (q id at : ℕ) → q < prelude_size → IsProbe code m b.arg_slots q id at → ⊥
   in_prelude zero id at lt p =
       let e = same_Some (invokestatic call) (aload b.arg_slots) (sym s.prelude.first_insns.0.insn_is ∙ p.array.insn_is) in cc
   in_prelude (suc zero) id at lt p =
@@ -195,7 +195,7 @@ module _ (b : Body) (first : ℕ) (wide : Bool) (code : List Insn) (m : Marks) (
   pub probe_found : (q id at : ℕ) → IsProbe code m b.arg_slots q id at → IsProbeOf b first wide code m image land lead q id at
   probe_found q id at p = by (s.nothing_else.others q (slice_get_within code q (aload b.arg_slots) p.array.insn_is))
     where
-      by : (q < 2) ⊎ ((slice_get m.own q ≡ Some true) ⊎ IsAdded b first wide code m image land lead q)
+      by : (q < prelude_size) ⊎ ((slice_get m.own q ≡ Some true) ⊎ IsAdded b first wide code m image land lead q)
           → IsProbeOf b first wide code m image land lead q id at
       by (inl low) = absurd (in_prelude q id at low p)
       by (inr (inl own)) = let e = same_Some false true (sym p.array.own_is ∙ own) in absurd (false_true e)

@@ -1,12 +1,12 @@
 -- A twin comes to an image soon.
-use Rattle.std.proofs.Common.{◌≡◌, ℕ, ◌+◌, ◌<◌, ◌≤◌, Bool, true, false, List, Option, Some, None, ap, subst, arith}
+use Rattle.std.proofs.Common.{◌≡◌, ℕ, zero, suc, ◌+◌, ◌<◌, ◌≤◌, Bool, true, false, List, Option, Some, None, ap, subst, arith}
 use Rattle.std.specs.Prelude.{slice_get}
 use Rattle.jc_methods.specs.declared.insn.Insn.{Insn}
 use Rattle.jc_plan.specs.declared.branch.Branch.{Branch}
 use Rattle.jc_emit.specs.Sizes.{probe_size, hop_size}
-use Rattle.jc_emit.specs.Items.{Item, init_call, init_store, image, probe_array, probe_id, probe_one, probe_store, hop, own_of, at_of, extra_of}
+use Rattle.jc_emit.specs.Items.{Item, start, image, probe_array, probe_id, probe_one, probe_store, hop, own_of, at_of, extra_of}
 use Rattle.jc_emit.specs.Local.{AllOk, Stands, Lands, IsBehind, IsNoHop, early_at, due_of}
-use Rattle.jc_emit.specs.Ranks.{after_place, early_size, late_rank, rank, IsRanked}
+use Rattle.jc_emit.specs.Ranks.{after_place, early_size, late_rank, most_row, rank, IsRanked}
 use Rattle.jc_emit.proofs.PlacingLaws.{few_probe, few_hop}
 
 module _ (code : List Insn) (slot : Option ℕ) (ids : Branch → Option ℕ) (items : List Item) (all : AllOk code slot ids items) where
@@ -23,9 +23,9 @@ module _ (code : List Insn) (slot : Option ℕ) (ids : Branch → Option ℕ) (i
   late_small at n true = omega (arith, early_small at)
   late_small at n false = omega arith
 
-  small : (x : Item) → height x ≤ 17
-  small init_call = omega (arith, early_small 0)
-  small init_store = omega (arith, early_small 0)
+  small : (x : Item) → height x ≤ most_row
+  small (start zero) = omega (arith, early_small 0)
+  small (start (suc k)) = omega (arith, early_small 0)
   small (image insn at e) = omega arith
   small (probe_array id at late) = omega (arith, late_small at 4 late)
   small (probe_id id at late) = omega (arith, late_small at 3 late)
@@ -36,8 +36,7 @@ module _ (code : List Insn) (slot : Option ℕ) (ids : Branch → Option ℕ) (i
   -- what can go on at a place with a due probe
   bounded : (q at : ℕ) (due : Option ℕ) (x : Item) → slice_get items q ≡ Some x → at_of x ≡ at → extra_of x ≡ 0 → due_of x ≡ due
       → IsBehind x → IsNoHop x → height x ≤ hop_size due + early at
-  bounded q at due init_call h a p d b n = absurd b
-  bounded q at due init_store h a p d b n = absurd b
+  bounded q at due (start k) h a p d b n = absurd b
   bounded q at due (image insn i e) h a p d b n = omega arith
   bounded q at due (probe_array id i true) h a p d b n =
       let size = ap hop_size d in let same = ap early a in omega (arith, size, same)
@@ -52,8 +51,7 @@ module _ (code : List Insn) (slot : Option ℕ) (ids : Branch → Option ℕ) (i
   loosely : (q at : ℕ) (due : Option ℕ) (x : Item) → slice_get items q ≡ Some x → at_of x ≡ at → extra_of x ≡ 0 → due_of x ≡ due
       → IsBehind x → height x ≤ 1 + hop_size due + early at
   loosely q at due (hop to i due') h a p d b = let size = ap hop_size d in let same = ap early a in omega (arith, size, same)
-  loosely q at due init_call h a p d b = absurd b
-  loosely q at due init_store h a p d b = absurd b
+  loosely q at due (start k) h a p d b = absurd b
   loosely q at due (image insn i e) h a p d b = omega arith
   loosely q at due (probe_array id i late) h a p d b = omega (arith, bounded q at due (probe_array id i late) h a p d b tt)
   loosely q at due (probe_id id i late) h a p d b = absurd (omega (arith, p))
@@ -83,8 +81,9 @@ module _ (code : List Insn) (slot : Option ℕ) (ids : Branch → Option ℕ) (i
 
   falls : (q : ℕ) (x y : Item) → slice_get items q ≡ Some x → own_of x ≡ false → slice_get items (after_place q x) ≡ Some y
       → height y < height x
-  falls q init_call y h own k = follows (q + 1) init_store y (13 + early 0) (all.ok q init_call h).1 k (omega arith)
-  falls q init_store y h own k = omega (arith, lands_below (q + 1) 0 None y (all.ok q init_store h) k)
+  falls q (start zero) y h own k = follows (q + 1) (start 1) y (height (start 0)) (all.ok q (start zero) h).next k (omega arith)
+  falls q (start (suc zero)) y h own k = omega (arith, lands_below (q + 1) 0 None y (all.ok q (start (suc zero)) h).next k)
+  falls q (start (suc (suc n))) y h own k = let within = (all.ok q (start (suc (suc n))) h).within in absurd (omega (arith, within))
   falls q (image insn at e) y h own k = cc
   falls q (probe_array id at late) y h own k =
       follows (q + 1) (probe_id id at late) y (late_rank (early at) 4 late) (all.ok q (probe_array id at late) h).1 k (late_falls at 3 late)

@@ -10,7 +10,7 @@ use Rattle.jc_methods.specs.declared.kind.State.{State}
 use Rattle.jc_methods.specs.declared.body.Body.{Body}
 use Rattle.jc_methods.specs.declared.body.Handler.{Handler}
 use Rattle.jc_plan.specs.Probed.{probe_of}
-use Rattle.jc_emit.specs.Items.{Item, init_call, image, insn_of, twin_items, lead_of, land_of}
+use Rattle.jc_emit.specs.Items.{Item, start, image, insn_of, twin_items, lead_of, land_of}
 use Rattle.jc_emit.specs.TwinTables.{moved_row}
 use Rattle.jc_emit.specs.Local.{OkRow, no_ids, unchanged_items}
 use Rattle.jc_emit.specs.Twin.{Twin}
@@ -29,7 +29,7 @@ rest_of_all : {X : Type 0} (P : X → Type 0) (x : X) (xs : List X) → All P (x
 rest_of_all P x xs all = λ k d lt. all (suc k) d (omega arith)
 
 pub insn_is : (call v : ℕ) (x : Item) → IsInsnOf call v x (insn_of call v x)
-insn_is call v init_call = refl
+insn_is call v (start k) = refl
 insn_is call v x = refl
 
 -- code that is that of the items has the instruction of each

@@ -13,10 +13,10 @@ use Rattle.jc_plan.specs.declared.branch.Branch.{Branch}
 use Rattle.jc_plan.specs.Probed.{probe_of}
 use Rattle.jc_plan.specs.Plan.{lead_probe}
 use Rattle.jc_emit.specs.Sizes.{insn_at, early_probe, late_probe, arms_at, hop_size, wide_by, wide_size}
-use Rattle.jc_emit.specs.Marks.{Marks, HasInsn, IsProbe, iconst_1, bastore, push}
+use Rattle.jc_emit.specs.Marks.{Marks, HasInsn, IsProbe, iconst_1, bastore, prelude_size, push}
 use Rattle.jc_methods.specs.Widened.{goto, inverted}
 use Rattle.jc_emit.specs.TwinCode.{to_of, Prelude, Images, Places, Jumps, Switches, Lengths, HasTest, HasProbe, HasHop, HasArm, HasArms}
-use Rattle.jc_emit.specs.Items.{Item, marks_of_items, image, hop, insn_of, at_of, own_of, extra_of, probe, lead_part, early_part, hop_part, arm_parts, test_part, segment_size, lead_of, land_of, image_of, tests_part, image_part, twin_items, probe_array, probe_id, probe_one, probe_store, init_call, init_store}
+use Rattle.jc_emit.specs.Items.{Item, marks_of_items, image, hop, insn_of, at_of, own_of, extra_of, probe, lead_part, early_part, hop_part, arm_parts, test_part, segment_size, lead_of, land_of, image_of, tests_part, image_part, twin_items, probe_array, probe_id, probe_one, probe_store, start}
 use Rattle.jc_emit.proofs.PiecesLaws.{HasAt, has_front, has_back}
 use Rattle.jc_emit.proofs.ImagesLaws.{trues_counted}
 use Rattle.jc_emit.proofs.BuiltLaws.{length-lead, length-early, length-hop, length-test, own_twin, segment_at, prelude_at}
@@ -162,7 +162,7 @@ module _ (b : Body) (first : ℕ) (wide : Bool) (call : ℕ) where
 
   pub prelude_told : Prelude b first wide code m image_at land lead call
   prelude_told = record {
-    first_insns = (stands 0 init_call (prelude_at b first wide).0, (stands 1 init_store (prelude_at b first wide).1.0, tt));
+    first_insns = (stands 0 (start 0) (prelude_at b first wide).0, (stands 1 (start 1) (prelude_at b first wide).1.0, tt));
   }
 
   pub images_told : Images b first wide code m image_at land lead
@@ -178,7 +178,7 @@ module _ (b : Body) (first : ℕ) (wide : Bool) (call : ℕ) where
     early = λ i id lt e. probe_stands (land i) id i false (subst (λ o. HasAt items (land i) (early_part o i)) e (early_at i lt));
     leads = λ i id lt e. probe_stands (lead i) id i true (subst (λ o. HasAt items (lead i) (lead_part o i)) e (lead_at i lt));
     first_place = refl;
-    next_place = λ i lt. ap (λ k. 2 + total (segment_size b first wide) k) (add-one i) ∙ omega arith;
+    next_place = λ i lt. ap (λ k. prelude_size + total (segment_size b first wide) k) (add-one i) ∙ omega arith;
   }
 
   pub jumps_told : Jumps b first wide code m image_at land lead

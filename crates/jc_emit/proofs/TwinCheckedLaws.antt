@@ -25,7 +25,8 @@ use Rattle.jc_emit.specs.Straddling.{NoneStraddles}
 use Rattle.jc_emit.specs.TwinTables.{moved_row}
 use Rattle.jc_emit.specs.TwinFrames.{state_at}
 use Rattle.jc_emit.specs.Twin.{Twin}
-use Rattle.jc_emit.specs.Items.{insn_of, init_call, init_store, segment, lead_of, land_of, image_of}
+use Rattle.jc_emit.specs.Marks.{prelude_size}
+use Rattle.jc_emit.specs.Items.{start, insn_of, segment, lead_of, land_of, image_of}
 use Rattle.jc_emit.proofs.PiecesLaws.{each_at}
 use Rattle.jc_emit.proofs.BuiltLaws.{sized, prelude_at}
 use Rattle.jc_emit.proofs.TwinPremisesLaws.{Premises, premises, stands, code_long, asked_has, leads_grow, same_use}
@@ -61,8 +62,8 @@ module _ (names new_names : Names) (states : List State) (first : ℕ) (wide : B
 
   call_sound : SoundAt 0
   call_sound = record {
-    insn = insn_of call b.arg_slots init_call;
-    stands = stands names new_names states first wide call b b' p 0 init_call (prelude_at b first wide).0;
+    insn = insn_of call b.arg_slots (start 0);
+    stands = stands names new_names states first wide call b b' p 0 (start 0) (prelude_at b first wide).0;
     before = entry_of b';
     state_is = state_0 names new_names states first wide call b b' p;
     after = E1;
@@ -76,15 +77,16 @@ module _ (names new_names : Names) (states : List State) (first : ℕ) (wide : B
   store_sound =
       let some = p.well.code.some in
       let l = all_led names new_names states first wide call b b' p 0 (omega (arith, some)) in
-      let two : lead 0 ≡ 2 = omega arith in
+      let first_lead : lead 0 ≡ prelude_size = omega arith in
       record {
-        insn = insn_of call b.arg_slots init_store;
-        stands = stands names new_names states first wide call b b' p 1 init_store (prelude_at b first wide).1.0;
+        insn = insn_of call b.arg_slots (start 1);
+        stands = stands names new_names states first wide call b b' p 1 (start 1) (prelude_at b first wide).1.0;
         before = E1;
         state_is = state_1 names new_names states first wide call b b' p;
         after = moved (entry_of b);
         after_is = after_1 names new_names states first wide call b b' p;
-        next = λ falls. fit_there (N 2) (moved (entry_of b)) (moved l.before) (ap N (sym two) ∙ l.state_is) (fits_shift (image_of b first wide) b.arg_slots (entry_of b) l.before (l.begins refl));
+        next = λ falls. fit_there (N prelude_size) (moved (entry_of b)) (moved l.before) (ap N (sym first_lead) ∙ l.state_is)
+            (fits_shift (image_of b first wide) b.arg_slots (entry_of b) l.before (l.begins refl));
         stops = λ halts. absurd (halts (inl refl));
         jumps = λ r c. absurd (none_in r c);
       }
@@ -97,7 +99,7 @@ module _ (names new_names : Names) (states : List State) (first : ℕ) (wide : B
     low : lead owner ≤ q
     high : q < lead (suc owner)
 
-  piece_of : (n q : ℕ) → n ≤ length b.code → 2 ≤ q → q < lead n → Piece q
+  piece_of : (n q : ℕ) → n ≤ length b.code → prelude_size ≤ q → q < lead n → Piece q
   piece_of zero q le low high = absurd (omega (arith, low, high))
   piece_of (suc n) q le low high =
       ⊎_elim (λ lt. piece_of n q (omega (arith, le)) low lt)
@@ -111,7 +113,7 @@ module _ (names new_names : Names) (states : List State) (first : ℕ) (wide : B
       let long = sized b first wide i in
       let within : k < length (segment b first wide i) = omega (arith, low, high, long) in
       let place : lead i + k ≡ q = omega (arith, low) in
-      let found = slice_get-get_or (segment b first wide i) k init_call within in
+      let found = slice_get-get_or (segment b first wide i) k (start 0) within in
       subst (λ m. (w : SoundAt m) × Near names new_names states first wide call b b' p i w.before) place
       (each_at (Fine names new_names states first wide call b b' p i) (lead i) (segment b first wide i) k _ (segment_fine names new_names states first wide call b b' p i lt) found)
 
@@ -169,14 +171,14 @@ module _ (names new_names : Names) (states : List State) (first : ℕ) (wide : B
       let g = o.0 in
       let e = o.2 in
       let row = row_is g o.1 in
-      let start : lead g.start ≤ q = let s = guards.start in let m = ap (λ (x : Handler). x.start) e in omega (arith, s, m) in
+      let begun : lead g.start ≤ q = let s = guards.start in let m = ap (λ (x : Handler). x.start) e in omega (arith, s, m) in
       let end : q < lead g.end = let s = guards.end in let m = ap (λ (x : Handler). x.end) e in omega (arith, s, m) in
       let l = long in
-      let piece = piece_of (length b.code) q (omega arith) (omega (arith, start)) (omega (arith, lt, l)) in
+      let piece = piece_of (length b.code) q (omega arith) (omega (arith, begun)) (omega (arith, lt, l)) in
       let i = piece.owner in
       let low = piece.low in let high = piece.high in
       let above : g.start ≤ i = ⊎_elim (λ below. let m = leads_grow names new_names states first wide call b b' p (suc i) g.start below in
-      absurd (omega (arith, m, high, start))) (λ le. le) (cases_lt i g.start) in
+      absurd (omega (arith, m, high, begun))) (λ le. le) (cases_lt i g.start) in
       let below : i < g.end = ⊎_elim (λ lt. lt) (λ le. let m = leads_grow names new_names states first wide call b b' p g.end i le in absurd (omega (arith, m, low, end))) (cases_lt i g.end) in
       let w = near_piece q i piece.within low high in
       let target = row.target in

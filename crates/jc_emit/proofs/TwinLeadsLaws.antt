@@ -25,9 +25,9 @@ use Rattle.jc_plan.specs.Entries.{is_multi_target, is_invocation_line}
 use Rattle.jc_plan.specs.Probed.{id_if, probes_before}
 use Rattle.jc_plan.specs.Plan.{lead_probe}
 use Rattle.jc_emit.specs.Sizes.{early_probe, late_probe, probe_size, wide_by}
-use Rattle.jc_emit.specs.Marks.{astore}
+use Rattle.jc_emit.specs.Marks.{astore, prelude_size}
 use Rattle.jc_emit.specs.TwinFrames.{state_at, state_behind, IsFrame}
-use Rattle.jc_emit.specs.Items.{Item, init_store, image, probe_store, insn_of, test_part, lead_part, early_part, lead_of, land_of, image_of, twin_items}
+use Rattle.jc_emit.specs.Items.{Item, start, image, probe_store, insn_of, test_part, lead_part, early_part, lead_of, land_of, image_of, twin_items}
 use Rattle.jc_emit.proofs.PiecesLaws.{HasAt}
 use Rattle.jc_emit.proofs.BuiltLaws.{size_is, prelude_at}
 use Rattle.jc_emit.proofs.ToldLaws.{lead_at, early_at, main_at, main_by, plain_test}
@@ -351,8 +351,8 @@ module _ (names new_names : Names) (states : List State) (first : ℕ) (wide : B
   led_zero : Led 0
   led_zero = by (F (lead 0)) refl
     where
-      two : lead 0 ≡ 2
-      two = omega arith
+      first_lead : lead 0 ≡ prelude_size
+      first_lead = omega arith
 
       some : 0 < length b.code
       some = let s = p.well.code.some in omega (arith, s)
@@ -363,9 +363,9 @@ module _ (names new_names : Names) (states : List State) (first : ℕ) (wide : B
       by None e = record {
         before = entry_of b;
         state_is =
-            ap N two
-            ∙ next_state new_names b' 1 (astore v) (E_array names new_names states first wide call b b' p) (moved (entry_of b)) (ap F (sym two) ∙ e)
-            (stands names new_names states first wide call b b' p 1 init_store (prelude_at b first wide).1.0) (inl refl)
+            ap N first_lead
+            ∙ next_state new_names b' 1 (astore v) (E_array names new_names states first wide call b b' p) (moved (entry_of b)) (ap F (sym first_lead) ∙ e)
+            (stands names new_names states first wide call b b' p 1 (start 1) (prelude_at b first wide).1.0) (inl refl)
             (state_1 names new_names states first wide call b b' p) (after_1 names new_names states first wide call b b' p);
         fits = there_fit (Some (entry_of b)) (state_of names b 0) (entry_of b) (S 0) refl (state_of_b 0 some) p.checked.entry;
         low = omega arith;

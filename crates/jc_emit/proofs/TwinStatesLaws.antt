@@ -32,7 +32,7 @@ use Rattle.jc_kinds.proofs.EntryShiftLaws.{entry_shifts}
 use Rattle.jc_emit.proofs.StateLaws.{slots-renamed}
 use Rattle.jc_emit.specs.Marks.{push, invokestatic}
 use Rattle.jc_emit.specs.TwinFrames.{state_at}
-use Rattle.jc_emit.specs.Items.{Item, init_call, init_store, probe_array, probe_id, probe_one, probe_store, insn_of, extra_of, probe, lead_of, land_of, image_of, twin_items}
+use Rattle.jc_emit.specs.Items.{Item, start, probe_array, probe_id, probe_one, probe_store, insn_of, extra_of, probe, lead_of, land_of, image_of, twin_items}
 use Rattle.jc_emit.proofs.PiecesLaws.{HasAt}
 use Rattle.jc_emit.proofs.BuiltLaws.{prelude_at}
 use Rattle.jc_emit.proofs.StepLaws.{state, moves_one, moves_gives, limited_is, slots-append}
@@ -364,12 +364,12 @@ module _ (names new_names : Names) (states : List State) (first : ℕ) (wide : B
   entry_same k = entry_seen (p.method.owner k) (p.method.name k) (p.method.desc k) (p.method.flags k) (p.max_locals k)
 
   no_frame_first : F 0 ≡ None
-  no_frame_first = no_frame names new_names states first wide call b b' p 0 init_call (prelude_at b first wide).0 (λ l. l.0)
+  no_frame_first = no_frame names new_names states first wide call b b' p 0 (start 0) (prelude_at b first wide).0 (λ l. l.0)
 
   pub state_0 : N 0 ≡ Some E
   state_0 = first_state new_names b' no_frame_first
 
-  call_step : Step 0 init_call E E_array
+  call_step : Step 0 (start 0) E E_array
   unfolding types_from rest_from
   call_step =
       let most = p.max_stack in
@@ -377,18 +377,18 @@ module _ (names new_names : Names) (states : List State) (first : ℕ) (wide : B
       ∙ moves_gives (ground_of b' 0) probes E.locals [] (omega (arith, most))
 
   pub after_0 : after_of b' 0 E ≡ Some E_array
-  after_0 = goes 0 init_call E E_array (prelude_at b first wide).0 call_step
+  after_0 = goes 0 (start 0) E E_array (prelude_at b first wide).0 call_step
 
   pub state_1 : N 1 ≡ Some E_array
   state_1 =
-      next_state new_names b' 0 (invokestatic call) E E_array (no_frame names new_names states first wide call b b' p 1 init_store (prelude_at b first wide).1.0 (λ l. l.0))
-      (stands names new_names states first wide call b b' p 0 init_call (prelude_at b first wide).0) (inl refl) state_0 after_0
+      next_state new_names b' 0 (invokestatic call) E E_array (no_frame names new_names states first wide call b b' p 1 (start 1) (prelude_at b first wide).1.0 (λ l. l.0))
+      (stands names new_names states first wide call b b' p 0 (start 0) (prelude_at b first wide).0) (inl refl) state_0 after_0
 
-  store_array : Step 1 init_store E_array (moved (entry_of b))
+  store_array : Step 1 (start 1) E_array (moved (entry_of b))
   store_array =
       let shifts = entry_shifts (image_of b first wide) b p.well in
       ap (with_stack (record E_array { locals = put_local v probes E_array.locals })) (limited_is b'.max_stack [] (omega arith))
       ∙ ap (λ (l : List VerificationType). Some (state l [])) (ap (λ (e : TypeState). put_local v probes e.locals) entry_same ∙ shifts)
 
   pub after_1 : after_of b' 1 E_array ≡ Some (moved (entry_of b))
-  after_1 = goes 1 init_store E_array (moved (entry_of b)) (prelude_at b first wide).1.0 store_array
+  after_1 = goes 1 (start 1) E_array (moved (entry_of b)) (prelude_at b first wide).1.0 store_array

@@ -1,5 +1,5 @@
 -- The instructions of a twin, each with what it is: a function of the body.
-use Rattle.std.specs.Prelude.{ℕ, ◌+◌, Bool, true, false, List, [], ◌∷◌, ◌++◌, map, length, Option, Some, None}
+use Rattle.std.specs.Prelude.{ℕ, zero, suc, ◌+◌, Bool, true, false, List, [], ◌∷◌, ◌++◌, map, length, Option, Some, None}
 use Rattle.jc_bytes.specs.PlainLists.{pieces, total}
 use Rattle.jc_methods.specs.Flow.{flow_of, jump_target}
 use Rattle.jc_methods.specs.Insn.{with_places}
@@ -11,17 +11,16 @@ use Rattle.jc_plan.specs.Probed.{probe_of}
 use Rattle.jc_plan.specs.Plan.{lead_probe}
 use Rattle.jc_kinds_after.specs.Shift.{with_slot}
 use Rattle.jc_emit.specs.Sizes.{insn_at, early_probe, late_probe, arms_at, probe_size, is_wide, behind_size}
-use Rattle.jc_emit.specs.Marks.{Marks, aload, astore, invokestatic, iconst_1, bastore, push, prelude_size}
+use Rattle.jc_emit.specs.Marks.{Marks, aload, iconst_1, bastore, push, prelude_insn, prelude_size}
 use Rattle.jc_methods.specs.Widened.{goto, inverted}
 use Rattle.jc_emit.specs.TwinCode.{to_of, arm_place}
 use Rattle.jc_methods.specs.declared.insn.Flow.TheVariants as flows
 
--- One instruction of a twin, with the instruction of the body to which it belongs. A probe is late where its edge was
--- taken before it, and not where it stands in front of the goto, return or athrow. An image has the probe that was
--- passed early, and a goto that is no image the probe that is still due where it leads.
+-- One instruction of a twin, with the instruction of the body to which it belongs. The first ones are those of the prelude, by
+-- their numbers. A probe is late where its edge was taken before it, and not where it stands in front of the goto, return or
+-- athrow. An image has the probe that was passed early, and a goto that is no image the probe that is still due where it leads.
 pub data Item : Type 0 where
-  init_call : Item
-  init_store : Item
+  start : (k : ℕ) → Item
   image : (insn : Insn) (at : ℕ) (early : Option ℕ) → Item
   probe_array : (id at : ℕ) (late : Bool) → Item
   probe_id : (id at : ℕ) (late : Bool) → Item
@@ -31,8 +30,7 @@ pub data Item : Type 0 where
 
 -- the instruction, where the probe array stands in local variable v and the call's method at a place of the pool
 abbrev pub insn_of : (call v : ℕ) → Item → Insn
-insn_of call v init_call = invokestatic call
-insn_of call v init_store = astore v
+insn_of call v (start k) = prelude_insn call v k
 insn_of call v (image insn at early) = insn
 insn_of call v (probe_array id at late) = aload v
 insn_of call v (probe_id id at late) = push id
@@ -41,8 +39,7 @@ insn_of call v (probe_store id at late) = bastore
 insn_of call v (hop to at due) = goto to
 
 abbrev pub at_of : Item → ℕ
-at_of init_call = 0
-at_of init_store = 0
+at_of (start k) = 0
 at_of (image insn at early) = at
 at_of (probe_array id at late) = at
 at_of (probe_id id at late) = at
@@ -54,8 +51,13 @@ abbrev pub own_of : Item → Bool
 own_of (image insn at early) = true
 own_of _ = false
 
+-- behind the first instruction of the prelude the array lies on the stack
+abbrev pub start_extra : ℕ → ℕ
+start_extra zero = 0
+start_extra (suc k) = 1
+
 abbrev pub extra_of : Item → ℕ
-extra_of init_store = 1
+extra_of (start k) = start_extra k
 extra_of (probe_id id at late) = 1
 extra_of (probe_one id at late) = 2
 extra_of (probe_store id at late) = 3
@@ -66,7 +68,7 @@ abbrev pub marks_of_items : List Item → Marks
 marks_of_items items = record { at = map at_of items; own = map own_of items; extra = map extra_of items }
 
 abbrev pub prelude : List Item
-prelude = init_call ∷ init_store ∷ []
+prelude = start 0 ∷ start 1 ∷ []
 
 abbrev pub probe : ℕ → ℕ → Bool → List Item
 probe id at late = probe_array id at late ∷ probe_id id at late ∷ probe_one id at late ∷ probe_store id at late ∷ []

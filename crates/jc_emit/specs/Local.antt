@@ -1,5 +1,5 @@
 -- A twin seen from each of its instructions: what it is, and where it goes on.
-use Rattle.std.specs.Prelude.{◌≡◌, ◌⊎◌, ⊤, ℕ, ◌+◌, ◌<◌, ◌≤◌, Bool, true, false, List, length, Option, Some, None, slice_get, Contains, ◌↔◌}
+use Rattle.std.specs.Prelude.{◌≡◌, ◌⊎◌, ⊤, ℕ, suc, ◌+◌, ◌<◌, ◌≤◌, Bool, true, false, List, length, Option, Some, None, nat_lt, slice_get, Contains, ◌↔◌}
 use Rattle.jc_bytes.specs.PlainLists.{map_from}
 use Rattle.jc_methods.specs.Flow.{flow_of, jump_target}
 use Rattle.jc_methods.specs.Insn.{with_places}
@@ -12,15 +12,15 @@ use Rattle.jc_kinds_after.specs.Shift.{with_slot}
 use Rattle.jc_emit.specs.Sizes.{insn_at, early_by}
 use Rattle.jc_methods.specs.Widened.{inverted}
 use Rattle.jc_emit.specs.TwinCode.{to_of}
-use Rattle.jc_emit.specs.Items.{Item, init_call, init_store, image, probe_array, probe_id, probe_one, probe_store, hop, at_of, extra_of}
+use Rattle.jc_emit.specs.Marks.{prelude_size}
+use Rattle.jc_emit.specs.Items.{Item, start, image, probe_array, probe_id, probe_one, probe_store, hop, at_of, extra_of}
 use Rattle.jc_methods.specs.declared.insn.Flow.TheVariants as flows
 
 -- ---- items
 
 -- it stands behind the prelude
 abbrev pub IsBehind : Item → Type 0
-IsBehind init_call = ⊥
-IsBehind init_store = ⊥
+IsBehind (start k) = ⊥
 IsBehind _ = ⊤
 
 -- the id that is still to be hit for an edge that was taken
@@ -145,9 +145,19 @@ module _ (code : List Insn) (slot : Option ℕ) (ids : Branch → Option ℕ) (i
   OkStore q id at true = Stands (q + 1) at None
   OkStore q id at false = (insn : Insn) × (slice_get items (q + 1) ≡ Some (image insn at (Some id)))
 
+  -- the prelude goes on with its next instruction, if there is one, and else with the first instruction of the method
+  abbrev pub StartsOn : Bool → (q k : ℕ) → Type 0
+  StartsOn true q k = slice_get items (q + 1) ≡ Some (start (suc k))
+  StartsOn false q k = Lands (q + 1) 0 None
+
+  -- an instruction of the prelude stands at the place of its number
+  pub record OkStarting (q k : ℕ) : Type 0 where
+    pub place : q ≡ k
+    pub within : k < prelude_size
+    pub next : StartsOn (nat_lt (suc k) prelude_size) q k
+
   abbrev pub Ok : ℕ → Item → Type 0
-  Ok q init_call = (q ≡ 0) × (slice_get items (q + 1) ≡ Some init_store)
-  Ok q init_store = Lands (q + 1) 0 None
+  Ok q (start k) = OkStarting q k
   Ok q (image new i early) =
       (i < length code) × (early ≡ early_at i) × OkImage q i (insn_at code i) new (flow_of (insn_at code i))
   Ok q (probe_array id at late) = IsOfEdge id at late × (slice_get items (q + 1) ≡ Some (probe_id id at late))
@@ -159,7 +169,7 @@ module _ (code : List Insn) (slot : Option ℕ) (ids : Branch → Option ℕ) (i
   -- a twin begins with the prelude, and an unchanged body with its first instruction
   abbrev pub OkStart : Option ℕ → Type 0
   OkStart None = Lands 0 0 None
-  OkStart (Some v) = slice_get items 0 ≡ Some init_call
+  OkStart (Some v) = slice_get items 0 ≡ Some (start 0)
 
   -- each instruction is what it is said to be, and goes on where it should
   pub record AllOk : Type 0 where

@@ -61,6 +61,11 @@ prelude_insns call v = (invokestatic call, 0) ∷ (astore v, 1) ∷ []
 abbrev pub prelude_size : ℕ
 prelude_size = length (prelude_insns 0 0)
 
+-- the one with this number
+abbrev pub prelude_insn : (call v k : ℕ) → Insn
+prelude_insn call v zero = invokestatic call
+prelude_insn call v (suc k) = astore v
+
 -- A probe stands at a place, and belongs to the instruction `at`: the array of probes stands in local variable v, and
 -- true is stored at the index `id` of it.
 pub record IsProbe (code : List Insn) (m : Marks) (v q id at : ℕ) : Type 0 where

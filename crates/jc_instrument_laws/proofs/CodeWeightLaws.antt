@@ -12,7 +12,7 @@ use Rattle.jc_insn.proofs.SizeSumsLaws.{some_size}
 use Rattle.jc_plan.specs.declared.branch.Branch.{Branch}
 use Rattle.jc_plan.specs.Plan.{lead_probe}
 use Rattle.jc_plan.specs.Probed.{probe_of}
-use Rattle.jc_emit.specs.Items.{Item, init_call, init_store, image, probe_array, probe_id, probe_one, probe_store, hop, insn_of, lead_part, early_part, hop_part, arm_parts, image_part, tests_part, land_of, segment, twin_items}
+use Rattle.jc_emit.specs.Items.{Item, start, image, probe_array, probe_id, probe_one, probe_store, hop, insn_of, lead_part, early_part, hop_part, arm_parts, image_part, tests_part, land_of, segment, twin_items}
 use Rattle.jc_emit.specs.Sizes.{insn_at, early_probe, late_probe, arms_by, arms_at, arm_sizes, hop_size}
 use Rattle.jc_emit.specs.TwinCode.{to_of}
 use Rattle.jc_layout.specs.Layout.{is_wide, chosen_starts, chosen_length, starts_from, starts_of}
@@ -89,8 +89,7 @@ size_least at wide call v (hop to from due) = by wide
     by : (t : Bool) → 3 ≤ jump_size t opcode.goto
     by true = omega arith
     by false = omega arith
-size_least at wide call v init_call = some_size at wide (insn_of call v init_call)
-size_least at wide call v init_store = some_size at wide (insn_of call v init_store)
+size_least at wide call v (start k) = some_size at wide (insn_of call v (start k))
 size_least at wide call v (image insn from early) = some_size at wide insn
 size_least at wide call v (probe_array id from late) = some_size at wide (insn_of call v (probe_array id from late))
 size_least at wide call v (probe_id id from late) = some_size at wide (insn_of call v (probe_id id from late))

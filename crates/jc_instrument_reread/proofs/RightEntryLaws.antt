@@ -1,5 +1,5 @@
 -- The instructions of a twin name entries of the pool of the kinds that they need.
-use Rattle.std.proofs.Common.{◌≡◌, ⊎_elim, ℕ, ◌+◌, ◌<◌, Bool, List, map, length, Some, sym, subst, nat_le, pos}
+use Rattle.std.proofs.Common.{◌≡◌, ⊎_elim, ℕ, zero, suc, ◌+◌, ◌<◌, Bool, List, map, length, Some, sym, subst, nat_le, pos}
 use Rattle.std.specs.Prelude.{slice_get}
 use Rattle.std.proofs.lemmas.Bool.{cond_both}
 use Rattle.jc_methods.specs.Flow.{flow_of}
@@ -17,7 +17,7 @@ use Rattle.jc_plan.specs.Probed.{probe_of}
 use Rattle.jc_kinds_after.specs.Shift.{with_slot}
 use Rattle.jc_emit.specs.Marks.{push, invokestatic}
 use Rattle.jc_emit.specs.Sizes.{insn_at}
-use Rattle.jc_emit.specs.Items.{Item, init_call, init_store, image, probe_array, probe_id, probe_one, probe_store, hop, insn_of, twin_items}
+use Rattle.jc_emit.specs.Items.{Item, start, image, probe_array, probe_id, probe_one, probe_store, hop, insn_of, twin_items}
 use Rattle.jc_emit.specs.Local.{Ok, OkImage}
 use Rattle.jc_instrument_reread.proofs.TwinItemLaws.{plain_push, each_insn}
 
@@ -76,8 +76,8 @@ module _ (b : Body) (first : ℕ) (wide : Bool) (call : ℕ) (is_code : IsCode b
     image_right q i insn flows.Throws lt h = subst Named (sym h) (right i lt)
 
     item_right : (q : ℕ) (x : Item) → Fine q x → Named (new x)
-    item_right q init_call h = right_call
-    item_right q init_store h = tt
+    item_right q (start zero) h = right_call
+    item_right q (start (suc k)) h = tt
     item_right q (image insn i early) h = image_right q i insn (flow_of (old i)) h.0 h.2
     item_right q (probe_array id at late) h = tt
     item_right q (probe_id id at late) h = push_right major pool id

@@ -1,5 +1,5 @@
 -- The instructions of a twin lead to instructions of it, and use its local variables.
-use Rattle.std.proofs.Common.{◌≡◌, ⊎_elim, ℕ, ◌+◌, ◌<◌, ◌≤◌, Bool, true, false, List, [], map, length, Some, None, refl, sym, subst, arith, All, nat_lt, nat_le, if◌then◌else◌, cond, pos}
+use Rattle.std.proofs.Common.{◌≡◌, ⊎_elim, ℕ, zero, suc, ◌+◌, ◌<◌, ◌≤◌, Bool, true, false, List, [], map, length, Some, None, refl, sym, subst, arith, All, nat_lt, nat_le, if◌then◌else◌, cond, pos}
 use Rattle.std.specs.Prelude.{slice_get}
 use Rattle.std.specs.List.{AllByRecursion}
 use Rattle.std.proofs.lemmas.Bool.{cond_both}
@@ -21,7 +21,7 @@ use Rattle.jc_plan.specs.Probed.{probe_of}
 use Rattle.jc_kinds_after.specs.Shift.{slot_of, with_slot}
 use Rattle.jc_emit.specs.Marks.{push}
 use Rattle.jc_emit.specs.Sizes.{insn_at}
-use Rattle.jc_emit.specs.Items.{Item, init_call, init_store, image, probe_array, probe_id, probe_one, probe_store, hop, insn_of, twin_items}
+use Rattle.jc_emit.specs.Items.{Item, start, image, probe_array, probe_id, probe_one, probe_store, hop, insn_of, twin_items}
 use Rattle.jc_emit.specs.Local.{Ok, OkImage}
 use Rattle.jc_emit.proofs.PlacedLaws.{goto_stops, switch_stops, no_fall_goto, never}
 use Rattle.jc_emit.proofs.LocalLaws.{twin_ok}
@@ -88,8 +88,9 @@ module _ (b : Body) (first : ℕ) (wide : Bool) (call : ℕ) (is_code : IsCode b
   image_falls q i insn flows.Throws e h falls = absurd (never (old i) flows.Throws e (λ x. cc) (λ x. cc) (subst FallsThrough h falls))
 
   item_falls : (q : ℕ) (x : Item) → Fine q x → FallsThrough (new x) → q + 1 < count
-  item_falls q init_call h falls = slice_get_within items (q + 1) init_store h.1
-  item_falls q init_store h falls = lands_within b first wide call (q + 1) 0 None h
+  item_falls q (start zero) h falls = slice_get_within items (q + 1) (start 1) h.next
+  item_falls q (start (suc zero)) h falls = lands_within b first wide call (q + 1) 0 None h.next
+  item_falls q (start (suc (suc k))) h falls = let within = h.within in absurd (omega (arith, within))
   item_falls q (image insn i early) h falls = image_falls q i insn (flow_of (old i)) refl h.2 falls
   item_falls q (probe_array id at late) h falls = slice_get_within items (q + 1) (probe_id id at late) h.1
   item_falls q (probe_id id at late) h falls = slice_get_within items (q + 1) (probe_one id at late) h.1
@@ -123,8 +124,8 @@ module _ (b : Body) (first : ℕ) (wide : Bool) (call : ℕ) (is_code : IsCode b
     image_locals q i insn flows.Throws lt h = subst (λ x. Among (locals_of x)) (sym h) (old_locals i lt)
 
     item_locals : (q : ℕ) (x : Item) → Fine q x → LocalsWithin (b.max_locals + 1) (new x)
-    item_locals q init_call h = tt
-    item_locals q init_store h = (omega (arith, room), tt)
+    item_locals q (start zero) h = tt
+    item_locals q (start (suc k)) h = (omega (arith, room), tt)
     item_locals q (image insn i early) h = image_locals q i insn (flow_of (old i)) h.0 h.2
     item_locals q (probe_array id at late) h = (omega (arith, room), tt)
     item_locals q (probe_id id at late) h = subst Among (sym (push_locals id)) tt

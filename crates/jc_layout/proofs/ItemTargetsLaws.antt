@@ -1,5 +1,5 @@
 -- The instructions of a twin lead to instructions of it.
-use Rattle.std.proofs.Common.{◌≡◌, ⊎_elim, inl, inr, ℕ, ◌+◌, ◌<◌, Bool, List, [], ◌∷◌, map, length, Option, Some, refl, sym, ap, ◌∙◌, subst}
+use Rattle.std.proofs.Common.{◌≡◌, ⊎_elim, inl, inr, ℕ, zero, suc, ◌+◌, ◌<◌, Bool, List, [], ◌∷◌, map, length, Option, Some, refl, sym, ap, ◌∙◌, subst}
 use Rattle.std.specs.Prelude.{Contains}
 use Rattle.std.specs.List.{AllByRecursion}
 use Rattle.std.proofs.lemmas.Option.{slice_get_within}
@@ -21,7 +21,7 @@ use Rattle.jc_kinds_after.specs.Shift.{with_slot}
 use Rattle.jc_emit.specs.Marks.{push}
 use Rattle.jc_emit.specs.Sizes.{insn_at}
 use Rattle.jc_emit.specs.TwinCode.{to_of}
-use Rattle.jc_emit.specs.Items.{Item, init_call, init_store, image, probe_array, probe_id, probe_one, probe_store, hop, insn_of, twin_items}
+use Rattle.jc_emit.specs.Items.{Item, start, image, probe_array, probe_id, probe_one, probe_store, hop, insn_of, twin_items}
 use Rattle.jc_emit.specs.Local.{Stands, Lands, Ok, OkImage}
 use Rattle.jc_emit.proofs.PlacedLaws.{flow_push, flow_shifted, no_targets, inverse_targets, placed_targets}
 use Rattle.jc_methods.proofs.PlacedInsnLaws.{targets_placed}
@@ -106,8 +106,8 @@ module _ (b : Body) (first : ℕ) (wide : Bool) (call : ℕ) where
       subst (λ x. Within (targets_of x)) (sym h) (subst Within (sym (no_targets (old i) (inr (inr e)))) tt)
 
   pub item_within : (q : ℕ) (x : Item) → Fine q x → LeadsWithin count (new x)
-  item_within q init_call h = tt
-  item_within q init_store h = tt
+  item_within q (start zero) h = tt
+  item_within q (start (suc k)) h = tt
   item_within q (image insn i early) h = image_within q i insn (flow_of (old i)) refl h.2
   item_within q (probe_array id at late) h = tt
   item_within q (probe_id id at late) h = subst Within (sym (no_targets (push id) (inl (flow_push id)))) tt

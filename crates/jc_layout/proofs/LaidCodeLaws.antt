@@ -18,7 +18,7 @@ use Rattle.jc_plan.specs.Plan.{lead_probe}
 use Rattle.jc_emit.specs.Marks.{invokestatic, astore}
 use Rattle.jc_emit.specs.Sizes.{insn_at, early_probe, late_probe, arms_at}
 use Rattle.jc_emit.specs.TwinCode.{to_of}
-use Rattle.jc_emit.specs.Items.{Item, init_call, insn_of, lead_part, early_part, hop_part, arm_parts, test_part, lead_of, land_of, image_of, tests_part, image_part, segment, twin_items}
+use Rattle.jc_emit.specs.Items.{Item, start, insn_of, lead_part, early_part, hop_part, arm_parts, test_part, lead_of, land_of, image_of, tests_part, image_part, segment, twin_items}
 use Rattle.jc_emit.specs.Local.{IsBehind}
 use Rattle.jc_emit.proofs.WidenedLaws.{widened_is}
 use Rattle.jc_layout.specs.LaidBody.{with_call}
@@ -26,7 +26,7 @@ use Rattle.jc_layout.specs.LaidBody.{with_call}
 -- ---- behind the prelude no instruction names the method
 
 same_insn : (c d v : ℕ) (x : Item) → IsBehind x → insn_of c v x ≡ insn_of d v x
-same_insn c d v init_call h = absurd h
+same_insn c d v (start k) h = absurd h
 same_insn c d v x h = refl
 
 same_insns : (c d v : ℕ) (items : List Item) → AllByRecursion IsBehind items → map (insn_of c v) items ≡ map (insn_of d v) items

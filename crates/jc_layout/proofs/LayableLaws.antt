@@ -1,5 +1,5 @@
 -- Instrumented code can be laid out.
-use Rattle.std.proofs.Common.{◌≡◌, ⊎_elim, ℕ, ◌+◌, ◌<◌, false, List, [], ◌∷◌, map, length, get_or, Some, refl, sym, subst, arith, ◌≤◌, All}
+use Rattle.std.proofs.Common.{◌≡◌, ⊎_elim, ℕ, zero, suc, ◌+◌, ◌<◌, false, List, [], ◌∷◌, map, length, get_or, Some, refl, sym, subst, arith, ◌≤◌, All}
 use Rattle.std.specs.List.{sum_by}
 use Rattle.std.proofs.lemmas.List.{length-map}
 use Rattle.std.proofs.lemmas.List.Elements.{All-map}
@@ -19,7 +19,7 @@ use Rattle.jc_insn.proofs.PlacesLaws.{well_formed_with}
 use Rattle.jc_plan.specs.Probed.{probe_of}
 use Rattle.jc_emit.specs.Emission.{emission}
 use Rattle.jc_emit.specs.Sizes.{insn_at}
-use Rattle.jc_emit.specs.Items.{Item, init_call, init_store, image, probe_array, probe_id, probe_one, probe_store, hop, insn_of, twin_items}
+use Rattle.jc_emit.specs.Items.{Item, start, image, probe_array, probe_id, probe_one, probe_store, hop, insn_of, twin_items}
 use Rattle.jc_emit.specs.Local.{Ok, OkImage}
 use Rattle.jc_emit.proofs.FewLaws.{few_emitted}
 use Rattle.jc_emit.proofs.LocalLaws.{twin_ok}
@@ -61,8 +61,8 @@ module _ (b : Body) (first : ℕ) (is_code : IsCode b.code) where
   image_formed q i insn flows.Throws lt h = subst IsWellFormed (sym h) (formed i lt)
 
   item_formed : (q : ℕ) (x : Item) → Fine q x → IsWellFormed (new x)
-  item_formed q init_call h = call_formed 0
-  item_formed q init_store h = store_formed b.arg_slots
+  item_formed q (start zero) h = call_formed 0
+  item_formed q (start (suc k)) h = store_formed b.arg_slots
   item_formed q (image insn i early) h = image_formed q i insn (flow_of (old i)) h.0 h.2
   item_formed q (probe_array id at late) h = load_formed b.arg_slots
   item_formed q (probe_id id at late) h = push_formed id

@@ -20,7 +20,7 @@ use Rattle.jc_programs.specs.Members.{body_of}
 use Rattle.jc_plan.specs.Edges.{sequence, exit}
 use Rattle.jc_plan.specs.Chosen.{onward}
 use Rattle.jc_plan.specs.ClassEdges.{ProgramEdge}
-use Rattle.jc_emit.specs.Items.{Item, init_call, image}
+use Rattle.jc_emit.specs.Items.{Item, start, image}
 use Rattle.jc_emit.specs.Local.{Ok, OkImage, OkStart, OkRow, due_of, early_of}
 use Rattle.jc_emit.specs.Seen.{OkRows}
 use Rattle.jc_emit.specs.Sizes.{insn_at, early_by}
@@ -107,7 +107,7 @@ module _ (p p' : Program) (sides : Entry → Side) where
           (ap due_of (sym same) ∙ s.due_is, ap early_of (sym same) ∙ s.no_early)
       by (Some v) e =
           let s = subst (OkStart (sides m).body.code (sides m).slot (sides m).ids (sides m).items) e side.ok.start in
-          let same : init_call ≡ x = same_Some init_call x (sym s ∙ here) in
+          let same : start 0 ≡ x = same_Some (start 0) x (sym s ∙ here) in
           (ap due_of (sym same), ap early_of (sym same))
 
   -- ---- handlers

@@ -19,7 +19,7 @@ use Rattle.jc_programs.specs.declared.program.Linked.{Linked}
 use Rattle.jc_programs.specs.declared.program.StaticField.{StaticField}
 use Rattle.jc_programs.specs.declared.run_end.Entry.{Entry}
 use Rattle.jc_programs.specs.Members.{class_at, body_of}
-use Rattle.jc_emit.specs.Items.{Item, init_call, init_store, image, probe_array, probe_id, probe_one, probe_store, hop, at_of, extra_of}
+use Rattle.jc_emit.specs.Items.{Item, start, image, probe_array, probe_id, probe_one, probe_store, hop, at_of, extra_of}
 use Rattle.jc_emit.specs.Local.{OkStart, OkImage}
 use Rattle.jc_emit.specs.Marks.{Marks, push}
 use Rattle.jc_emit.specs.Sizes.{insn_at}
@@ -231,15 +231,15 @@ module _ (p p' : Program) (sides : Entry → Side) (marks : Entry → Marks) (ar
   -- an item whose instruction names a member is an image or the call of the prelude
   data IsCalling (x : Item) : Type 0 where
     an_image : (new : Insn) (at : ℕ) (early : Option ℕ) → x ≡ image new at early → IsCalling x
-    the_prelude : x ≡ init_call → IsCalling x
+    the_prelude : x ≡ start 0 → IsCalling x
 
   no_number : (n op place : ℕ) → push n ≡ insns.Member op place → ⊥
   no_number n op place e = ⊎_elim (λ h. let no = sym h.1 ∙ e in cc) (λ h. let no = sym h.1 ∙ e in cc) (number_form n)
 
   calling : (call v : ℕ) (x : Item) (insn : Insn) (op place : ℕ) → IsInsnOf call v x insn → insn ≡ insns.Member op place → IsCalling x
-  calling call v init_call insn op place h e = the_prelude refl
+  calling call v (start zero) insn op place h e = the_prelude refl
   calling call v (image new at early) insn op place h e = an_image new at early refl
-  calling call v init_store insn op place h e = let no = sym h ∙ e in cc
+  calling call v (start (suc k)) insn op place h e = let no = sym h ∙ e in cc
   calling call v (probe_array id at late) insn op place h e = let no = sym h ∙ e in cc
   calling call v (probe_id id at late) insn op place h e = absurd (no_number id op place (sym h ∙ e))
   calling call v (probe_one id at late) insn op place h e = let no = sym h ∙ e in cc
@@ -261,14 +261,14 @@ module _ (p p' : Program) (sides : Entry → Side) (marks : Entry → Marks) (ar
 
   module _ (s s' : Shared) (ss : SameShared p p' sides s s') where
     -- the prelude's call calls `$jacocoInit`
-    prelude_calls : (f f' : Frame) (h : SameFrame p p' sides f f') → h.item ≡ init_call → (v : ℕ) → (sides f.method).slot ≡ Some v → (callee : Entry)
+    prelude_calls : (f f' : Frame) (h : SameFrame p p' sides f f') → h.item ≡ start 0 → (v : ℕ) → (sides f.method).slot ≡ Some v → (callee : Entry)
         → StandsAtCall p' f' callee → callee ≡ init_method p p' sides f.method
     prelude_calls f f' h call v e callee at =
         let t = sides f.method in
         let side = h.one.side in
         let c = side.changed v e in
         let there = insn_there p' f.method f'.place at.insn t.new t.twin side.new_is side.twin_is (ap (λ m. located p' m f'.place) (sym h.one.method) ∙ at.stands) in
-        let twin = twin_insn p p' sides f.method side f'.place init_call (h.here ∙ ap Some call) in
+        let twin = twin_insn p p' sides f.method side f'.place (start 0) (h.here ∙ ap Some call) in
         let insn : at.insn.insn ≡ insns.Member opcode.invokestatic t.call = same_Some at.insn.insn twin.0 (sym there.0 ∙ twin.1) ∙ twin.2 in
         let named : called_by p' at.insn.at at.insn.insn ≡ Some (init_method p p' sides f.method) =
         ap (called_by p' at.insn.at) insn ∙ ap (λ (l : Location). named_by p' (what_used l.body.uses t.call)) there.1
@@ -284,11 +284,11 @@ module _ (p p' : Program) (sides : Entry → Side) (marks : Entry → Marks) (ar
         ap₂ (λ (c : Linked) (x : Entry). slice_get c.bodies x.method) (sym same) (sym e) ∙ other.body_is in
         none-some (sides n).body (sym (slice_get_past (sides m).class.bodies (length (sides m).class.bodies) (omega arith)) ∙ there)
 
-    slot_of_call : (m : Entry) → IsSide p p' m (sides m) → (q : ℕ) → slice_get (sides m).items q ≡ Some init_call → (v : ℕ) × ((sides m).slot ≡ Some v)
+    slot_of_call : (m : Entry) → IsSide p p' m (sides m) → (q : ℕ) → slice_get (sides m).items q ≡ Some (start 0) → (v : ℕ) × ((sides m).slot ≡ Some v)
     slot_of_call m side q here = by (sides m).slot refl
       where
         by : (o : Option ℕ) → (sides m).slot ≡ o → (v : ℕ) × ((sides m).slot ≡ Some v)
-        by None e = absurd (true≢false (sym (subst (λ s. IsPlain s (sides m).items) e side.plain q init_call here)))
+        by None e = absurd (true≢false (sym (subst (λ s. IsPlain s (sides m).items) e side.plain q (start 0) here)))
         by (Some v) e = (v, e)
 
     wait_of : (f f' : Frame) (callee callee' : Entry) (h : SameFrame p p' sides f f') → FitsWaiting p f callee → FitsWaiting p' f' callee'
@@ -369,8 +369,8 @@ module _ (p p' : Program) (sides : Entry → Side) (marks : Entry → Marks) (ar
         by None e declares base zero_place class new = absurd (true≢false (sym declares ∙ (base.one.side.unchanged e).declares))
         by (Some v) e declares base zero_place class new =
             let t = sides f.method in
-            let start = subst (OkStart t.body.code t.slot t.ids t.items) e base.one.side.ok.start in
-            let call : base.item ≡ init_call = same_Some base.item init_call (sym base.here ∙ ap (slice_get t.items) zero_place ∙ start) in
+            let begins = subst (OkStart t.body.code t.slot t.ids t.items) e base.one.side.ok.start in
+            let call : base.item ≡ start 0 = same_Some base.item (start 0) (sym base.here ∙ ap (slice_get t.items) zero_place ∙ begins) in
             let same_new : init.class ≡ t.new = same_Some init.class t.new (sym init.class_is ∙ new) in
             record {
               below = below;

@@ -7,7 +7,7 @@ use Rattle.jc_methods.specs.declared.insn.Insn.{Insn}
 use Rattle.jc_methods.specs.declared.insn.Insn.TheVariants as insns
 use Rattle.jc_programs.specs.declared.program.Program.{Program}
 use Rattle.jc_programs.specs.declared.run_end.Entry.{Entry}
-use Rattle.jc_emit.specs.Items.{Item, init_call, init_store, image, probe_array, probe_id, probe_one, probe_store, hop, at_of, own_of}
+use Rattle.jc_emit.specs.Items.{Item, start, image, probe_array, probe_id, probe_one, probe_store, hop, at_of, own_of}
 use Rattle.jc_emit.specs.Local.{Stands, Ok, OkStore}
 use Rattle.jc_emit.specs.Marks.{push, aload, astore, bastore}
 use Rattle.jc_emit.specs.Ranks.{after_place}
@@ -128,24 +128,26 @@ module _ (p p' : Program) (sides : Entry → Side) where
     done : (x : Item) (insn : Insn) → slice_get t.twin.code f'.place ≡ Some insn → result_of p' s' f' ≡ perform (operation_of p' here_at insn) s' f'
     done x insn h = result_is p' s' f' f.method f'.place t.new t.twin insn o.method refl o.side.new_is o.side.twin_is h
 
-    pub aside_turn : (x : Item) → slice_get t.items f'.place ≡ Some x → own_of x ≡ false → (x ≡ init_call → ⊥) → IsOk x → at_of x ≡ f.place
+    pub aside_turn : (x : Item) → slice_get t.items f'.place ≡ Some x → own_of x ≡ false → (x ≡ start 0 → ⊥) → IsOk x → at_of x ≡ f.place
         → f'.stack ≡ pushed_of a x ++ f.stack
         → SameLocals a t.slot f.locals f'.locals x → (v : ℕ) → t.slot ≡ Some v → Alone f f' x s' (result_of p' s' f')
-    aside_turn init_call h own other ok at st ls v e = absurd (other refl)
-    aside_turn init_store h own other ok at st ls v e =
-        let c = twin_insn p p' sides f.method o.side f'.place init_store h in
+    aside_turn (start zero) h own other ok at st ls v e = absurd (other refl)
+    aside_turn (start (suc zero)) h own other ok at st ls v e =
+        let c = twin_insn p p' sides f.method o.side f'.place (start (suc zero)) h in
         let slot = t.body.arg_slots in
         let same : t.slot ≡ Some slot = e ∙ ap Some (o.side.changed v e).slot in
         let g = record f' { place = f'.place + 1; stack = f.stack; locals = put_local slot a f'.locals } in
         record {
           frame = g;
           is =
-              done init_store c.0 c.1 ∙ ap (λ i. perform (operation_of p' here_at i) s' f') c.2 ∙ stores_it p' here_at s' f' slot
+              done (start (suc zero)) c.0 c.1 ∙ ap (λ i. perform (operation_of p' here_at i) s' f') c.2 ∙ stores_it p' here_at s' f' slot
               ∙ ap (λ l. by_store reference_type slot l s' f') st;
           same =
-              to_stand g (f'.place + 1) 0 None ok.stands refl refl (sym at) refl (λ y. stores_array a t.slot slot f.locals f'.locals init_store y same refl ls);
+              to_stand g (f'.place + 1) 0 None ok.next.stands refl refl (sym at) refl
+              (λ y. stores_array a t.slot slot f.locals f'.locals (start (suc zero)) y same refl ls);
           to = refl;
         }
+    aside_turn (start (suc (suc k))) h own other ok at st ls v e = let within = ok.within in absurd (omega (arith, within))
     aside_turn (image insn i early) h own other ok at st ls v e = absurd (true≢false own)
     aside_turn (probe_array id i late) h own other ok at st ls v e =
         let c = twin_insn p p' sides f.method o.side f'.place (probe_array id i late) h in

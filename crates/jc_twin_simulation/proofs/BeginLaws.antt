@@ -23,7 +23,7 @@ use Rattle.jc_programs.specs.declared.run_end.Entry.{Entry}
 use Rattle.jc_programs.specs.Members.{class_named, class_at}
 use Rattle.jc_programs.specs.Entries.{is_argument, are_arguments, is_entry, entry_in, entry_of, AreEntries}
 use Rattle.jc_plan.specs.Probed.{probe_count}
-use Rattle.jc_emit.specs.Items.{Item, init_call, at_of}
+use Rattle.jc_emit.specs.Items.{Item, start, at_of}
 use Rattle.jc_emit.specs.Local.{OkStart}
 use Rattle.jc_emit.specs.TwinProgram.{AreSameBodies, AreTwinBodies, IsPair, data_static}
 use Rattle.jc_machine_model.specs.Values.{Value, null}
@@ -228,7 +228,7 @@ module _ (p p' : Program) (sides : Entry → Side) (are : AreSides p p' sides) w
     where
       by : (o : Option ℕ) → (sides m).slot ≡ o → (x : Item) × (slice_get (sides m).items 0 ≡ Some x) × (at_of x ≡ 0)
       by None e = let s = (subst (OkStart (sides m).body.code (sides m).slot (sides m).ids (sides m).items) e side.ok.start).stands in (s.item, s.here, s.at_is)
-      by (Some v) e = (init_call, subst (OkStart (sides m).body.code (sides m).slot (sides m).ids (sides m).items) e side.ok.start, refl)
+      by (Some v) e = (start 0, subst (OkStart (sides m).body.code (sides m).slot (sides m).ids (sides m).items) e side.ok.start, refl)
 
   thread_same : (thread : ThreadLine) (entry : Entry) → IsThere p thread entry
       → SameThread p p' sides (first_thread p entry thread.args) (first_thread p' entry thread.args)

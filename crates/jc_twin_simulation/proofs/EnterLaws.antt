@@ -13,7 +13,7 @@ use Rattle.jc_methods.specs.WellMade.{TakeSlots}
 use Rattle.jc_methods.proofs.DescriptorTypesLaws.{method_again}
 use Rattle.jc_programs.specs.declared.program.Program.{Program}
 use Rattle.jc_programs.specs.declared.run_end.Entry.{Entry}
-use Rattle.jc_emit.specs.Items.{Item, init_call, at_of}
+use Rattle.jc_emit.specs.Items.{Item, start, at_of}
 use Rattle.jc_emit.specs.Local.{OkStart}
 use Rattle.jc_machine_model.specs.Values.{Value, int, long, int_type, long_type, reference_type, is_of, is_pair}
 use Rattle.jc_machine_model.specs.Statics.{is_of_type}
@@ -127,7 +127,7 @@ module _ (p p' : Program) (sides : Entry → Side) where
       a : Value
       a = array_of t m.class
 
-      frame : (item : Item) → slice_get t.items 0 ≡ Some item → at_of item ≡ 0 → pushed_of a item ≡ [] → ((v : ℕ) → t.slot ≡ Some v → item ≡ init_call)
+      frame : (item : Item) → slice_get t.items 0 ≡ Some item → at_of item ≡ 0 → pushed_of a item ≡ [] → ((v : ℕ) → t.slot ≡ Some v → item ≡ start 0)
           → SameFrame p p' sides (new_frame m (locals_for t.body.max_locals values)) (new_frame m (locals_for t.twin.max_locals values))
       frame item here at none new = record {
         one = record { method = refl; side = side; entered = entered };
@@ -143,7 +143,7 @@ module _ (p p' : Program) (sides : Entry → Side) where
       by : (o : Option ℕ) → t.slot ≡ o
           → SameFrame p p' sides (new_frame m (locals_for t.body.max_locals values)) (new_frame m (locals_for t.twin.max_locals values))
       by None e =
-          let start = subst (OkStart t.body.code t.slot t.ids t.items) e side.ok.start in
-          let s = start.stands in
+          let begins = subst (OkStart t.body.code t.slot t.ids t.items) e side.ok.start in
+          let s = begins.stands in
           frame s.item s.here s.at_is (none_pushed a t 0 0 None s) (λ v q. absurd (none-some v (sym e ∙ q)))
-      by (Some v) e = frame init_call (subst (OkStart t.body.code t.slot t.ids t.items) e side.ok.start) refl refl (λ u q. refl)
+      by (Some v) e = frame (start 0) (subst (OkStart t.body.code t.slot t.ids t.items) e side.ok.start) refl refl (λ u q. refl)

@@ -10,7 +10,7 @@ use Rattle.jc_programs.specs.declared.program.Program.{Program}
 use Rattle.jc_programs.specs.declared.program.Linked.{Linked}
 use Rattle.jc_programs.specs.declared.run_end.Entry.{Entry}
 use Rattle.jc_programs.specs.Members.{body_of}
-use Rattle.jc_emit.specs.Items.{Item, init_call, image}
+use Rattle.jc_emit.specs.Items.{Item, start, image}
 use Rattle.jc_emit.specs.Local.{OkStart, IsBehind}
 use Rattle.jc_emit.specs.Seen.{IsInsnOf}
 use Rattle.jc_emit.specs.Sizes.{insn_at}
@@ -79,18 +79,18 @@ module _ (p p' : Program) (sides : Entry → Side) where
   twin_insn m side q x here = side.code.each q x here
 
   -- a prelude stands at the beginning of a twin
-  pub past_start : (m : Entry) → IsSide p p' m (sides m) → (q : ℕ) (x : Item) → slice_get (sides m).items q ≡ Some x → (x ≡ init_call → ⊥)
+  pub past_start : (m : Entry) → IsSide p p' m (sides m) → (q : ℕ) (x : Item) → slice_get (sides m).items q ≡ Some x → (x ≡ start 0 → ⊥)
       → (v : ℕ) → (sides m).slot ≡ Some v → nat_eq q 0 ≡ false
   past_start m side q x here other v e = by (nat_eq q 0) refl
     where
-      start : slice_get (sides m).items 0 ≡ Some init_call
-      start = subst (OkStart (sides m).body.code (sides m).slot (sides m).ids (sides m).items) e side.ok.start
+      begins : slice_get (sides m).items 0 ≡ Some (start 0)
+      begins = subst (OkStart (sides m).body.code (sides m).slot (sides m).ids (sides m).items) e side.ok.start
 
       same_some : (x y : Item) → Some x ≡ Some y → x ≡ y
       same_some x y e = cc
 
       by : (b : Bool) → nat_eq q 0 ≡ b → b ≡ false
-      by true h = absurd (other (same_some x init_call (sym here ∙ ap (slice_get (sides m).items) (eqb-true q 0 h) ∙ start)))
+      by true h = absurd (other (same_some x (start 0) (sym here ∙ ap (slice_get (sides m).items) (eqb-true q 0 h) ∙ begins)))
       by false h = refl
 
   module _ (are : AreSides p p' sides) (f f' : Frame) (new : Insn) (early : Option ℕ) (o : AtImage p p' sides f f' new early)

@@ -1,14 +1,15 @@
 -- What the prelude or a probe has pushed, from the instructions in front.
-use Rattle.std.proofs.Common.{◌≡◌, ⊎_elim, ℕ, ℤ, zero, suc, ◌+◌, ◌-◌, ◌≤◌, pos, Bool, true, false, List, [], ◌∷◌, ◌++◌, drop, Some, nat_le, refl, sym, ap, ap₂, ◌∙◌, subst, arith, if◌then◌else◌}
+use Rattle.std.proofs.Common.{◌≡◌, ⊎_elim, ℕ, ℤ, zero, suc, ◌+◌, ◌-◌, ◌<◌, ◌≤◌, pos, Bool, true, false, List, [], ◌∷◌, ◌++◌, drop, Some, nat_le, refl, sym, ap, ap₂, ◌∙◌, subst, arith, if◌then◌else◌}
 use Rattle.std.specs.Prelude.{slice_get}
+use Rattle.std.proofs.lemmas.Bool.{cases_lt, lt-ltb}
 use Rattle.std.proofs.lemmas.Option.{same_Some}
 use Rattle.jc_methods.specs.Opcode as opcode
 use Rattle.jc_methods.specs.declared.insn.Insn.{Insn}
 use Rattle.jc_methods.specs.declared.insn.Insn.TheVariants as insns
 use Rattle.jc_programs.specs.declared.program.Program.{Program}
 use Rattle.jc_programs.specs.declared.run_end.Entry.{Entry}
-use Rattle.jc_emit.specs.Items.{Item, init_call, init_store, image, probe_array, probe_id, probe_one, probe_store, hop, extra_of}
-use Rattle.jc_emit.specs.Local.{IsBehind, OkStart}
+use Rattle.jc_emit.specs.Items.{Item, start, image, probe_array, probe_id, probe_one, probe_store, hop, extra_of}
+use Rattle.jc_emit.specs.Local.{IsBehind, OkStart, StartsOn}
 use Rattle.jc_emit.specs.Marks.{push, prelude_size}
 use Rattle.jc_emit.proofs.ProbeLaws.{same_number}
 use Rattle.jc_machine_model.specs.Values.{Value, int}
@@ -16,7 +17,7 @@ use Rattle.jc_twin_simulation.specs.Sides.{Side, IsSide}
 use Rattle.jc_twin_simulation.specs.Mid.{pushed_of}
 use Rattle.jc_twin_simulation.specs.Together.{IsPushedBy, ArePushed}
 use Rattle.jc_twin_simulation.proofs.FrameLaws.{twin_insn}
-use Rattle.jc_twin_simulation.proofs.TogetherLaws.{number_form, store_behind, id_behind, one_behind, last_behind}
+use Rattle.jc_twin_simulation.proofs.TogetherLaws.{number_form, start_behind, id_behind, one_behind, last_behind}
 
 -- ---- what was pushed
 
@@ -73,10 +74,10 @@ module _ (p p' : Program) (sides : Entry → Side) (m : Entry) (side : IsSide p 
         below = subst (λ j. Pushed j n stack) place k.5;
       }
 
-  store_off : (q : ℕ) (st : List Value) → slice_get t.items q ≡ Some init_store → Pushed q 1 st → st ≡ a ∷ drop 1 st
+  store_off : (q : ℕ) (st : List Value) → slice_get t.items q ≡ Some (start 1) → Pushed q 1 st → st ≡ a ∷ drop 1 st
   store_off q st here k =
-      let f = store_behind p p' sides m side q here in
-      let c = twin_insn p p' sides m side f.place init_call f.here in
+      let f = start_behind p p' sides m side q 0 here in
+      let c = twin_insn p p' sides m side f.place (start 0) f.here in
       let d = down q 0 f.place c.0 st f.next c.1 k in
       d.is ∙ ap (λ v. v ∷ d.rest) (subst (λ i. IsPushedBy a i d.top) c.2 d.by) ∙ ap (λ l. a ∷ drop 1 l) (sym d.is)
 
@@ -106,8 +107,9 @@ module _ (p p' : Program) (sides : Entry → Side) (m : Entry) (side : IsSide p 
       ∙ ap (λ l. int (pos 1) ∷ int (pos id) ∷ a ∷ drop 3 l) (sym d.is)
 
   pub item_off : (q : ℕ) (x : Item) (st : List Value) → slice_get t.items q ≡ Some x → Pushed q (extra_of x) st → st ≡ pushed_of a x ++ drop (extra_of x) st
-  item_off q init_call st here k = refl
-  item_off q init_store st here k = store_off q st here k
+  item_off q (start zero) st here k = refl
+  item_off q (start (suc zero)) st here k = store_off q st here k
+  item_off q (start (suc (suc n))) st here k = let ok = side.ok.ok q (start (suc (suc n))) here in let within = ok.within in absurd (omega (arith, within))
   item_off q (image insn at early) st here k = refl
   item_off q (probe_array id at late) st here k = refl
   item_off q (probe_id id at late) st here k = id_off q id at late st here k
@@ -115,13 +117,16 @@ module _ (p p' : Program) (sides : Entry → Side) (m : Entry) (side : IsSide p 
   item_off q (probe_store id at late) st here k = last_off q id at late st here k
   item_off q (hop to at due) st here k = refl
 
+  -- the prelude stands at the beginning
+  begins : (v : ℕ) → t.slot ≡ Some v → (q : ℕ) → q < prelude_size → slice_get t.items q ≡ Some (start q)
+  begins v e zero lt = subst (OkStart t.body.code t.slot t.ids t.items) e side.ok.start
+  begins v e (suc q) lt =
+      let ok = side.ok.ok q (start q) (begins v e q (omega (arith, lt))) in
+      let next : q + 1 ≡ suc q = omega arith in
+      subst (λ k. slice_get t.items k ≡ Some (start (suc q))) next
+      (subst (λ more. StartsOn t.body.code t.slot t.ids t.items more q q) (lt-ltb (suc q) prelude_size lt) ok.next)
+
   -- what isn't in the prelude stands behind it
   pub past_prelude : (q : ℕ) (x : Item) (v : ℕ) → t.slot ≡ Some v → slice_get t.items q ≡ Some x → IsBehind x → prelude_size ≤ q
-  past_prelude zero x v e here b =
-      let start = subst (OkStart t.body.code t.slot t.ids t.items) e side.ok.start in
-      absurd (subst IsBehind (same_Some x init_call (sym here ∙ start)) b)
-  past_prelude (suc zero) x v e here b =
-      let start = subst (OkStart t.body.code t.slot t.ids t.items) e side.ok.start in
-      let next = (side.ok.ok 0 init_call start).1 in
-      absurd (subst IsBehind (same_Some x init_store (sym here ∙ next)) b)
-  past_prelude (suc (suc q)) x v e here b = omega arith
+  past_prelude q x v e here b =
+      ⊎_elim (λ lt. absurd (subst IsBehind (same_Some x (start q) (sym here ∙ begins v e q lt)) b)) (λ le. le) (cases_lt q prelude_size)

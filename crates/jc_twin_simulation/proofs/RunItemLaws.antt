@@ -14,7 +14,7 @@ use Rattle.jc_methods.specs.declared.body.Body.{Body}
 use Rattle.jc_plan.specs.declared.branch.Branch.{Branch}
 use Rattle.jc_plan.specs.Plan.{lead_probe}
 use Rattle.jc_plan.specs.Probed.{probe_of}
-use Rattle.jc_emit.specs.Items.{Item, init_call, init_store, image, probe_array, probe_id, probe_one, probe_store, hop, own_of, lead_part, early_part, hop_part, arm_parts, test_part, segment, tests_part, image_part, twin_items, lead_of, land_of, image_of}
+use Rattle.jc_emit.specs.Items.{Item, start, image, probe_array, probe_id, probe_one, probe_store, hop, own_of, prelude, lead_part, early_part, hop_part, arm_parts, test_part, segment, tests_part, image_part, twin_items, lead_of, land_of, image_of}
 use Rattle.jc_emit.specs.Sizes.{insn_at, early_probe, late_probe, arms_at, is_wide}
 use Rattle.jc_emit.specs.TwinCode.{to_of, arm_place}
 use Rattle.jc_twin_simulation.specs.ProbeRuns.{MayFollow, IsFirst, RunsOn, AreRuns}
@@ -22,8 +22,8 @@ use Rattle.jc_twin_simulation.specs.ProbeRuns.{MayFollow, IsFirst, RunsOn, AreRu
 -- ---- lists
 
 first_follows : (x y : Item) → IsFirst y → MayFollow x y
-first_follows x init_call h = tt
-first_follows x init_store h = absurd h
+first_follows x (start zero) h = tt
+first_follows x (start (suc k)) h = absurd h
 first_follows x (image insn at early) h = tt
 first_follows x (probe_array id at late) h = tt
 first_follows x (probe_id id at late) h = absurd h
@@ -102,7 +102,7 @@ module _ (b : Body) (first : ℕ) (wide : Bool) where
   pub twin_runs : AreRuns (twin_items b first wide)
   unfolding twin_items
   twin_runs =
-      runs_append (init_call ∷ init_store ∷ []) (pieces (segment b first wide) (length b.code)) (tt, (refl, tt))
+      runs_append prelude (pieces (segment b first wide) (length b.code)) (tt, (refl, tt))
       (runs_pieces (segment b first wide) segment_runs (length b.code))
 
 -- images alone
@@ -112,8 +112,8 @@ images_run x (y ∷ xs) h = (first_follows x y (by y (h 0 y refl)), images_run y
   where
     by : (y : Item) → own_of y ≡ true → IsFirst y
     by (image insn at early) own = tt
-    by init_call own = tt
-    by init_store own = absurd (true≢false (sym own))
+    by (start zero) own = tt
+    by (start (suc k)) own = absurd (true≢false (sym own))
     by (probe_array id at late) own = tt
     by (probe_id id at late) own = absurd (true≢false (sym own))
     by (probe_one id at late) own = absurd (true≢false (sym own))
@@ -126,8 +126,8 @@ plain_runs (x ∷ xs) h = (by x (h 0 x refl), images_run x xs (λ q y e. h (suc 
   where
     by : (y : Item) → own_of y ≡ true → IsFirst y
     by (image insn at early) own = tt
-    by init_call own = tt
-    by init_store own = absurd (true≢false (sym own))
+    by (start zero) own = tt
+    by (start (suc k)) own = absurd (true≢false (sym own))
     by (probe_array id at late) own = tt
     by (probe_id id at late) own = absurd (true≢false (sym own))
     by (probe_one id at late) own = absurd (true≢false (sym own))

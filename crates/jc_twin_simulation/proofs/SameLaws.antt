@@ -9,7 +9,7 @@ use Rattle.jc_programs.specs.declared.program.Program.{Program}
 use Rattle.jc_programs.specs.declared.program.Linked.{Linked}
 use Rattle.jc_programs.specs.declared.run_end.Entry.{Entry}
 use Rattle.jc_programs.specs.Members.{class_at}
-use Rattle.jc_emit.specs.Items.{Item, init_call, image, at_of, extra_of}
+use Rattle.jc_emit.specs.Items.{Item, start, image, at_of, extra_of}
 use Rattle.jc_emit.specs.Marks.{Marks}
 use Rattle.jc_emit.specs.TwinProgram.{IsPair, IsChangedPair, data_static}
 use Rattle.jc_emit.proofs.ToldLaws.{mapped}
@@ -27,7 +27,8 @@ use Rattle.jc_twin_simulation.proofs.TurnLaws.{inside_named}
 
 -- what is pushed is what the marks say
 pub pushed_off : (a : Value) (x : Item) (st : List Value) → drop (extra_of x) (pushed_of a x ++ st) ≡ st
-pushed_off a init_call st = refl
+pushed_off a (start zero) st = refl
+pushed_off a (start (suc k)) st = refl
 pushed_off a other st = refl
 
 -- ---- one more behind a list

@@ -15,7 +15,7 @@ use Rattle.jc_programs.specs.declared.program.Linked.{Linked}
 use Rattle.jc_programs.specs.declared.program.StaticField.{StaticField}
 use Rattle.jc_programs.specs.declared.run_end.Entry.{Entry}
 use Rattle.jc_programs.specs.Members.{class_at, body_of}
-use Rattle.jc_emit.specs.Items.{Item, init_call, init_store, image, probe_array, probe_id, probe_one, probe_store, hop, extra_of}
+use Rattle.jc_emit.specs.Items.{Item, start, image, probe_array, probe_id, probe_one, probe_store, hop, extra_of}
 use Rattle.jc_emit.specs.Local.{IsBehind}
 use Rattle.jc_emit.specs.Marks.{Marks, push, prelude_size}
 use Rattle.jc_emit.specs.TwinProgram.{IsPair, data_static}
@@ -73,8 +73,8 @@ module _ (p p' : Program) (sides : Entry → Side) (m : Entry) (side : IsSide p 
       let f = in_front t.items side.runs q y here n in
       record { place = f.place; next = f.next; here = f.here ∙ ap Some (is f.item f.follows) }
 
-  pub store_behind : (q : ℕ) → slice_get t.items q ≡ Some init_store → Behind q init_call
-  store_behind q here = behind q init_call init_store here (λ h. h) (λ z h. h)
+  pub start_behind : (q k : ℕ) → slice_get t.items q ≡ Some (start (suc k)) → Behind q (start k)
+  start_behind q k here = behind q (start k) (start (suc k)) here (λ h. h) (λ z h. h)
 
   pub id_behind : (q id at : ℕ) (late : Bool) → slice_get t.items q ≡ Some (probe_id id at late) → Behind q (probe_array id at late)
   id_behind q id at late here = behind q (probe_array id at late) (probe_id id at late) here (λ h. h) (λ z h. h)
@@ -91,10 +91,10 @@ module _ (p p' : Program) (sides : Entry → Side) (m : Entry) (side : IsSide p 
     abbrev Pushed : ℕ → ℕ → List Value → Type 0
     Pushed q extra stack = ArePushed a t.twin.code q extra stack
 
-    store_pushed : (q : ℕ) (st : List Value) → slice_get t.items q ≡ Some init_store → Pushed q 1 (a ∷ st)
+    store_pushed : (q : ℕ) (st : List Value) → slice_get t.items q ≡ Some (start 1) → Pushed q 1 (a ∷ st)
     store_pushed q st here =
-        let f = store_behind q here in
-        let c = twin_insn p p' sides m side f.place init_call f.here in
+        let f = start_behind q 0 here in
+        let c = twin_insn p p' sides m side f.place (start 0) f.here in
         (f.place, c.0, f.next, c.1, subst (λ i. IsPushedBy a i a) (sym c.2) refl, tt)
 
     id_pushed : (q id at : ℕ) (late : Bool) (st : List Value) → slice_get t.items q ≡ Some (probe_id id at late) → Pushed q 1 (a ∷ st)
@@ -117,8 +117,9 @@ module _ (p p' : Program) (sides : Entry → Side) (m : Entry) (side : IsSide p 
         (f.place, c.0, f.next, c.1, number_pushed a c.0 1 c.2, one_pushed f.place id at late st f.here)
 
     pub item_pushed : (q : ℕ) (x : Item) (st : List Value) → slice_get t.items q ≡ Some x → Pushed q (extra_of x) (pushed_of a x ++ st)
-    item_pushed q init_call st here = tt
-    item_pushed q init_store st here = store_pushed q st here
+    item_pushed q (start zero) st here = tt
+    item_pushed q (start (suc zero)) st here = store_pushed q st here
+    item_pushed q (start (suc (suc k))) st here = let ok = side.ok.ok q (start (suc (suc k))) here in let within = ok.within in absurd (omega (arith, within))
     item_pushed q (image insn at early) st here = tt
     item_pushed q (probe_array id at late) st here = tt
     item_pushed q (probe_id id at late) st here = id_pushed q id at late st here
@@ -128,12 +129,10 @@ module _ (p p' : Program) (sides : Entry → Side) (m : Entry) (side : IsSide p 
 
   -- behind the prelude
   pub behind_prelude : (q : ℕ) (x : Item) → slice_get t.items q ≡ Some x → prelude_size ≤ q → IsBehind x
-  behind_prelude q init_call here le = let ok = side.ok.ok q init_call here in let first = ok.0 in absurd (omega (arith, first, le))
-  behind_prelude q init_store here le =
-      let f = store_behind q here in
-      let ok = side.ok.ok f.place init_call f.here in
-      let first = ok.0 in let next = f.next in
-      absurd (omega (arith, first, next, le))
+  behind_prelude q (start k) here le =
+      let ok = side.ok.ok q (start k) here in
+      let place = ok.place in let within = ok.within in
+      absurd (omega (arith, place, within, le))
   behind_prelude q other here le = tt
 
 -- ---- frames

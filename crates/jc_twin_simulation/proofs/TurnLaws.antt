@@ -1,5 +1,5 @@
 -- One turn of both worlds, or of the twin alone.
-use Rattle.std.proofs.Common.{◌≡◌, inl, inr, ⊎_elim, ℕ, ◌+◌, ◌-◌, ◌<◌, ◌≤◌, Bool, true, false, not, ◌&&◌, ◌||◌, List, [], ◌∷◌, ◌++◌, Option, Some, None, option_map, nat_eq, nat_lt, nat_le, refl, sym, ap, ap₂, ◌∙◌, subst, subst₂, arith, if◌then◌else◌}
+use Rattle.std.proofs.Common.{◌≡◌, inl, inr, ⊎_elim, ℕ, zero, suc, ◌+◌, ◌-◌, ◌<◌, ◌≤◌, Bool, true, false, not, ◌&&◌, ◌||◌, List, [], ◌∷◌, ◌++◌, Option, Some, None, option_map, nat_eq, nat_lt, nat_le, refl, sym, ap, ap₂, ◌∙◌, subst, subst₂, arith, if◌then◌else◌}
 use Rattle.std.specs.Prelude.{slice_get, option_and_then}
 use Rattle.std.proofs.lemmas.Bool.{eq-eqb, true≢false}
 use Rattle.std.proofs.lemmas.Option.{same_Some}
@@ -14,7 +14,7 @@ use Rattle.jc_programs.specs.declared.program.ProbeInit.{ProbeInit}
 use Rattle.jc_programs.specs.declared.run_end.Entry.{Entry}
 use Rattle.jc_programs.specs.declared.run_end.Thrown.TheVariants as thrown
 use Rattle.jc_programs.specs.Members.{class_named, class_at}
-use Rattle.jc_emit.specs.Items.{Item, init_call, init_store, image, probe_array, probe_id, probe_one, probe_store, hop, at_of, own_of}
+use Rattle.jc_emit.specs.Items.{Item, start, image, probe_array, probe_id, probe_one, probe_store, hop, at_of, own_of, extra_of}
 use Rattle.jc_emit.specs.Local.{Ok, due_of, early_of}
 use Rattle.jc_emit.specs.Seen.{IsPlain}
 use Rattle.jc_plan.specs.Probed.{probe_count}
@@ -103,11 +103,14 @@ module _ (p p' : Program) (sides : Entry → Side) where
       nothing none (ap (λ i. option_map (hit_of class) (due_of i)) same ∙ ap (option_map (hit_of class)) due)
       (ap (λ i. option_map (hit_of class) (early_of i)) same ∙ ap (option_map (hit_of class)) early)
 
-  item_passes : (t : Side) (class q : ℕ) (x y : Item) → Ok t.body.code t.slot t.ids t.items q x → own_of x ≡ false → (x ≡ init_call → ⊥)
+  item_passes : (t : Side) (class q : ℕ) (x y : Item) → Ok t.body.code t.slot t.ids t.items q x → own_of x ≡ false → (x ≡ start 0 → ⊥)
       → slice_get t.items (after_place q x) ≡ Some y → Between class x y
-  item_passes t class q init_call y ok own other e = absurd (other refl)
-  item_passes t class q init_store y ok own other e =
-      quiet class init_store y ok.stands.item (same_item t (q + 1) y ok.stands.item e ok.stands.here) ok.stands.due_is ok.stands.no_early refl
+  item_passes t class q (start zero) y ok own other e = absurd (other refl)
+  item_passes t class q (start (suc zero)) y ok own other e =
+      let lands = ok.next in
+      quiet class (start (suc zero)) y lands.stands.item (same_item t (q + 1) y lands.stands.item e lands.stands.here) lands.stands.due_is
+      lands.stands.no_early refl
+  item_passes t class q (start (suc (suc k))) y ok own other e = let within = ok.within in absurd (omega (arith, within))
   item_passes t class q (image insn at early) y ok own other e = absurd (true≢false own)
   item_passes t class q (probe_array id at late) y ok own other e =
       quiet class (probe_array id at late) y (probe_id id at late) (same_item t (q + 1) y (probe_id id at late) e ok.1) refl refl refl
@@ -146,10 +149,10 @@ module _ (p p' : Program) (sides : Entry → Side) where
 
     alone_after : (x : Item) (class : ℕ) (g f' : Frame) (fs' : List Frame)
         → after_result p' (aside_result x class s' g) s' f' fs' ≡ record { thread = running g fs'; shared = s'; hits = aside_hits x class }
-    alone_after init_call class g f' fs' = refl
+    alone_after (start k) class g f' fs' = refl
     alone_after other class g f' fs' = refl
 
-    alone_turned : (f f' : Frame) (fs fs' : List Frame) (h : SameFrame p p' sides f f') → SameWaits p p' sides fs fs' → own_of h.item ≡ false → (h.item ≡ init_call → ⊥)
+    alone_turned : (f f' : Frame) (fs fs' : List Frame) (h : SameFrame p p' sides f f') → SameWaits p p' sides fs fs' → own_of h.item ≡ false → (h.item ≡ start 0 → ⊥)
         → (r : Result) → Alone p p' sides f f' h.item s' r → AsideTurned (running f fs) (running f' fs') (after_result p' r s' f' fs')
     alone_turned f f' fs fs' h w aside other r a =
         let t = sides f.method in
@@ -170,7 +173,7 @@ module _ (p p' : Program) (sides : Entry → Side) where
         })
 
     plain_turned : (f f' : Frame) (fs fs' : List Frame) (h : SameFrame p p' sides f f') → SameWaits p p' sides fs fs' → own_of h.item ≡ false
-        → (h.item ≡ init_call → ⊥)
+        → (h.item ≡ start 0 → ⊥)
         → AsideTurned (running f fs) (running f' fs') (after_result p' (result_of p' s' f') s' f' fs')
     plain_turned f f' fs fs' h w aside other =
         let slot = in_changed f f' h aside in
@@ -179,7 +182,7 @@ module _ (p p' : Program) (sides : Entry → Side) where
 
     -- ---- the call of `$jacocoInit`
 
-    module _ (f f' : Frame) (h : SameFrame p p' sides f f') (call : h.item ≡ init_call) (v : ℕ) (c : IsChanged p p' (sides f.method) v) where
+    module _ (f f' : Frame) (h : SameFrame p p' sides f f') (call : h.item ≡ start 0) (v : ℕ) (c : IsChanged p p' (sides f.method) v) where
       abbrev t : Side
       t = sides f.method
 
@@ -193,10 +196,10 @@ module _ (p p' : Program) (sides : Entry → Side) where
       here_at = location f.method f'.place t.new t.twin
 
       first : f'.place ≡ 0
-      first = (subst (λ x. Ok t.body.code t.slot t.ids t.items f'.place x) call (h.one.side.ok.ok f'.place h.item h.here)).0
+      first = (subst (λ x. Ok t.body.code t.slot t.ids t.items f'.place x) call (h.one.side.ok.ok f'.place h.item h.here)).place
 
-      pub next_item : slice_get t.items (f'.place + 1) ≡ Some init_store
-      next_item = (subst (λ x. Ok t.body.code t.slot t.ids t.items f'.place x) call (h.one.side.ok.ok f'.place h.item h.here)).1
+      pub next_item : slice_get t.items (f'.place + 1) ≡ Some (start 1)
+      next_item = (subst (λ x. Ok t.body.code t.slot t.ids t.items f'.place x) call (h.one.side.ok.ok f'.place h.item h.here)).next
 
       not_in_init : in_init here_at ≡ false
       not_in_init = ap is_init_name h.one.side.same.name ∙ h.one.side.named
@@ -240,7 +243,7 @@ module _ (p p' : Program) (sides : Entry → Side) where
       pub enters_init : result_of p' s' f' ≡ calls e [] f'
       unfolding perform
       enters_init =
-          let i = twin_insn p p' sides f.method h.one.side f'.place init_call (h.here ∙ ap Some call) in
+          let i = twin_insn p p' sides f.method h.one.side f'.place (start 0) (h.here ∙ ap Some call) in
           result_is p' s' f' f.method f'.place t.new t.twin i.0 h.one.method refl h.one.side.new_is h.one.side.twin_is i.1
           ∙ ap (λ x. perform (operation_of p' here_at x) s' f') i.2
           ∙ ap (λ x. perform x s' f') operation
@@ -249,7 +252,7 @@ module _ (p p' : Program) (sides : Entry → Side) where
       init_named = init_is p' e t.new b h.one.side.new_is c.added_at ∙ same_bytes b.name init_name c.pair.added_is.name
 
     -- a frame at the prelude's call
-    calls_turned : (f f' : Frame) (fs fs' : List Frame) (h : SameFrame p p' sides f f') → SameWaits p p' sides fs fs' → h.item ≡ init_call
+    calls_turned : (f f' : Frame) (fs fs' : List Frame) (h : SameFrame p p' sides f f') → SameWaits p p' sides fs fs' → h.item ≡ start 0
         → AsideTurned (running f fs) (running f' fs') (after_result p' (result_of p' s' f') s' f' fs')
     calls_turned f f' fs fs' h w call =
         let t = sides f.method in
@@ -365,11 +368,11 @@ module _ (p p' : Program) (sides : Entry → Side) where
       abbrev below_goes : SameFrame p p' sides f back
       below_goes = record {
         one = record { method = i.base.one.method; side = i.base.one.side; entered = i.base.one.entered };
-        item = init_store;
+        item = start 1;
         here = next_item f i.below i.base i.at_call base_changed.0 change;
         at = ap at_of (sym i.at_call) ∙ i.base.at;
         stack = ap₂ (λ x l. x ∷ l) array_same (i.base.stack ∙ ap (λ y. pushed_of (array_of under f.method.class) y ++ f.stack) i.at_call);
-        locals = stays_unready (array_of under f.method.class) under.slot f.locals i.below.locals init_call init_store (λ b. b)
+        locals = stays_unready (array_of under f.method.class) under.slot f.locals i.below.locals (start 0) (start 1) (λ b. b)
             (subst (λ y. SameLocals (array_of under f.method.class) under.slot f.locals i.below.locals y) i.at_call i.base.locals);
       }
 
@@ -396,31 +399,31 @@ module _ (p p' : Program) (sides : Entry → Side) where
     pub aside_turned : (f f' : Frame) (fs fs' : List Frame) (h : SameFrame p p' sides f f') → SameWaits p p' sides fs fs' → (x : Item) → h.item ≡ x
         → own_of x ≡ false
         → AsideTurned (running f fs) (running f' fs') (after_result p' (result_of p' s' f') s' f' fs')
-    aside_turned f f' fs fs' h w init_call e aside = calls_turned f f' fs fs' h w e
-    aside_turned f f' fs fs' h w init_store e aside = plain_turned f f' fs fs' h w (ap own_of e) (λ q. apart (sym e ∙ q))
+    aside_turned f f' fs fs' h w (start zero) e aside = calls_turned f f' fs fs' h w e
+    aside_turned f f' fs fs' h w (start (suc k)) e aside = plain_turned f f' fs fs' h w (ap own_of e) (λ q. apart (sym e ∙ q))
       where
-        apart : init_store ≡ init_call → ⊥
-        apart q = cc
+        apart : start (suc k) ≡ start 0 → ⊥
+        apart q = let one : 1 ≡ 0 = ap extra_of q in omega (arith, one)
     aside_turned f f' fs fs' h w (image insn at early) e aside = absurd (true≢false aside)
     aside_turned f f' fs fs' h w (probe_array id at late) e aside = plain_turned f f' fs fs' h w (ap own_of e) (λ q. apart (sym e ∙ q))
       where
-        apart : probe_array id at late ≡ init_call → ⊥
+        apart : probe_array id at late ≡ start 0 → ⊥
         apart q = cc
     aside_turned f f' fs fs' h w (probe_id id at late) e aside = plain_turned f f' fs fs' h w (ap own_of e) (λ q. apart (sym e ∙ q))
       where
-        apart : probe_id id at late ≡ init_call → ⊥
+        apart : probe_id id at late ≡ start 0 → ⊥
         apart q = cc
     aside_turned f f' fs fs' h w (probe_one id at late) e aside = plain_turned f f' fs fs' h w (ap own_of e) (λ q. apart (sym e ∙ q))
       where
-        apart : probe_one id at late ≡ init_call → ⊥
+        apart : probe_one id at late ≡ start 0 → ⊥
         apart q = cc
     aside_turned f f' fs fs' h w (probe_store id at late) e aside = plain_turned f f' fs fs' h w (ap own_of e) (λ q. apart (sym e ∙ q))
       where
-        apart : probe_store id at late ≡ init_call → ⊥
+        apart : probe_store id at late ≡ start 0 → ⊥
         apart q = cc
     aside_turned f f' fs fs' h w (hop to at due) e aside = plain_turned f f' fs fs' h w (ap own_of e) (λ q. apart (sym e ∙ q))
       where
-        apart : hop to at due ≡ init_call → ⊥
+        apart : hop to at due ≡ start 0 → ⊥
         apart q = cc
 
     -- ---- an own turn

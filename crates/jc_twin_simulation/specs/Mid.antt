@@ -7,7 +7,7 @@ use Rattle.jc_programs.specs.declared.program.Linked.{Linked}
 use Rattle.jc_programs.specs.declared.program.ProbeInit.{ProbeInit}
 use Rattle.jc_programs.specs.declared.run_end.Entry.{Entry}
 use Rattle.jc_programs.specs.Members.{class_at}
-use Rattle.jc_emit.specs.Items.{Item, init_call, init_store, image, probe_id, probe_one, probe_store, at_of}
+use Rattle.jc_emit.specs.Items.{Item, start, image, probe_id, probe_one, probe_store, at_of}
 use Rattle.jc_emit.specs.Local.{IsBehind}
 use Rattle.jc_machine_model.specs.Values.{Value, int, long, null, probes, text}
 use Rattle.jc_machine_model.specs.World.{Frame, Thread, running, returned, threw, stuck, Shared, World}
@@ -19,7 +19,7 @@ use Rattle.jc_twin_simulation.specs.Sides.{Side, count_in, array_of, GoesOnAt, I
 
 -- what the prelude or a probe has pushed in front of an item
 abbrev pub pushed_of : (array : Value) → Item → List Value
-pushed_of array init_store = array ∷ []
+pushed_of array (start (suc k)) = array ∷ []
 pushed_of array (probe_id id at late) = array ∷ []
 pushed_of array (probe_one id at late) = int (pos id) ∷ array ∷ []
 pushed_of array (probe_store id at late) = int (pos 1) ∷ int (pos id) ∷ array ∷ []
@@ -145,7 +145,7 @@ module _ (p p' : Program) (sides : Entry → Side) where
     pub rest : List Frame
     pub waiting : fs' ≡ below ∷ rest
     pub base : SameFrame f below
-    pub at_call : base.item ≡ init_call
+    pub at_call : base.item ≡ start 0
     pub waits : SameWaits fs rest
     pub method : f'.method ≡ init_method f.method
     pub init : ProbeInit

@@ -1,10 +1,10 @@
 -- The instructions of the prelude and of each probe stand one behind the other.
-use Rattle.std.specs.Prelude.{◌≡◌, ⊤, List, [], ◌∷◌}
-use Rattle.jc_emit.specs.Items.{Item, init_call, init_store, probe_array, probe_id, probe_one, probe_store}
+use Rattle.std.specs.Prelude.{◌≡◌, ⊤, suc, List, [], ◌∷◌}
+use Rattle.jc_emit.specs.Items.{Item, start, probe_array, probe_id, probe_one, probe_store}
 
 -- the second item may stand behind the first one
 abbrev pub MayFollow : Item → Item → Type 0
-MayFollow x init_store = x ≡ init_call
+MayFollow x (start (suc k)) = x ≡ start k
 MayFollow x (probe_id id at late) = x ≡ probe_array id at late
 MayFollow x (probe_one id at late) = x ≡ probe_id id at late
 MayFollow x (probe_store id at late) = x ≡ probe_one id at late
@@ -12,7 +12,7 @@ MayFollow x _ = ⊤
 
 -- it may stand anywhere
 abbrev pub IsFirst : Item → Type 0
-IsFirst init_store = ⊥
+IsFirst (start (suc k)) = ⊥
 IsFirst (probe_id id at late) = ⊥
 IsFirst (probe_one id at late) = ⊥
 IsFirst (probe_store id at late) = ⊥
