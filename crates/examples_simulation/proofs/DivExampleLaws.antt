@@ -173,8 +173,8 @@ is_twin_body : twin_body div 0 states 0 95 ≡ probed_div
 unfolding twin_body emission twin_items
 is_twin_body = refl
 
-div_twin : Twin names names states 0 div probed_div
-div_twin = subst (Twin names names states 0 div) is_twin_body (has_twin div 0 states 0 95 names made.of_any_size fit refl refl)
+div_twin : Twin names names states div.owner 0 div probed_div
+div_twin = subst (Twin names names states div.owner 0 div) is_twin_body (has_twin div 0 states 0 95 names made.of_any_size fit refl refl)
 
 -- ---- the program
 

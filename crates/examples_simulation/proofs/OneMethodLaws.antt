@@ -59,7 +59,7 @@ module _ (b b' : Body) (id count : ℕ) where
   probed_one = probed_class b.owner id (pos id) count (b' ∷ []) []
 
   changed : cast_signed w64 id ≡ pos id → sum_by probe_count (b ∷ []) ≡ count → insns.Simple (opcode.iconst_0 + count) ≡ push count
-      → (IsAddedName b.name → ⊥) → NoneStraddles b → HasTwinBody names names 0 b b' → IsChangedPair names names one probed_one
+      → (IsAddedName b.name → ⊥) → NoneStraddles b → HasTwinBody names names b.owner 0 b b' → IsChangedPair names names one probed_one
   changed same counted few no_added none_straddles twin = record {
     name = refl;
     has_clinit = refl;
@@ -77,15 +77,12 @@ module _ (b b' : Body) (id count : ℕ) where
 
   -- the program with its probes is a twin
   pub one_is_twin : cast_signed w64 id ≡ pos id → sum_by probe_count (b ∷ []) ≡ count → insns.Simple (opcode.iconst_0 + count) ≡ push count
-      → IsWellMade b → Checked names b → (IsAddedName b.name → ⊥) → NoneStraddles b → HasTwinBody names names 0 b b'
+      → IsWellMade b → Checked names b → (IsAddedName b.name → ⊥) → NoneStraddles b → HasTwinBody names names b.owner 0 b b'
       → TwinProgram (program (one ∷ [])) (program (probed_one ∷ []))
   one_is_twin same counted few made checked no_added none_straddles twin = record {
     checked = λ c h x k.
         subst (λ (c : Linked). (x : Body) → Contains c.bodies x → IsWellMade x × Checked names x) (only one c h)
         (λ x k. subst (λ (x : Body). IsWellMade x × Checked names x) (only b x k) (made, checked)) x k;
-    owned = λ c h.
-        subst (λ (c : Linked). (x : Body) → Contains c.bodies x → x.owner ≡ c.name) (only one c h)
-        (λ x k. subst (λ (x : Body). x.owner ≡ b.owner) (only b x k) refl);
     differ = ((λ other c e. none_in other c), tt);
     pairs = (inr (changed same counted few no_added none_straddles twin), tt);
   }

@@ -108,8 +108,8 @@ is_twin_body : twin_body abs 0 states 0 95 ≡ probed_abs
 unfolding twin_body emission twin_items
 is_twin_body = refl
 
-abs_twin : Twin names names states 0 abs probed_abs
-abs_twin = subst (Twin names names states 0 abs) is_twin_body (has_twin abs 0 states 0 95 names in_program.well_made.of_any_size fit refl refl)
+abs_twin : Twin names names states abs.owner 0 abs probed_abs
+abs_twin = subst (Twin names names states abs.owner 0 abs) is_twin_body (has_twin abs 0 states 0 95 names in_program.well_made.of_any_size fit refl refl)
 
 -- ---- the program
 

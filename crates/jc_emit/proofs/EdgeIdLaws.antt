@@ -78,9 +78,9 @@ module _ (code : List Insn) (slot : Option ℕ) (ids : Branch → Option ℕ) (i
       by (hop to at due) h e = absurd (none_some id e)
 
 -- it is among the ids of the body
-pub each_within : (first : ℕ) (b b' : Body) (m : Marks) → (s : IsSeen first b b' m) → (q id : ℕ) (x : Item) → slice_get s.items q ≡ Some x
+pub each_within : (owner : List ℕ) (first : ℕ) (b b' : Body) (m : Marks) → (s : IsSeen owner first b b' m) → (q id : ℕ) (x : Item) → slice_get s.items q ≡ Some x
     → id_in x ≡ Some id → (first ≤ id) × (id < first + probe_count b)
-each_within first b b' m s q id x h e =
+each_within owner first b b' m s q id x h e =
     let of = each_of_branch b.code (Some b.arg_slots) (probe_of b first) s.items s.ok q id x h e in
     let is = probed_is b first id of.branch of.has_id in
     subst (λ k. (first ≤ k) × (k < first + probe_count b)) is.1 (ids_within b first of.branch of.listed is.0)

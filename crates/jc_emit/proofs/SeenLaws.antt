@@ -46,9 +46,9 @@ rows_kept Kept Is new kept [] all = tt
 rows_kept Kept Is new kept (h ∷ hs) all =
     (kept h (first_of_all Is h hs all), rows_kept Kept Is new kept hs (rest_of_all Is h hs all))
 
-abbrev pub seen : (names new_names : List (List ℕ)) (states : List State) (first : ℕ) (b b' : Body) → IsWellMadeOfAnySize b
-    → (t : Twin names new_names states first b b') → IsSeen first b b' t.marks
-seen names new_names states first b b' well t =
+abbrev pub seen : (names new_names : List (List ℕ)) (states : List State) (owner : List ℕ) (first : ℕ) (b b' : Body) → IsWellMadeOfAnySize b
+    → (t : Twin names new_names states owner first b b') → IsSeen owner first b b' t.marks
+seen names new_names states owner first b b' well t =
     let marks = marks_known b first t.wide t.call b'.code t.marks well.code t.code in
     let rows : b'.handlers ≡ map (moved_row (lead_of b first t.wide) (land_of b first t.wide)) b.handlers =
     t.tables.handlers_are

@@ -86,32 +86,35 @@ module _ (Has : ℕ → Body → Body → Type 0) (count : Body → ℕ) where
       omega (arith, sum_by-cons count x (take number bodies)) in
       (more.0, more.1, subst (λ k. Has k b more.0) sum more.2)
 
-twins_each : (names new_names : Names) (first : ℕ) (bodies others : List Body) (added : Body) → AreTwinBodies names new_names first bodies others added
-    → Each (HasTwinBody names new_names) probe_count first bodies others added
-twins_each names new_names first [] others added are = are
-twins_each names new_names first (x ∷ bodies) [] added are = absurd are
-twins_each names new_names first (x ∷ bodies) (o ∷ others) added are =
-    (are.0, twins_each names new_names (first + probe_count x) bodies others added are.1)
+twins_each : (names new_names : Names) (owner : List ℕ) (first : ℕ) (bodies others : List Body) (added : Body)
+    → AreTwinBodies names new_names owner first bodies others added
+    → Each (HasTwinBody names new_names owner) probe_count first bodies others added
+twins_each names new_names owner first [] others added are = are
+twins_each names new_names owner first (x ∷ bodies) [] added are = absurd are
+twins_each names new_names owner first (x ∷ bodies) (o ∷ others) added are =
+    (are.0, twins_each names new_names owner (first + probe_count x) bodies others added are.1)
 
 -- the first id that is told one body after the other is that of the bodies in front
-twin_at : (names new_names : Names) (first : ℕ) (bodies others : List Body) (added : Body) → AreTwinBodies names new_names first bodies others added
+twin_at : (names new_names : Names) (owner : List ℕ) (first : ℕ) (bodies others : List Body) (added : Body)
+    → AreTwinBodies names new_names owner first bodies others added
     → (number : ℕ) (b : Body) → slice_get bodies number ≡ Some b
-    → (b' : Body) × (slice_get others number ≡ Some b') × HasTwinBody names new_names (first + first_id bodies number) b b'
-twin_at names new_names first bodies others added are number b h =
-    each_at (HasTwinBody names new_names) probe_count first bodies others added (twins_each names new_names first bodies others added are) number b h
+    → (b' : Body) × (slice_get others number ≡ Some b') × HasTwinBody names new_names owner (first + first_id bodies number) b b'
+twin_at names new_names owner first bodies others added are number b h =
+    each_at (HasTwinBody names new_names owner) probe_count first bodies others added (twins_each names new_names owner first bodies others added are) number b h
 
 -- behind the twins stands one body more
-added_at : (names new_names : Names) (first : ℕ) (bodies others : List Body) (added : Body) → AreTwinBodies names new_names first bodies others added
+added_at : (names new_names : Names) (owner : List ℕ) (first : ℕ) (bodies others : List Body) (added : Body)
+    → AreTwinBodies names new_names owner first bodies others added
     → (slice_get others (length bodies) ≡ Some added) × (length others ≡ length bodies + 1)
-added_at names new_names first [] others added are = (ap (λ (l : List Body). slice_get l 0) are, ap length are)
-added_at names new_names first (x ∷ bodies) [] added are = absurd are
-added_at names new_names first (x ∷ bodies) (o ∷ others) added are =
-    let more = added_at names new_names (first + probe_count x) bodies others added are.1 in
+added_at names new_names owner first [] others added are = (ap (λ (l : List Body). slice_get l 0) are, ap length are)
+added_at names new_names owner first (x ∷ bodies) [] added are = absurd are
+added_at names new_names owner first (x ∷ bodies) (o ∷ others) added are =
+    let more = added_at names new_names owner (first + probe_count x) bodies others added are.1 in
     (more.0, omega (arith, more.1))
 
 pub added_last : (names new_names : Names) (class new : Linked) → (pair : IsChangedPair names new_names class new)
     → (slice_get new.bodies (length class.bodies) ≡ Some pair.added) × (length new.bodies ≡ length class.bodies + 1)
-added_last names new_names class new pair = added_at names new_names 0 class.bodies new.bodies pair.added pair.bodies
+added_last names new_names class new pair = added_at names new_names class.name 0 class.bodies new.bodies pair.added pair.bodies
 
 -- ---- the bodies of a program
 
@@ -130,9 +133,6 @@ module _ (p p' : Program) (t : TwinProgram p p') where
       well : IsWellMadeOfAnySize b
       well = well_made place number class b h k
 
-      owner : b.owner ≡ class.name
-      owner = t.owned class (stands_in p.classes place class h) b (stands_in class.bodies number b k)
-
       by : (new : Linked) → slice_get p'.classes place ≡ Some new → IsPair p.names p'.names class new
           → (new : Linked) × (b' : Body) × (m : Marks) × IsSeenAt p p' place number class new b b' m
       by new at (inl pair) =
@@ -145,14 +145,13 @@ module _ (p p' : Program) (t : TwinProgram p p') where
               new_at = at;
               body_at = k;
               new_body_at = same.1;
-              owner = owner;
               seen = inr (record { pair = pair; same = same.2; marks = refl; seen = unchanged_seen p.names p'.names b same.0 well same.2 });
             },
           )
       by new at (inr pair) =
-          let twin = twin_at p.names p'.names 0 class.bodies new.bodies pair.added pair.bodies number b k in
+          let twin = twin_at p.names p'.names class.name 0 class.bodies new.bodies pair.added pair.bodies number b k in
           let first : 0 + first_id class.bodies number ≡ first_id class.bodies number = omega arith in
-          let has = subst (λ n. HasTwinBody p.names p'.names n b twin.0) first twin.2 in (
+          let has = subst (λ n. HasTwinBody p.names p'.names class.name n b twin.0) first twin.2 in (
             new,
             twin.0,
             has.twin.marks,
@@ -161,8 +160,7 @@ module _ (p p' : Program) (t : TwinProgram p p') where
               new_at = at;
               body_at = k;
               new_body_at = twin.1;
-              owner = owner;
-              seen = inl (record { pair = pair; twin = has; marks = refl; seen = seen p.names p'.names has.states (first_id class.bodies number) b twin.0 well has.twin });
+              seen = inl (record { pair = pair; twin = has; marks = refl; seen = seen p.names p'.names has.states class.name (first_id class.bodies number) b twin.0 well has.twin });
             },
           )
 
@@ -176,8 +174,8 @@ module _ (p p' : Program) (t : TwinProgram p p') where
       → IsSeenTwin p.names p'.names class new number b b' n ⊎ IsSeenSame p.names p'.names class new b b' n → m ≡ n
   marks_alike number class new b b' m n well (inl x) (inl y) =
       one_marks (first_id class.bodies number) b b' m n well
-      (record { names = p.names; new_names = p'.names; states = x.twin.states; twin = x.twin.twin; marks = x.marks })
-      (record { names = p.names; new_names = p'.names; states = y.twin.states; twin = y.twin.twin; marks = y.marks })
+      (record { names = p.names; new_names = p'.names; states = x.twin.states; owner = class.name; twin = x.twin.twin; marks = x.marks })
+      (record { names = p.names; new_names = p'.names; states = y.twin.states; owner = class.name; twin = y.twin.twin; marks = y.marks })
   marks_alike number class new b b' m n well (inl x) (inr y) = absurd (not_both class new x.pair y.pair)
   marks_alike number class new b b' m n well (inr x) (inl y) = absurd (not_both class new y.pair x.pair)
   marks_alike number class new b b' m n well (inr x) (inr y) = x.marks ∙ sym y.marks
@@ -220,7 +218,7 @@ owned_same names new_names name (x ∷ bodies) (o ∷ others) are owned b c =
     (which_in o others b c)
 
 owned_twins : (names new_names : Names) (name : List ℕ) (first : ℕ) (bodies others : List Body) (added : Body)
-    → AreTwinBodies names new_names first bodies others added → ((b : Body) → Contains bodies b → b.owner ≡ name) → added.owner ≡ name
+    → AreTwinBodies names new_names name first bodies others added → ((b : Body) → Contains bodies b → b.owner ≡ name) → added.owner ≡ name
     → (b : Body) → Contains others b → b.owner ≡ name
 owned_twins names new_names name first [] others added are owned last b c =
     ⊎_elim (λ here. ap (λ (y : Body). y.owner) (sym here) ∙ last) (λ later. absurd (none_in b later)) (which_in added ([]) b (subst (λ l. Contains l b) are c))
@@ -248,5 +246,5 @@ owned_pairs names new_names (x ∷ classes) (o ∷ others) are owned c d b e =
     (λ later. owned_pairs names new_names classes others are.1 (λ y f. owned y (later_in x classes y f)) c later b e)
     (which_in o others c d)
 
-pub program_owned : (p p' : Program) → TwinProgram p p' → AreOwned p'.classes
-program_owned p p' t = owned_pairs p.names p'.names p.classes p'.classes t.pairs t.owned
+pub program_owned : (p p' : Program) → AreOwned p.classes → TwinProgram p p' → AreOwned p'.classes
+program_owned p p' owned t = owned_pairs p.names p'.names p.classes p'.classes t.pairs owned

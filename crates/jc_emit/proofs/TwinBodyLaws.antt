@@ -34,7 +34,7 @@ module _ (b : Body) (call : ℕ) (fresh : what_used b.uses call ≡ None) where
 
 module _ (b : Body) (first : ℕ) (states : List State) (array call : ℕ) (names : Names) where
   pub has_twin : IsWellMadeOfAnySize b → HasFrameStates b states → IsArrayNumber names array → what_used b.uses call ≡ None
-      → Twin names names states first b (twin_body b first states array call)
+      → Twin names names states b.owner first b (twin_body b first states array call)
   unfolding twin_body emission
   has_twin well fit named fresh = record {
     marks = marks_of_items (twin_items b first false);

@@ -248,8 +248,8 @@ module _ (names new_names : Names) (states : List State) (first : ℕ) (wide : B
     handlers = handled;
   }
 
-pub verified : (names new_names : List (List ℕ)) (states : List State) (first : ℕ) (b b' : Body) → IsWellMadeOfAnySize b → Checked names b
+pub verified : (names new_names : List (List ℕ)) (states : List State) (owner : List ℕ) (first : ℕ) (b b' : Body) → IsWellMadeOfAnySize b → Checked names b
     → AreStates names b states → NoneStraddles b
-    → Twin names new_names states first b b' → Checked new_names b'
-verified names new_names states first b b' well checked are free t =
-    twin_checked names new_names states first t.wide t.call b b' (premises names new_names states first b b' well checked are free t)
+    → Twin names new_names states owner first b b' → Checked new_names b'
+verified names new_names states owner first b b' well checked are free t =
+    twin_checked names new_names states first t.wide t.call b b' (premises names new_names states owner first b b' well checked are free t)

@@ -56,7 +56,8 @@ pub record Premises (names new_names : Names) (states : List State) (first : ℕ
   pub are : AreStates names b states
   pub free : NoneStraddles b
   pub method : IsSameMethod b b'
-  pub calls : what_used b'.uses call ≡ Some (probe_init b.owner)
+  pub owner : List ℕ
+  pub calls : what_used b'.uses call ≡ Some (probe_init owner)
   pub uses : KeepsUses b b'
   pub code : b'.code ≡ map (insn_of call b.arg_slots) (twin_items b first wide)
   pub tables : AreMovedTables b (lead_of b first wide) (land_of b first wide) b'.handlers b'.lines b'.vars b'.kind_vars
@@ -65,10 +66,10 @@ pub record Premises (names new_names : Names) (states : List State) (first : ℕ
   pub max_locals : b'.max_locals ≡ b.max_locals + 1
 
 -- with the places of the function
-pub premises : (names new_names : Names) (states : List State) (first : ℕ) (b b' : Body) → IsWellMadeOfAnySize b → Checked names b
+pub premises : (names new_names : Names) (states : List State) (owner : List ℕ) (first : ℕ) (b b' : Body) → IsWellMadeOfAnySize b → Checked names b
     → AreStates names b states → NoneStraddles b
-    → (t : Twin names new_names states first b b') → Premises names new_names states first t.wide t.call b b'
-premises names new_names states first b b' well checked are free t =
+    → (t : Twin names new_names states owner first b b') → Premises names new_names states first t.wide t.call b b'
+premises names new_names states owner first b b' well checked are free t =
     let images = images_known b first t.wide t.call b'.code t.marks well.code t.code in
     let lands = lands_known b first t.wide t.call b'.code t.marks well.code t.code in
     let leads = leads_known b first t.wide t.call b'.code t.marks well.code t.code in
@@ -78,6 +79,7 @@ premises names new_names states first b b' well checked are free t =
       are = are;
       free = free;
       method = t.method;
+      owner = owner;
       calls = t.calls;
       uses = t.uses;
       code = code_known b first t.wide t.call b'.code t.marks well.code t.code;

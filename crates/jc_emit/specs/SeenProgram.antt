@@ -12,9 +12,9 @@ use Rattle.jc_emit.specs.TwinProgram.{IsSameBody, IsUnchangedPair, IsChangedPair
 -- the body with this number of a changed class, and its twin: its first id is told by the bodies in front of it
 pub record IsSeenTwin (names new_names : Names) (class new : Linked) (number : ℕ) (b b' : Body) (m : Marks) : Type 0 where
   pub pair : IsChangedPair names new_names class new
-  pub twin : HasTwinBody names new_names (first_id class.bodies number) b b'
+  pub twin : HasTwinBody names new_names class.name (first_id class.bodies number) b b'
   pub marks : m ≡ twin.twin.marks
-  pub seen : IsSeen (first_id class.bodies number) b b' m
+  pub seen : IsSeen class.name (first_id class.bodies number) b b' m
 
 -- a body of an unchanged class, and the same body: each instruction is its own image
 pub record IsSeenSame (names new_names : Names) (class new : Linked) (b b' : Body) (m : Marks) : Type 0 where
@@ -30,7 +30,6 @@ pub record IsSeenAt (p p' : Program) (place number : ℕ) (class new : Linked) (
   pub new_at : slice_get p'.classes place ≡ Some new
   pub body_at : slice_get class.bodies number ≡ Some b
   pub new_body_at : slice_get new.bodies number ≡ Some b'
-  pub owner : b.owner ≡ class.name
   pub seen : IsSeenTwin p.names p'.names class new number b b' m ⊎ IsSeenSame p.names p'.names class new b b' m
 
 -- the body with this number of the class at this place is seen beside one of the second program

@@ -37,16 +37,17 @@ AreFramesOf names new_names states first b wide own frames =
     AreTwinFrames names new_names b.arg_slots (image_place own)
     (IsFrame b first states (image_place own) (land_place b first own) (lead_place b first own) wide) frames
 
--- The twin of a body whose first id is `first`, with the states before the instructions of the body. The lists of names
--- are those of the one body and of the other; classes are compared by their names.
-pub record Twin (names new_names : Names) (states : List State) (first : ℕ) (b b' : Body) : Type 0 where
+-- The twin of a body whose first id is `first`, with the states before the instructions of the body. The method that its prelude
+-- calls is one of the class `owner`. The lists of names are those of the one body and of the other; classes are compared by their
+-- names.
+pub record Twin (names new_names : Names) (states : List State) (owner : List ℕ) (first : ℕ) (b b' : Body) : Type 0 where
   -- what is said of each instruction of the twin
   pub marks : Marks
   -- which layout it has
   pub wide : Bool
   -- where the method that its prelude calls stands in the pool
   pub call : ℕ
-  pub calls : what_used b'.uses call ≡ Some (probe_init b.owner)
+  pub calls : what_used b'.uses call ≡ Some (probe_init owner)
   pub method : IsSameMethod b b'
   pub uses : KeepsUses b b'
   pub code : IsTwinCode b first wide call b'.code marks
@@ -61,7 +62,8 @@ pub record AreTwinMarks (first : ℕ) (b b' : Body) (m : Marks) : Type 0 where
   pub names : Names
   pub new_names : Names
   pub states : List State
-  pub twin : Twin names new_names states first b b'
+  pub owner : List ℕ
+  pub twin : Twin names new_names states owner first b b'
   pub marks : m ≡ twin.marks
 
 -- ---- before the layout is chosen

@@ -54,23 +54,24 @@ pub record HasNeither (class : Linked) : Type 0 where
   pub bodies : (b : Body) → Contains class.bodies b → IsAddedName b.name → ⊥
   pub statics : (f : StaticField) → Contains class.statics f → IsAddedName f.name → ⊥
 
--- the twin of a body whose first id is this one
-pub record HasTwinBody (names new_names : Names) (first : ℕ) (b b' : Body) : Type 0 where
+-- the twin of a body whose first id is this one, and whose prelude calls a method of this class
+pub record HasTwinBody (names new_names : Names) (owner : List ℕ) (first : ℕ) (b b' : Body) : Type 0 where
   pub states : List State
   pub are : AreStates names b states
-  pub twin : Twin names new_names states first b b'
+  pub twin : Twin names new_names states owner first b b'
 
 -- Each body has its twin, in order, and behind them stands one body more. The first ids are told by the bodies in front.
-abbrev pub AreTwinBodies : Names → Names → ℕ → List Body → List Body → Body → Type 0
-AreTwinBodies names new_names first [] others added = others ≡ added ∷ []
-AreTwinBodies names new_names first (b ∷ bodies) [] added = ⊥
-AreTwinBodies names new_names first (b ∷ bodies) (b' ∷ others) added =
-    HasTwinBody names new_names first b b' × AreTwinBodies names new_names (first + probe_count b) bodies others added
+abbrev pub AreTwinBodies : Names → Names → (owner : List ℕ) → ℕ → List Body → List Body → Body → Type 0
+AreTwinBodies names new_names owner first [] others added = others ≡ added ∷ []
+AreTwinBodies names new_names owner first (b ∷ bodies) [] added = ⊥
+AreTwinBodies names new_names owner first (b ∷ bodies) (b' ∷ others) added =
+    HasTwinBody names new_names owner first b b' × AreTwinBodies names new_names owner (first + probe_count b) bodies others added
 
 -- the static field that keeps the probe array, none before the program begins
 abbrev pub data_static : StaticField
 data_static = record { name = data_name; desc = data_type; first = pos 0 }
 
+-- The second has a twin of each body of the first, which calls the method that was added to this class.
 pub record IsChangedPair (names new_names : Names) (class new : Linked) : Type 0 where
   pub name : new.name ≡ class.name
   pub has_clinit : new.has_clinit ≡ class.has_clinit
@@ -79,7 +80,7 @@ pub record IsChangedPair (names new_names : Names) (class new : Linked) : Type 0
   pub none_straddles : (b : Body) → Contains class.bodies b → NoneStraddles b
   pub id : ℕ
   pub added : Body
-  pub bodies : AreTwinBodies names new_names 0 class.bodies new.bodies added
+  pub bodies : AreTwinBodies names new_names class.name 0 class.bodies new.bodies added
   pub added_is : IsInitBody new_names class.name (cast_signed w64 id) (sum_by probe_count class.bodies) added
   pub statics : new.statics ≡ class.statics ++ data_static ∷ []
   pub probes : new.probes ≡ Some (record { id = id; count = sum_by probe_count class.bodies })
@@ -104,12 +105,11 @@ DifferInName (c ∷ classes) = ((other : Linked) → Contains classes other → 
 abbrev pub AreChecked : Names → List Linked → Type 0
 AreChecked names classes = (c : Linked) → Contains classes c → (b : Body) → Contains c.bodies b → IsWellMade b × Checked names b
 
--- The owner of each body is its class: the method that the prelude of its twin calls is one of that class.
+-- The owner of each body is its class. What gives a twin its array is told by the class's name, and so this plays no part there.
 abbrev pub AreOwned : List Linked → Type 0
 AreOwned classes = (c : Linked) → Contains classes c → (b : Body) → Contains c.bodies b → b.owner ≡ c.name
 
 pub record TwinProgram (p p' : Program) : Type 0 where
   pub checked : AreChecked p.names p.classes
-  pub owned : AreOwned p.classes
   pub differ : DifferInName p.classes
   pub pairs : ArePairs p.names p'.names p.classes p'.classes

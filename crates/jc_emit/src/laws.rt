@@ -27,8 +27,8 @@ ghost use Rattle.jc_emit.specs.TwinTables.{moved_row};
 /// A twin is seen from each of its instructions: each goes on where it should, and the exception rows are kept. So is
 /// a body of an unchanged class.
 pub fn each_twin_is_seen()
-    ensures twin { (names new_names : Names) (states : List State) (first : ℕ) (b b' : Body) → IsWellMadeOfAnySize b
-        → (t : Twin names new_names states first b b') → IsSeen first b b' t.marks }
+    ensures twin { (names new_names : Names) (states : List State) (owner : List ℕ) (first : ℕ) (b b' : Body) → IsWellMadeOfAnySize b
+        → (t : Twin names new_names states owner first b b') → IsSeen owner first b b' t.marks }
     ensures unchanged { (names new_names : Names) (b b' : Body) → IsWellMadeOfAnySize b
         → IsSameBody names new_names b b' → IsSeenUnchanged b b' (unchanged_marks b) }
 {}
@@ -99,7 +99,7 @@ pub fn each_twin_has_its_marks()
 pub fn each_probe_is_of_a_branch()
     ensures branch { (code : List Insn) (slot : Option ℕ) (ids : Branch → Option ℕ) (items : List Item) → AllOk code slot ids items
         → (q id : ℕ) (x : Item) → slice_get items q ≡ Some x → id_in x ≡ Some id → IsOfBranch code slot ids items id }
-    ensures within { (first : ℕ) (b b' : Body) (m : Marks) → (s : IsSeen first b b' m) → (q id : ℕ) (x : Item)
+    ensures within { (owner : List ℕ) (first : ℕ) (b b' : Body) (m : Marks) → (s : IsSeen owner first b b' m) → (q id : ℕ) (x : Item)
         → slice_get s.items q ≡ Some x → id_in x ≡ Some id → (first ≤ id) × (id < first + probe_count b) }
 {}
 
@@ -132,5 +132,5 @@ pub fn each_wide_frame_is_told()
 pub fn each_body_has_a_twin()
     ensures { (b : Body) (first : ℕ) (states : List State) (array call : ℕ) (names : Names) → CanEmit b states names array
         → what_used b.uses call ≡ None
-        → Twin names names states first b (twin_body b first states array call) }
+        → Twin names names states b.owner first b (twin_body b first states array call) }
 {}

@@ -34,8 +34,7 @@ pub fn each_class_has_its_pair()
         → (slice_get new.bodies (length class.bodies) ≡ Some pair.added) × (length new.bodies ≡ length class.bodies + 1) }
 {}
 
-/// The owner of each body of a twin program is its class, as it is in the program: the twins of a class's methods call
-/// the method that was added to this class.
+/// The owner of each body of a twin program is its class where it is so in the program.
 pub fn each_body_is_owned()
-    ensures { (p p' : Program) → TwinProgram p p' → AreOwned p'.classes }
+    ensures { (p p' : Program) → AreOwned p.classes → TwinProgram p p' → AreOwned p'.classes }
 {}

@@ -57,10 +57,11 @@ no_init (x ∷ bodies) none = by (is_init_name x.name) refl (no_init bodies (λ 
     by true is later = absurd (none x (first_in x bodies) ((bytes_eq-Decides x.name init_name).0 is))
     by false is later = later
 
-last_in : (names new_names : Names) (first : ℕ) (bodies others : List Body) (added : Body) → AreTwinBodies names new_names first bodies others added → Contains others added
-last_in names new_names first [] others added are = subst (λ (l : List Body). Contains l added) (sym are) (first_in added [])
-last_in names new_names first (b ∷ bodies) [] added are = absurd are
-last_in names new_names first (b ∷ bodies) (x ∷ others) added are = later_in x others added (last_in names new_names (first + probe_count b) bodies others added are.1)
+last_in : (names new_names : Names) (owner : List ℕ) (first : ℕ) (bodies others : List Body) (added : Body)
+    → AreTwinBodies names new_names owner first bodies others added → Contains others added
+last_in names new_names owner first [] others added are = subst (λ (l : List Body). Contains l added) (sym are) (first_in added [])
+last_in names new_names owner first (b ∷ bodies) [] added are = absurd are
+last_in names new_names owner first (b ∷ bodies) (x ∷ others) added are = later_in x others added (last_in names new_names owner (first + probe_count b) bodies others added are.1)
 
 -- ---- one file
 
@@ -123,7 +124,7 @@ module _ (names new_names : Names) (o w : List ℕ) (l n : Linked) (short : IsSh
       of_twin twin =
           let pair = changed_pair o w short.0 are_new twin names new_names l n p q in
           record {
-            declares = has_init n.bodies pair.added (last_in names new_names 0 l.bodies n.bodies pair.added pair.bodies) pair.added_is.name;
+            declares = has_init n.bodies pair.added (last_in names new_names l.name 0 l.bodies n.bodies pair.added pair.bodies) pair.added_is.name;
             init = record { id = class_id o; count = sum_by probe_count l.bodies };
             probes = probes_new o w short.0 are_new twin names new_names l n p q;
             id = sym is.described.id;

@@ -1,6 +1,6 @@
 -- The bodies that are read of the twin class that is written: a twin of each body of the class, in order.
 use Rattle.std.proofs.Common.{◌≡◌, ℕ, zero, suc, ◌+◌, ◌<◌, Bool, List, [], ◌∷◌, ◌++◌, map, Option, Some, None, refl, sym, ◌∙◌, ap, ap₂, subst, arith, if◌then◌else◌}
-use Rattle.std.specs.Prelude.{◌≢◌, slice_get, take, MatchOption}
+use Rattle.std.specs.Prelude.{◌≢◌, slice_get, take, unwrap_or, MatchOption}
 use Rattle.std.specs.List.{AllZip}
 use Rattle.std.specs.Option.{IsSomeAnd}
 use Rattle.std.proofs.lemmas.Bool.{eq-eqb, ne_eqb}
@@ -31,6 +31,7 @@ use Rattle.jc_instrument_reread.proofs.LaidFrameLaws.{laid_named}
 use Rattle.jc_instrument_reread.proofs.ReadAgainLaws.{body_again, is_body, is_twin}
 use Rattle.jc_instrument.specs.TwinText.{twin_class, twin_method, work_of}
 use Rattle.jc_instrument.specs.BodiesWithStates.{BodyWithStates, all_frames, bodies_of, emitted_of}
+use Rattle.jc_instrument.specs.Needed.{name_of}
 use Rattle.jc_instrument.specs.declared.needs.MemberPlaces.{MemberPlaces}
 use Rattle.jc_instrument.proofs.ListedLaws.{body_at}
 use Rattle.jc_instrument.proofs.WrittenAgainLaws.{AreWrittenWorks, method_there, written_at}
@@ -93,7 +94,7 @@ module _ (id : ℕ) (names : Names) (array : ℕ) (works : List BodyWithStates) 
   pub record IsTwinOf (x : BodyWithStates) (y : Body) : Type 0 where
     pub states : AreStates names x.body x.states
     pub is : BodyOfAnySize names (twin_class names array c works pool places) x.body.method y
-    pub twin_is : Twin names names x.states x.first x.body y
+    pub twin_is : Twin names names x.states (name_of c) x.first x.body y
     pub named : named_by_all (map (type_state_at names) y.frames) ≡ named_by_all (written_frames names (emitted_of array x))
 
   abbrev code : BodyWithStates → List ℕ
@@ -102,6 +103,9 @@ module _ (id : ℕ) (names : Names) (array : ℕ) (works : List BodyWithStates) 
   module _ (i : ℕ) (x : BodyWithStates) (at : slice_get works i ≡ Some x) where
     body : BodyOf names c x.body.method x.body
     body = r.are.bodies.each i x.body (body_at works i x at)
+
+    owner_is : x.body.owner ≡ name_of c
+    owner_is = sym (ap (λ (o : Option (List ℕ)). unwrap_or o []) body.is.parts.owner)
 
     found : work_of x.body.method works ≡ Some x
     found = work_there works r.are.bodies.rising i x at
@@ -128,7 +132,12 @@ module _ (id : ℕ) (names : Names) (array : ℕ) (works : List BodyWithStates) 
           at = new_there;
           is = is_body names c (twin_class names array c works pool places) (code_places pool places) array body.method new x.body x.states x.first written;
         };
-        twin_is = is_twin names c (twin_class names array c works pool places) (code_places pool places) array body.method new x.body x.states x.first written;
+        twin_is =
+            subst
+            (λ (o : List ℕ). Twin names names x.states o x.first x.body
+            (body_again names c (twin_class names array c works pool places) (code_places pool places) array body.method new x.body x.states x.first written))
+            owner_is
+            (is_twin names c (twin_class names array c works pool places) (code_places pool places) array body.method new x.body x.states x.first written);
         named =
             ap (λ (l : List FrameAt). named_by_all (map (type_state_at names) l)) (laid_frames_are x.body (emitted_of array x) (is_wide (emitted_of array x).code) places.method _)
             ∙ laid_named (is_wide (emitted_of array x).code) names (emitted_of array x);
@@ -142,14 +151,14 @@ module _ (id : ℕ) (names : Names) (array : ℕ) (works : List BodyWithStates) 
 
   pub in_order : (added : Body) (first : ℕ) (ws : List BodyWithStates) (ys : List Body) → AllZip IsTwinOf ws ys
       → ((i : ℕ) (x : BodyWithStates) → slice_get ws i ≡ Some x → x.first ≡ first + first_id (bodies_of ws) i)
-      → AreTwinBodies names names first (bodies_of ws) (ys ++ added ∷ []) added
+      → AreTwinBodies names names (name_of c) first (bodies_of ws) (ys ++ added ∷ []) added
   in_order added first [] [] zip firsts = refl
   in_order added first [] (y ∷ ys) zip firsts = absurd zip
   in_order added first (x ∷ ws) [] zip firsts = absurd zip
   in_order added first (x ∷ ws) (y ∷ ys) zip firsts =
       let own = firsts 0 x refl in
       let same : x.first ≡ first = omega (arith, own) in (
-        record { states = x.states; are = zip.0.states; twin = subst (λ (n : ℕ). Twin names names x.states n x.body y) same zip.0.twin_is },
+        record { states = x.states; are = zip.0.states; twin = subst (λ (n : ℕ). Twin names names x.states (name_of c) n x.body y) same zip.0.twin_is },
         in_order added (first + probe_count x.body) ws ys zip.1 (λ i z at.
             let e = firsts (suc i) z at in
             let more = sum_by-cons probe_count x.body (take i (bodies_of ws)) in

@@ -40,7 +40,7 @@ pub record TwinClass (id : ℕ) (c twin : ClassFile) : Type 0 where
   pub twins : List Body
   pub added : Body
   pub read : AreBodiesOfAnySize new_names twin (twins ++ added ∷ [])
-  pub each : AreTwinBodies names new_names 0 bodies (twins ++ added ∷ []) added
+  pub each : AreTwinBodies names new_names (name_of c) 0 bodies (twins ++ added ∷ []) added
   pub added_is : IsInitBody new_names (name_of c) (signed_id id) (all_probes bodies) added
   pub outside : IsSameOutside id (needed (name_of c) (signed_id id) (frames_of new_names twins)) (all_probes bodies) c twin
 

@@ -306,8 +306,8 @@ module _ (names : Names) (c twin : ClassFile) (places : CodePlaces) (array : ℕ
 
   -- ---- the kind check
 
-  pub is_twin : Twin names names states first b body_again
+  pub is_twin : Twin names names states b.owner first b body_again
   is_twin = laid_twin b first states array names w.source.well_made w.source.frame_states w.source.array_is wide call uses call_used kept
 
   pub is_checked : Checked names body_again
-  is_checked = verified names names states first b body_again w.source.well_made w.source.checked w.source.states_are w.source.none_straddles is_twin
+  is_checked = verified names names states b.owner first b body_again w.source.well_made w.source.checked w.source.states_are w.source.none_straddles is_twin

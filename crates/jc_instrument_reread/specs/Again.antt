@@ -28,7 +28,7 @@ pub record PassesAgain (twin : ClassFile) (number : ℕ) (method : Member) : Typ
 pub record IsReadAsTwin (names : Names) (twin : ClassFile) (method : Member) (states : List State) (first : ℕ) (b : Body) : Type 0 where
   pub body : Body
   pub is : IsBodyOfAnySize names twin b.method method body
-  pub twin_is : Twin names names states first b body
+  pub twin_is : Twin names names states b.owner first b body
 
 -- what is read gives the probe array of the class with this name and this id, which has so many probes
 pub record IsReadAsInit (twin : ClassFile) (number : ℕ) (method : Member) (owner : List ℕ) (id : ℤ) (count : ℕ) : Type 0 where

@@ -149,7 +149,7 @@ module _ (b : Body) (first : ℕ) (states : List State) (array : ℕ) (names : L
 
   pub laid_twin : (wide : Bool) (call : ℕ) (uses : List Use) → what_used uses call ≡ Some (probe_init b.owner)
       → KeepsUses b (record b { uses = uses })
-      → Twin names names states first b (laid_body b (emission b first states array) wide call uses)
+      → Twin names names states b.owner first b (laid_body b (emission b first states array) wide call uses)
   unfolding laid_body emission
   laid_twin wide call uses calls keeps = record {
     marks = marks_of_items (twin_items b first wide);

@@ -75,7 +75,7 @@ abbrev pub LaidBodiesAreTwins : Names → Body → (first : ℕ) → List State 
 LaidBodiesAreTwins names b first states array =
     (wide : Bool) (call : ℕ) (uses : List Use) → what_used uses call ≡ Some (probe_init b.owner)
     → ((place : ℕ) (what : What) → what_used b.uses place ≡ Some what → what_used uses place ≡ Some what)
-    → Twin names names states first b (laid_body b (emission b first states array) wide call uses)
+    → Twin names names states b.owner first b (laid_body b (emission b first states array) wide call uses)
 
 -- If these are the bytes of the chosen layout, and spell the emitted code in a layout, then with the place in the pool of
 -- the method that the prelude calls they spell the code of the body that stands there.

@@ -154,14 +154,14 @@ init_there names others class id count b d same h = subst (IsInitBody others cla
 })
 
 -- the twins have the names of their bodies, and so the added method is the first of its name
-first_init : (names others : Names) (first : ℕ) (bs ys : List Body) (added : Body) → AreTwinBodies names others first bs ys added
+first_init : (names others : Names) (owner : List ℕ) (first : ℕ) (bs ys : List Body) (added : Body) → AreTwinBodies names others owner first bs ys added
     → ((b : Body) → Contains bs b → b.name ≡ init_name → ⊥) → is_init added ≡ true → init_of ys ≡ Some added
-first_init names others first [] ys added twins none is =
+first_init names others owner first [] ys added twins none is =
     ap init_of twins ∙ ap (λ (t : Bool). cond t (Some added) None) is
-first_init names others first (b ∷ bs) [] added twins none is = absurd twins
-first_init names others first (b ∷ bs) (y ∷ ys) added twins none is =
+first_init names others owner first (b ∷ bs) [] added twins none is = absurd twins
+first_init names others owner first (b ∷ bs) (y ∷ ys) added twins none is =
     ap (λ (t : Bool). cond t (Some y) (init_of ys)) (not_init y (λ e. none b (first_in b bs) (sym twins.0.twin.method.name ∙ e)))
-    ∙ first_init names others (first + probe_count b) bs ys added twins.1 (λ x c. none x (later_in b bs x c)) is
+    ∙ first_init names others owner (first + probe_count b) bs ys added twins.1 (λ x c. none x (later_in b bs x c)) is
   where
     not_init : (y : Body) → (y.name ≡ init_name → ⊥) → is_init y ≡ false
     not_init y other = by (bytes_eq y.name init_name) refl
@@ -217,9 +217,9 @@ module _ (original written : List ℕ) (are : AreBytes original) (are_new : AreB
   twins_same : AreSameBodies h.new_names new_names (h.twins ++ h.added ∷ []) n.bodies
   twins_same = any_lists h.new_names new_names t (h.twins ++ h.added ∷ []) n.bodies h.read q_is.bodies.are
 
-  moved : AreMovedTwins h.names names h.new_names new_names 0 l.bodies n.bodies h.added
+  moved : AreMovedTwins h.names names h.new_names new_names (name_of c) 0 l.bodies n.bodies h.added
   moved =
-      moved_twins h.names names h.new_names new_names 0 h.bodies l.bodies (h.twins ++ h.added ∷ []) n.bodies h.added bodies_same twins_same
+      moved_twins h.names names h.new_names new_names (name_of c) 0 h.bodies l.bodies (h.twins ++ h.added ∷ []) n.bodies h.added bodies_same twins_same
       (λ i d at. each_at (HasStates names) l.bodies p_is.states i d at) h.each
 
   count_is : all_probes h.bodies ≡ sum_by probe_count l.bodies
@@ -287,7 +287,7 @@ module _ (original written : List ℕ) (are : AreBytes original) (are_new : AreB
 
   last_first : init_of n.bodies ≡ Some moved.last
   last_first =
-      first_init names new_names 0 l.bodies n.bodies moved.last moved.twins
+      first_init names new_names (name_of c) 0 l.bodies n.bodies moved.last moved.twins
       (λ b there e. (has_neither names c l p_is not_added).bodies b there (inl e)) last_init
 
   last_body : BodyOf new_names t moved.last.method moved.last
@@ -336,7 +336,7 @@ module _ (original written : List ℕ) (are : AreBytes original) (are_new : AreB
         none_straddles c class room.0 names b.method b (p_is.bodies.are.each at.0 b at.1);
     id = id;
     added = moved.last;
-    bodies = moved.twins;
+    bodies = subst (λ (o : List ℕ). AreTwinBodies names new_names o 0 l.bodies n.bodies moved.last) name_is moved.twins;
     added_is = added_is;
     statics = statics_new;
     probes = probes_new;

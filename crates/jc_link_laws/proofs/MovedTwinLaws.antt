@@ -216,8 +216,8 @@ module _ (names others new_names new_others : Names) (b : Body) (gs : List Frame
         (g.0, g.1, g.2 ∙ f.2, g.3 ∙ f.3 ∙ ap (shifted (image_place own) b.arg_slots) a.2);
   }
 
-  twin_there : Twin names new_names states first b y → Twin others new_others more first (record b { frames = gs }) (record y { frames = hs })
-  twin_there t = record {
+  twin_there : (owner : List ℕ) → Twin names new_names states owner first b y → Twin others new_others more owner first (record b { frames = gs }) (record y { frames = hs })
+  twin_there owner t = record {
     marks = t.marks;
     wide = t.wide;
     call = t.call;
@@ -243,15 +243,15 @@ module _ (names others new_names new_others : Names) where
   abbrev HasStates : Body → Type 0
   HasStates d = (more : List State) × AreStates others d more
 
-  twin_body_there : (first : ℕ) (b d y z : Body) → IsSameBody names others b d → IsSameBody new_names new_others y z → HasStates d
-      → HasTwinBody names new_names first b y → HasTwinBody others new_others first d z
-  twin_body_there first b d y z same same_new states twin =
+  twin_body_there : (owner : List ℕ) (first : ℕ) (b d y z : Body) → IsSameBody names others b d → IsSameBody new_names new_others y z → HasStates d
+      → HasTwinBody names new_names owner first b y → HasTwinBody others new_others owner first d z
+  twin_body_there owner first b d y z same same_new states twin =
       let more = subst HasStates same.others states in
-      subst (λ (x : Body). HasTwinBody others new_others first x z) (sym same.others)
-      (subst (HasTwinBody others new_others first (record b { frames = d.frames })) (sym same_new.others) (record {
+      subst (λ (x : Body). HasTwinBody others new_others owner first x z) (sym same.others)
+      (subst (HasTwinBody others new_others owner first (record b { frames = d.frames })) (sym same_new.others) (record {
         states = more.0;
         are = more.1;
-        twin = twin_there names others new_names new_others b d.frames same.frames twin.states more.0 twin.are more.1 first y z.frames same_new.frames twin.twin;
+        twin = twin_there names others new_names new_others b d.frames same.frames twin.states more.0 twin.are more.1 first y z.frames same_new.frames owner twin.twin;
       }))
 
   -- a body has as many probes, whatever its frames are
@@ -259,30 +259,31 @@ module _ (names others new_names new_others : Names) where
   count_same b d same = ap probe_count same.others ∙ same_count (record b { frames = d.frames }) ∙ sym (same_count b)
 
   -- the twins of bodies, in order, and the body behind them
-  pub record AreMovedTwins (first : ℕ) (ds zs : List Body) (added : Body) : Type 0 where
+  pub record AreMovedTwins (owner : List ℕ) (first : ℕ) (ds zs : List Body) (added : Body) : Type 0 where
     pub last : Body
-    pub twins : AreTwinBodies others new_others first ds zs last
+    pub twins : AreTwinBodies others new_others owner first ds zs last
     pub same : IsSameBody new_names new_others added last
 
-  moved_last : (first : ℕ) (zs : List Body) (added : Body) → AreSameBodies new_names new_others (added ∷ []) zs → AreMovedTwins first [] zs added
-  moved_last first [] added same = absurd same
-  moved_last first (z ∷ []) added same = record { last = z; twins = refl; same = same.0 }
-  moved_last first (z ∷ y ∷ zs) added same = absurd same.1
+  moved_last : (owner : List ℕ) (first : ℕ) (zs : List Body) (added : Body) → AreSameBodies new_names new_others (added ∷ []) zs
+      → AreMovedTwins owner first [] zs added
+  moved_last owner first [] added same = absurd same
+  moved_last owner first (z ∷ []) added same = record { last = z; twins = refl; same = same.0 }
+  moved_last owner first (z ∷ y ∷ zs) added same = absurd same.1
 
-  pub moved_twins : (first : ℕ) (bs ds ys zs : List Body) (added : Body) → AreSameBodies names others bs ds → AreSameBodies new_names new_others ys zs
-      → ((i : ℕ) (d : Body) → slice_get ds i ≡ Some d → HasStates d) → AreTwinBodies names new_names first bs ys added → AreMovedTwins first ds zs added
-  moved_twins first [] [] ys zs added same same_new states twins = moved_last first zs added (subst (λ (l : List Body). AreSameBodies new_names new_others l zs) twins same_new)
-  moved_twins first [] (d ∷ ds) ys zs added same same_new states twins = absurd same
-  moved_twins first (b ∷ bs) [] ys zs added same same_new states twins = absurd same
-  moved_twins first (b ∷ bs) (d ∷ ds) [] zs added same same_new states twins = absurd twins
-  moved_twins first (b ∷ bs) (d ∷ ds) (y ∷ ys) [] added same same_new states twins = absurd same_new
-  moved_twins first (b ∷ bs) (d ∷ ds) (y ∷ ys) (z ∷ zs) added same same_new states twins =
+  pub moved_twins : (owner : List ℕ) (first : ℕ) (bs ds ys zs : List Body) (added : Body) → AreSameBodies names others bs ds → AreSameBodies new_names new_others ys zs
+      → ((i : ℕ) (d : Body) → slice_get ds i ≡ Some d → HasStates d) → AreTwinBodies names new_names owner first bs ys added → AreMovedTwins owner first ds zs added
+  moved_twins owner first [] [] ys zs added same same_new states twins = moved_last owner first zs added (subst (λ (l : List Body). AreSameBodies new_names new_others l zs) twins same_new)
+  moved_twins owner first [] (d ∷ ds) ys zs added same same_new states twins = absurd same
+  moved_twins owner first (b ∷ bs) [] ys zs added same same_new states twins = absurd same
+  moved_twins owner first (b ∷ bs) (d ∷ ds) [] zs added same same_new states twins = absurd twins
+  moved_twins owner first (b ∷ bs) (d ∷ ds) (y ∷ ys) [] added same same_new states twins = absurd same_new
+  moved_twins owner first (b ∷ bs) (d ∷ ds) (y ∷ ys) (z ∷ zs) added same same_new states twins =
       let count : first + probe_count b ≡ first + probe_count d = ap (λ n. first + n) (sym (count_same b d same.0)) in
-      let rest = moved_twins (first + probe_count d) bs ds ys zs added same.1 same_new.1 (λ i x at. states (suc i) x at)
-      (subst (λ (n : ℕ). AreTwinBodies names new_names n bs ys added) count twins.1) in
+      let rest = moved_twins owner (first + probe_count d) bs ds ys zs added same.1 same_new.1 (λ i x at. states (suc i) x at)
+      (subst (λ (n : ℕ). AreTwinBodies names new_names owner n bs ys added) count twins.1) in
       record {
         last = rest.last;
-        twins = (twin_body_there first b d y z same.0 same_new.0 (states 0 d refl) twins.0, rest.twins);
+        twins = (twin_body_there owner first b d y z same.0 same_new.0 (states 0 d refl) twins.0, rest.twins);
         same = rest.same;
       }
 

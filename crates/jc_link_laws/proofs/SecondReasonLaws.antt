@@ -34,6 +34,7 @@ use Rattle.jc_instrument_reread.proofs.SameBodyLaws.{same_check}
 use Rattle.jc_instrument.specs.Bodies.{IsListed}
 use Rattle.jc_instrument.specs.Causes.{IsFirstCause, NoCause, of_method, unless}
 use Rattle.jc_instrument.specs.LeftAlone.{is_left_alone}
+use Rattle.jc_instrument.specs.Needed.{name_of}
 use Rattle.jc_instrument.specs.Reasons.{IsOutside, IsFaulty, analysis_causes}
 use Rattle.jc_instrument.specs.Refused.{probe_causes}
 use Rattle.jc_instrument.specs.RoomCauses.{room_causes}
@@ -73,20 +74,21 @@ record IsSource (names : Names) (b : Body) : Type 0 where
   free : NoneStraddles b
 
 module _ (names new_names : Names) (added : Body) (last : Checked new_names added) where
-  each_passes : (first : ℕ) (bs ys : List Body) → AreTwinBodies names new_names first bs ys added → ((i : ℕ) (b : Body) → slice_get bs i ≡ Some b → IsSource names b)
+  each_passes : (owner : List ℕ) (first : ℕ) (bs ys : List Body) → AreTwinBodies names new_names owner first bs ys added
+      → ((i : ℕ) (b : Body) → slice_get bs i ≡ Some b → IsSource names b)
       → (i : ℕ) (y : Body) → slice_get ys i ≡ Some y → Checked new_names y
-  each_passes first [] ys twins sources i y at = by i (sym (ap (λ (l : List Body). slice_get l i) twins) ∙ at)
+  each_passes owner first [] ys twins sources i y at = by i (sym (ap (λ (l : List Body). slice_get l i) twins) ∙ at)
     where
       by : (i : ℕ) → slice_get (added ∷ []) i ≡ Some y → Checked new_names y
       by zero there = subst (Checked new_names) (same_Some added y there) last
       by (suc i) there = absurd (none-some y there)
-  each_passes first (b ∷ bs) [] twins sources i y at = absurd twins
-  each_passes first (b ∷ bs) (z ∷ ys) twins sources zero y at =
+  each_passes owner first (b ∷ bs) [] twins sources i y at = absurd twins
+  each_passes owner first (b ∷ bs) (z ∷ ys) twins sources zero y at =
       let s = sources 0 b refl in
       let t = twins.0 in
-      subst (Checked new_names) (same_Some z y at) (checks.verified names new_names t.states first b z s.well_made s.checked t.are s.free t.twin)
-  each_passes first (b ∷ bs) (z ∷ ys) twins sources (suc i) y at =
-      each_passes (first + probe_count b) bs ys twins.1 (λ j x there. sources (suc j) x there) i y at
+      subst (Checked new_names) (same_Some z y at) (checks.verified names new_names t.states owner first b z s.well_made s.checked t.are s.free t.twin)
+  each_passes owner first (b ∷ bs) (z ∷ ys) twins sources (suc i) y at =
+      each_passes owner (first + probe_count b) bs ys twins.1 (λ j x there. sources (suc j) x there) i y at
 
 -- ---- the reason
 
@@ -127,7 +129,7 @@ module _ (original text : List ℕ) (short : IsShortFile original) (w : IsWritte
 
   twin_passes : (i : ℕ) (y : Body) → slice_get (h.twins ++ h.added ∷ []) i ≡ Some y → Checked h.new_names y
   twin_passes =
-      each_passes h.names h.new_names h.added (inits.verified h.new_names _ _ _ h.added h.added_is) 0 h.bodies (h.twins ++ h.added ∷ []) h.each source
+      each_passes h.names h.new_names h.added (inits.verified h.new_names _ _ _ h.added h.added_is) (name_of c) 0 h.bodies (h.twins ++ h.added ∷ []) h.each source
 
   -- ---- each method
 

@@ -1,5 +1,5 @@
 -- Accepted files and what was written of them are linked to a program and its twin.
-use Rattle.std.proofs.Common.{◌≡◌, ◌⊎◌, inl, inr, ℕ, suc, List, [], ◌∷◌, Contains, Some, refl, sym, ◌∙◌, ap, subst, arith}
+use Rattle.std.proofs.Common.{◌≡◌, ◌⊎◌, inl, inr, ℕ, suc, List, [], ◌∷◌, Contains, Some, refl, ap, subst, arith}
 use Rattle.std.specs.List.{AllByRecursion}
 use Rattle.jc_bytes.specs.ByteLists.{AreBytes}
 use Rattle.jc_bytes.proofs.BooleanLaws.{which_in, none_in}
@@ -11,7 +11,7 @@ use Rattle.jc_programs.specs.declared.program.Linked.{Linked}
 use Rattle.jc_programs.specs.declared.program.Program.{Program}
 use Rattle.jc_class.proofs.WritableLaws.{class_holds}
 use Rattle.jc_kinds.specs.Checked.{Checked}
-use Rattle.jc_emit.specs.TwinProgram.{IsPair, ArePairs, DifferInName, AreChecked, AreOwned, TwinProgram}
+use Rattle.jc_emit.specs.TwinProgram.{IsPair, ArePairs, DifferInName, AreChecked, TwinProgram}
 use Rattle.jc_instrument.proofs.FrameCauseLaws.{each_at}
 use Rattle.jc_instrument.proofs.PoolTextLaws.{class_pool}
 use Rattle.jc_instrument.proofs.SomeBodiesLaws.{made_well}
@@ -25,15 +25,6 @@ use Rattle.jc_link_laws.proofs.TwinPairLaws.{unchanged_pair}
 -- ---- the classes of the one program
 
 module _ (names : Names) (bytes : List ℕ) (l : Linked) (p : IsLinkedClass names bytes l) where
-  owned_body : (b : Body) → Contains l.bodies b → b.owner ≡ l.name
-  owned_body b there =
-      let at = stands_at l.bodies b there in
-      let body = p.is.bodies.are.each at.0 b at.1 in
-      some_is (sym body.is.parts.owner ∙ p.is.name)
-    where
-      some_is : {x y : List ℕ} → Some x ≡ Some y → x ≡ y
-      some_is e = cc
-
   checked_body : IsShortFile bytes → (b : Body) → Contains l.bodies b → IsWellMade b × Checked names b
   checked_body short b there =
       let at = stands_at l.bodies b there in
@@ -43,16 +34,6 @@ module _ (names : Names) (bytes : List ℕ) (l : Linked) (p : IsLinkedClass name
         made_well p.file class (class_pool bytes p.file short.0 p.text) (omega (arith, size, few)) p.no_cause.1 names l.bodies p.is.bodies.are at.0 b at.1,
         each_at (Checked names) l.bodies p.is.bodies.checked at.0 b at.1,
       )
-
-all_owned : (names : Names) (files : List (List ℕ)) (classes : List Linked) → AreLinkedClasses names files classes → AreOwned classes
-all_owned names [] [] are c there = absurd (none_in c there)
-all_owned names [] (l ∷ classes) are c there = absurd are
-all_owned names (bytes ∷ files) [] are c there = absurd are
-all_owned names (bytes ∷ files) (l ∷ classes) are c there = by (which_in l classes c there) (all_owned names files classes are.1 c)
-  where
-    by : (l ≡ c) ⊎ Contains classes c → (Contains classes c → (b : Body) → Contains c.bodies b → b.owner ≡ c.name) → (b : Body) → Contains c.bodies b → b.owner ≡ c.name
-    by (inl same) later = subst (λ (d : Linked). (b : Body) → Contains d.bodies b → b.owner ≡ d.name) same (owned_body names bytes l are.0)
-    by (inr behind) later = later behind
 
 all_checked : (names : Names) (files : List (List ℕ)) (classes : List Linked) → AllByRecursion IsShortFile files → AreLinkedClasses names files classes
     → AreChecked names classes
@@ -116,7 +97,6 @@ pub twin_program : (originals written : List (List ℕ)) (p q : Program) → All
     → AreWrittenOf originals written → IsProgramOf originals p → IsProgramOf written q → TwinProgram p q
 twin_program originals written p q short are w a b = record {
   checked = all_checked p.names originals p.classes short a.classes;
-  owned = all_owned p.names originals p.classes a.classes;
   differ = differ p.classes a.one_each;
   pairs = pairs p.names q.names originals written p.classes q.classes (record { short = short; are_bytes = are; each = w }) a.classes b.classes;
 }

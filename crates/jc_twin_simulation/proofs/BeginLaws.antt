@@ -167,13 +167,13 @@ module _ (names new_names : Names) (thread : ThreadLine) where
       ap₂ (λ x l. x ∷ l) (entry_same b o (ap (λ (x : Body). x.flags) is) (ap (λ (x : Body). x.name) is) (ap (λ (x : Body). x.desc) is))
       (same_entries bodies others are.1)
 
-  twin_entries : (first : ℕ) (bodies others : List Body) (added : Body) → AreTwinBodies names new_names first bodies others added
+  twin_entries : (owner : List ℕ) (first : ℕ) (bodies others : List Body) (added : Body) → AreTwinBodies names new_names owner first bodies others added
       → map (is_entry thread) others ≡ map (is_entry thread) bodies ++ is_entry thread added ∷ []
-  twin_entries first [] others added are = ap (map (is_entry thread)) are
-  twin_entries first (b ∷ bodies) [] added are = absurd are
-  twin_entries first (b ∷ bodies) (o ∷ others) added are =
+  twin_entries owner first [] others added are = ap (map (is_entry thread)) are
+  twin_entries owner first (b ∷ bodies) [] added are = absurd are
+  twin_entries owner first (b ∷ bodies) (o ∷ others) added are =
       let same = are.0.twin.method in
-      ap₂ (λ x l. x ∷ l) (entry_same b o same.flags same.name same.desc) (twin_entries (first + probe_count b) bodies others added are.1)
+      ap₂ (λ x l. x ∷ l) (entry_same b o same.flags same.name same.desc) (twin_entries owner (first + probe_count b) bodies others added are.1)
 
   -- the added method is no entry
   no_entry : (b : Body) → b.name ≡ init_name → is_entry thread b ≡ false
@@ -197,7 +197,7 @@ module _ (names new_names : Names) (thread : ThreadLine) where
   position_same : (c new : Linked) → IsPair names new_names c new → position (is_entry thread) new.bodies ≡ position (is_entry thread) c.bodies
   position_same c new (inl pair) = place_entry new.bodies ∙ ap (place (λ x. x)) (same_entries c.bodies new.bodies pair.bodies) ∙ sym (place_entry c.bodies)
   position_same c new (inr pair) =
-      place_entry new.bodies ∙ ap (place (λ x. x)) (twin_entries 0 c.bodies new.bodies pair.added pair.bodies)
+      place_entry new.bodies ∙ ap (place (λ x. x)) (twin_entries c.name 0 c.bodies new.bodies pair.added pair.bodies)
       ∙ ap (λ b. place (λ x. x) (map (is_entry thread) c.bodies ++ b ∷ [])) (no_entry pair.added pair.added_is.name)
       ∙ none_last (map (is_entry thread) c.bodies) (place (λ x. x) (map (is_entry thread) c.bodies)) refl
       ∙ sym (place_entry c.bodies)

@@ -54,13 +54,13 @@ module _ (names new_names : Names) where
   same_keys (b ∷ bodies) [] are = absurd are
   same_keys (b ∷ bodies) (o ∷ others) are = ap₂ (λ k l. k ∷ l) (ap body_key are.0.others) (same_keys bodies others are.1)
 
-  twin_keys : (first : ℕ) (bodies others : List Body) (added : Body) → AreTwinBodies names new_names first bodies others added
+  twin_keys : (owner : List ℕ) (first : ℕ) (bodies others : List Body) (added : Body) → AreTwinBodies names new_names owner first bodies others added
       → map body_key others ≡ map body_key bodies ++ body_key added ∷ []
-  twin_keys first [] others added are = ap (map body_key) are
-  twin_keys first (b ∷ bodies) [] added are = absurd are
-  twin_keys first (b ∷ bodies) (o ∷ others) added are =
+  twin_keys owner first [] others added are = ap (map body_key) are
+  twin_keys owner first (b ∷ bodies) [] added are = absurd are
+  twin_keys owner first (b ∷ bodies) (o ∷ others) added are =
       let same = are.0.twin.method in
-      ap₂ (λ k l. k ∷ l) (ap₂ (λ n d. record { name = n; desc = d }) same.name same.desc) (twin_keys (first + probe_count b) bodies others added are.1)
+      ap₂ (λ k l. k ∷ l) (ap₂ (λ n d. record { name = n; desc = d }) same.name same.desc) (twin_keys owner (first + probe_count b) bodies others added are.1)
 
 -- what is found among some is found where others stand behind them
 found_before : (test : Key → Bool) (xs ys all : List Key) (k : ℕ) → all ≡ xs ++ ys → place test xs ≡ Some k → place test all ≡ Some k
@@ -110,7 +110,7 @@ module _ (names new_names : Names) (c new : Linked) where
   methods_found (inr pair) name desc k h =
       method_place new.bodies name desc
       ∙ found_before (fits_key name desc) (map body_key c.bodies) (body_key pair.added ∷ []) (map body_key new.bodies) k
-      (twin_keys names new_names 0 c.bodies new.bodies pair.added pair.bodies) (sym (method_place c.bodies name desc) ∙ h)
+      (twin_keys names new_names c.name 0 c.bodies new.bodies pair.added pair.bodies) (sym (method_place c.bodies name desc) ∙ h)
 
   -- the added method
   pub record FindsAdded (name desc : List ℕ) : Type 0 where
@@ -127,7 +127,7 @@ module _ (names new_names : Names) (c new : Linked) where
       (λ none. inl (method_place new.bodies name desc ∙ none))
       (λ last. inr (record { pair = pair; found = method_place new.bodies name desc ∙ last.0 ∙ ap Some (length-map c.bodies body_key); fits = last.1 }))
       (found_last (fits_key name desc) (map body_key c.bodies) (body_key pair.added) (map body_key new.bodies)
-      (twin_keys names new_names 0 c.bodies new.bodies pair.added pair.bodies) (sym (method_place c.bodies name desc) ∙ h))
+      (twin_keys names new_names c.name 0 c.bodies new.bodies pair.added pair.bodies) (sym (method_place c.bodies name desc) ∙ h))
 
 -- ---- classes
 
@@ -190,7 +190,7 @@ pub init_found : (names new_names : Names) (c new : Linked) (pair : IsChangedPai
     → method_named new.bodies init_name init_type ≡ Some (length c.bodies)
 init_found names new_names c new pair =
     method_place new.bodies init_name init_type
-    ∙ ap (place (fits_key init_name init_type)) (twin_keys names new_names 0 c.bodies new.bodies pair.added pair.bodies)
+    ∙ ap (place (fits_key init_name init_type)) (twin_keys names new_names c.name 0 c.bodies new.bodies pair.added pair.bodies)
     ∙ place_last (fits_key init_name init_type) (map body_key c.bodies) (body_key pair.added) (sym (method_place c.bodies init_name init_type) ∙ missing)
     ∙ ap (λ b. cond b (Some (length (map body_key c.bodies))) None) fits ∙ ap Some (length-map c.bodies body_key)
   where

@@ -74,7 +74,7 @@ module _ (p p' : Program) (t : TwinProgram p p') (marks : Entry → Marks) (are 
         let first = first_id c.bodies m.method in
         let states = s.twin.states in
         let t = s.twin.twin in
-        let seen = items_seen p.names p'.names states first b b' well t in
+        let seen = items_seen p.names p'.names states c.name first b b' well t in
         let pair = s.pair in
         let added = (added_last p.names p'.names c new pair).0 in (
           record { class = c; new = new; body = b; twin = b'; slot = Some b.arg_slots; ids = probe_of b first; items = seen.items; call = seen.call },
@@ -84,7 +84,6 @@ module _ (p p' : Program) (t : TwinProgram p p') (marks : Entry → Marks) (are 
               new_is = at.new_at;
               body_is = at.body_at;
               twin_is = at.new_body_at;
-              owner = at.owner;
               named = not_named (inr pair);
               declares = original_declares p.names p'.names c new (inr pair);
               has_clinit = pair.has_clinit;
@@ -104,7 +103,7 @@ module _ (p p' : Program) (t : TwinProgram p p') (marks : Entry → Marks) (are 
                 added_at = added;
                 declares = changed_declares p.names p'.names c new pair added;
                 calls = seen.calls;
-                within = λ q id x here h. within first pair (each_within first b b' t.marks seen q id x here h).1;
+                within = λ q id x here h. within first pair (each_within c.name first b b' t.marks seen q id x here h).1;
               };
               unchanged = λ e. absurd (none-some b.arg_slots (sym e));
               ids_are = λ v e. refl;
@@ -136,7 +135,6 @@ module _ (p p' : Program) (t : TwinProgram p p') (marks : Entry → Marks) (are 
               new_is = at.new_at;
               body_is = at.body_at;
               twin_is = at.new_body_at;
-              owner = at.owner;
               named = not_named (inl pair);
               declares = original_declares p.names p'.names c new (inl pair);
               has_clinit = pair.has_clinit;

@@ -204,9 +204,9 @@ module _ (p p' : Program) (sides : Entry → Side) where
       not_in_init : in_init here_at ≡ false
       not_in_init = ap is_init_name h.one.side.same.name ∙ h.one.side.named
 
-      class_is : class_named p' t.body.owner ≡ Some f.method.class
+      class_is : class_named p' t.class.name ≡ Some f.method.class
       class_is =
-          ap (class_named p') h.one.side.owner ∙ class_same p p' are.names t.class.name ∙ class_again p are.differ f.method.class t.class h.one.side.class_is
+          class_same p p' are.names t.class.name ∙ class_again p are.differ f.method.class t.class h.one.side.class_is
 
       enterable : is_enterable t.new b ≡ true
       enterable =
@@ -220,7 +220,7 @@ module _ (p p' : Program) (sides : Entry → Side) where
           ap (λ q. not (is_init_name b.name) || (nat_eq q 0 && nat_eq f.method.class f.method.class)) first
           ∙ ap (λ x. not (is_init_name b.name) || x) (eq-eqb f.method.class f.method.class refl) ∙ or_true (not (is_init_name b.name))
 
-      pub called : callee_named p' t.body.owner init_name init_type ≡ Some e
+      pub called : callee_named p' t.class.name init_name init_type ≡ Some e
       called =
           ap (option_and_then (λ (k : ℕ). option_and_then (method_in init_name init_type k) (class_at p' k))) class_is
           ∙ ap (option_and_then (method_in init_name init_type f.method.class)) h.one.side.new_is
@@ -230,8 +230,8 @@ module _ (p p' : Program) (sides : Entry → Side) where
       unfolding operation_of
       operation =
           ap (member_operation opcode.invokestatic here_at p') c.calls
-          ∙ ap (λ x. if x then profile.init_call here_at (is_fetch t.body.owner init_name init_type) (init_of here_at) else method_entered here_at p'
-          (callee_named p' t.body.owner init_name init_type)) not_in_init
+          ∙ ap (λ x. if x then profile.init_call here_at (is_fetch t.class.name init_name init_type) (init_of here_at) else method_entered here_at p'
+          (callee_named p' t.class.name init_name init_type)) not_in_init
           ∙ ap (method_entered here_at p') called
           ∙ ap (class_entered here_at e) h.one.side.new_is
           ∙ ap (body_entered here_at e t.new) c.added_at

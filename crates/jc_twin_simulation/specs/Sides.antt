@@ -49,7 +49,7 @@ pub record IsChanged (p p' : Program) (t : Side) (v : ℕ) : Type 0 where
   pub pair : IsChangedPair p.names p'.names t.class t.new
   pub added_at : slice_get t.new.bodies (length t.class.bodies) ≡ Some pair.added
   pub declares : declares_init t.new ≡ true
-  pub calls : what_used t.twin.uses t.call ≡ Some (probe_init t.body.owner)
+  pub calls : what_used t.twin.uses t.call ≡ Some (probe_init t.class.name)
   pub within : (q id : ℕ) (x : Item) → slice_get t.items q ≡ Some x → id_in x ≡ Some id → id < count_in t.new.probes
 
 -- a method of an unchanged class
@@ -62,7 +62,6 @@ pub record IsSide (p p' : Program) (method : Entry) (t : Side) : Type 0 where
   pub new_is : slice_get p'.classes method.class ≡ Some t.new
   pub body_is : slice_get t.class.bodies method.method ≡ Some t.body
   pub twin_is : slice_get t.new.bodies method.method ≡ Some t.twin
-  pub owner : t.body.owner ≡ t.class.name
   pub named : is_init_name t.body.name ≡ false
   pub declares : declares_init t.class ≡ false
   pub has_clinit : t.new.has_clinit ≡ t.class.has_clinit
