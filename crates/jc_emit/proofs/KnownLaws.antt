@@ -144,7 +144,7 @@ module _ (b : Body) (first : ℕ) (wide : Bool) (call : ℕ) (code : List Insn) 
       let three : q + 3 ≡ q + 1 + 1 + 1 = omega arith in (
         p.array,
         (
-          subst (λ insn. HasInsn code m (q + 1) insn at false 1) p.pushes p.number,
+          p.number,
           (subst (λ k. HasInsn code m k iconst_1 at false 2) two p.one, (subst (λ k. HasInsn code m k bastore at false 3) three p.store, tt)),
         ),
       )

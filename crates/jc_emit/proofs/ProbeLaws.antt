@@ -186,8 +186,8 @@ module _ (b : Body) (first : ℕ) (wide : Bool) (code : List Insn) (m : Marks) (
       let here : q ≡ place i.edge.branch = omega (arith, there, first_step) in
       record {
         edge = i.edge;
-        id_is = same_number i.edge.id id (sym k.pushes ∙ same_Some k.pusher p.pusher
-            (sym k.number.insn_is ∙ sym (ap (λ x. slice_get code (x + 1)) here) ∙ p.number.insn_is) ∙ p.pushes);
+        id_is = same_number i.edge.id id
+            (same_Some (push i.edge.id) (push id) (sym k.number.insn_is ∙ sym (ap (λ x. slice_get code (x + 1)) here) ∙ p.number.insn_is));
         place = here;
         owner = same_Some at _ (sym p.array.at_is ∙ ap (slice_get m.at) here ∙ k.array.at_is);
       }

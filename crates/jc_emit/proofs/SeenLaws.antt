@@ -8,6 +8,7 @@ use Rattle.jc_methods.specs.WellMade.{IsHandler, IsWellMadeOfAnySize, what_used}
 use Rattle.jc_methods.specs.declared.insn.Insn.{Insn}
 use Rattle.jc_methods.specs.declared.kind.State.{State}
 use Rattle.jc_methods.specs.declared.body.Body.{Body}
+use Rattle.jc_methods.specs.declared.body.Use.{Use}
 use Rattle.jc_methods.specs.declared.body.Handler.{Handler}
 use Rattle.jc_plan.specs.Probed.{probe_of}
 use Rattle.jc_emit.specs.Items.{Item, start, image, insn_of, twin_items, lead_of, land_of}
@@ -28,15 +29,16 @@ first_of_all P x xs all = all 0 x (omega arith)
 rest_of_all : {X : Type 0} (P : X → Type 0) (x : X) (xs : List X) → All P (x ∷ xs) → All P xs
 rest_of_all P x xs all = λ k d lt. all (suc k) d (omega arith)
 
-pub insn_is : (call v : ℕ) (x : Item) → IsInsnOf call v x (insn_of call v x)
-insn_is call v (start k) = refl
-insn_is call v x = refl
+pub insn_is : (uses : List Use) (call v : ℕ) (x : Item) → IsInsnOf uses call v x (insn_of call v x)
+insn_is uses call v (start k) = refl
+insn_is uses call v x = refl
 
 -- code that is that of the items has the instruction of each
-pub insns_of : (call v : ℕ) (items : List Item) (code : List Insn) → code ≡ map (insn_of call v) items → AreInsnsOf call v items code
-insns_of call v items code is = record {
+pub insns_of : (uses : List Use) (call v : ℕ) (items : List Item) (code : List Insn) → code ≡ map (insn_of call v) items
+    → AreInsnsOf uses call v items code
+insns_of uses call v items code is = record {
   count = ap length is ∙ length-map items (insn_of call v);
-  each = λ q x h. (insn_of call v x, ap (λ l. slice_get l q) is ∙ mapped (insn_of call v) items q x h, insn_is call v x);
+  each = λ q x h. (insn_of call v x, ap (λ l. slice_get l q) is ∙ mapped (insn_of call v) items q x h, insn_is uses call v x);
 }
 
 -- rows of which each is kept by what becomes of it
@@ -60,7 +62,7 @@ seen names new_names states owner first b b' well t =
       calls = t.calls;
       method = t.method;
       uses = t.uses;
-      code = insns_of t.call b.arg_slots (twin_items b first t.wide) b'.code (code_known b first t.wide t.call b'.code t.marks well.code t.code);
+      code = insns_of b'.uses t.call b.arg_slots (twin_items b first t.wide) b'.code (code_known b first t.wide t.call b'.code t.marks well.code t.code);
       at = ap (λ m. m.at) marks;
       own = ap (λ m. m.own) marks;
       extra = ap (λ m. m.extra) marks;
@@ -96,7 +98,7 @@ unchanged_seen names new_names b b' well same =
         arg_slots = ap (λ (x : Body). x.arg_slots) is;
       };
       uses = λ place what used. ap (λ (x : Body). what_used x.uses place) is ∙ used;
-      code = insns_of 0 b.arg_slots (unchanged_items b.code) b'.code (ap (λ (x : Body). x.code) is ∙ sym (same_insns b.code 0 b.arg_slots));
+      code = insns_of b'.uses 0 b.arg_slots (unchanged_items b.code) b'.code (ap (λ (x : Body). x.code) is ∙ sym (same_insns b.code 0 b.arg_slots));
       at = refl;
       own = refl;
       extra = refl;

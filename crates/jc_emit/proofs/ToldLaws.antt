@@ -13,7 +13,7 @@ use Rattle.jc_plan.specs.declared.branch.Branch.{Branch}
 use Rattle.jc_plan.specs.Probed.{probe_of}
 use Rattle.jc_plan.specs.Plan.{lead_probe}
 use Rattle.jc_emit.specs.Sizes.{insn_at, early_probe, late_probe, arms_at, hop_size, wide_by, wide_size}
-use Rattle.jc_emit.specs.Marks.{Marks, HasInsn, IsProbe, iconst_1, bastore, prelude_size, push}
+use Rattle.jc_emit.specs.Marks.{Marks, HasInsn, IsProbe, iconst_1, bastore, prelude_size}
 use Rattle.jc_methods.specs.Widened.{goto, inverted}
 use Rattle.jc_emit.specs.TwinCode.{to_of, Prelude, Images, Places, Jumps, Switches, Lengths, HasTest, HasProbe, HasHop, HasArm, HasArms}
 use Rattle.jc_emit.specs.Items.{Item, marks_of_items, image, hop, insn_of, at_of, own_of, extra_of, probe, lead_part, early_part, hop_part, arm_parts, test_part, segment_size, lead_of, land_of, image_of, tests_part, image_part, twin_items, probe_array, probe_id, probe_one, probe_store, start}
@@ -66,8 +66,6 @@ module _ (b : Body) (first : ℕ) (wide : Bool) (call : ℕ) where
       let three : q + 1 + 1 + 1 ≡ q + 3 = omega arith in
       record {
         array = stands q (probe_array id at late) h.0;
-        pusher = push id;
-        pushes = refl;
         number = stands (q + 1) (probe_id id at late) h.1.0;
         one = subst (λ k. HasInsn code m k iconst_1 at false 2) two (stands (q + 1 + 1) (probe_one id at late) h.1.1.0);
         store = subst (λ k. HasInsn code m k bastore at false 3) three (stands (q + 1 + 1 + 1) (probe_store id at late) h.1.1.1.0);

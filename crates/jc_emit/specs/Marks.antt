@@ -4,6 +4,7 @@ use Rattle.jc_methods.specs.Opcode as opcode
 use Rattle.jc_methods.specs.declared.insn.Insn.{Insn}
 use Rattle.jc_methods.specs.declared.insn.Insn.TheVariants as insns
 use Rattle.jc_methods.specs.declared.body.Body.{Body}
+use Rattle.jc_methods.specs.declared.body.Use.{Use}
 use Rattle.jc_plan.specs.Plan.{lead_probe}
 use Rattle.jc_emit.specs.Sizes.{probe_size, early_probe}
 
@@ -48,9 +49,9 @@ push n =
     else if nat_le n 127 then insns.Push opcode.bipush (pos n)
     else insns.Push opcode.sipush (pos n)
 
--- the instruction pushes the id
-abbrev pub Pushes : Insn → ℕ → Type 0
-Pushes insn id = insn ≡ push id
+-- the instruction pushes the number, where these are the entries of the pool that the code uses
+abbrev pub Pushes : List Use → Insn → ℕ → Type 0
+Pushes uses insn n = insn ≡ push n
 
 -- The prelude: its instructions in order, each with how many values the ones in front of it have put on the stack. The
 -- method with this place in the pool gives the array of probes, and it is stored in local variable v.
@@ -70,9 +71,7 @@ prelude_insn call v (suc k) = astore v
 -- true is stored at the index `id` of it.
 pub record IsProbe (code : List Insn) (m : Marks) (v q id at : ℕ) : Type 0 where
   pub array : HasInsn code m q (aload v) at false 0
-  pub pusher : Insn
-  pub pushes : Pushes pusher id
-  pub number : HasInsn code m (q + 1) pusher at false 1
+  pub number : HasInsn code m (q + 1) (push id) at false 1
   pub one : HasInsn code m (q + 2) iconst_1 at false 2
   pub store : HasInsn code m (q + 3) bastore at false 3
 

@@ -14,6 +14,7 @@ use Rattle.jc_methods.specs.declared.insn.Insn.{Insn}
 use Rattle.jc_methods.specs.declared.insn.Insn.TheVariants as insns
 use Rattle.jc_methods.specs.declared.insn.Flow.TheVariants as flows
 use Rattle.jc_methods.specs.declared.body.Body.{Body}
+use Rattle.jc_methods.specs.declared.body.Use.{Use}
 use Rattle.jc_programs.specs.declared.program.Program.{Program}
 use Rattle.jc_programs.specs.declared.program.Linked.{Linked}
 use Rattle.jc_programs.specs.declared.program.StaticField.{StaticField}
@@ -41,14 +42,14 @@ use Rattle.jc_twin_simulation.specs.Same as spec
 use Rattle.jc_twin_simulation.specs.Sides.{Side, count_in, array_of, IsSide, AreSides, AreMarksOf}
 use Rattle.jc_twin_simulation.specs.Mid.{pushed_of, null_or, step_stack, SameLocals, OneMethod, SameFrame, SameWait, SameWaits, init_method, SameStuck, Inside, extra_in, SameStatics, values_of, SameShared, SameThread, SameThreads, Mid}
 use Rattle.jc_twin_simulation.specs.Together.{count_of, array_in, ArePushed, HasProbeState, HasInitState, HasTopState, HasState, IsStuckWithin, Together}
-use Rattle.jc_twin_simulation.proofs.ClassLaws.{other_name, unchanged_declares, changed_declares}
+use Rattle.jc_twin_simulation.proofs.ClassLaws.{other_name, unchanged_data, changed_data}
 use Rattle.jc_twin_simulation.proofs.FrameLaws.{body_is, location, twin_insn}
 use Rattle.jc_twin_simulation.proofs.TurnLaws.{called}
 use Rattle.jc_twin_simulation.proofs.PlaceLaws.{any_at}
 use Rattle.jc_twin_simulation.proofs.SameLaws.{slot_is, no_class, last_is, one_more, is_added}
-use Rattle.jc_twin_simulation.proofs.PushedLaws.{item_off, past_prelude}
+use Rattle.jc_twin_simulation.proofs.PushedLaws.{item_off}
 use Rattle.jc_twin_simulation.proofs.SlotLaws.{get-shifted, read-shifted, get_own}
-use Rattle.jc_twin_simulation.proofs.TogetherLaws.{number_form}
+use Rattle.jc_twin_simulation.proofs.TogetherLaws.{number_form, past_prelude}
 
 -- ---- lists
 
@@ -185,7 +186,7 @@ module _ (p p' : Program) (sides : Entry → Side) (marks : Entry → Marks) (ar
         held = k.held;
         around = is;
         ready = λ b.
-            k.ready (past_prelude p p' sides f.method o.side (array_of t f.method.class) f'.place x v e here b)
+            k.ready (past_prelude p p' sides f.method o.side f'.place x v e here b)
             ∙ ap Some (ap (λ (m : Entry). array_in p' m.class) o.method ∙ array_is f.method o.side);
         narrow = k.narrow;
         apart = λ j q.
@@ -208,7 +209,7 @@ module _ (p p' : Program) (sides : Entry → Side) (marks : Entry → Marks) (ar
       let more : same.extra ≡ extra_of x = same_Some same.extra (extra_of x) (sym same.extra_is ∙ marked) in
       let body : body_of p' f'.method ≡ Some t.twin = ap (body_of p') o.method ∙ body_is p' f.method t.new t.twin o.side.new_is o.side.twin_is in
       let array : array_in p' f'.method.class ≡ a = ap (λ (e : Entry). array_in p' e.class) o.method ∙ array_is f.method o.side in
-      let pushed = subst (λ v. ArePushed v t.twin.code f'.place (extra_of x) f'.stack) array
+      let pushed = subst (λ v. ArePushed v t.twin f'.place (extra_of x) f'.stack) array
       (has.pushed t.twin (extra_of x) body (ap (λ e. slice_get (marks e).extra f'.place) o.method ∙ marked)) in
       record {
         one = o;
@@ -236,15 +237,15 @@ module _ (p p' : Program) (sides : Entry → Side) (marks : Entry → Marks) (ar
   no_number : (n op place : ℕ) → push n ≡ insns.Member op place → ⊥
   no_number n op place e = ⊎_elim (λ h. let no = sym h.1 ∙ e in cc) (λ h. let no = sym h.1 ∙ e in cc) (number_form n)
 
-  calling : (call v : ℕ) (x : Item) (insn : Insn) (op place : ℕ) → IsInsnOf call v x insn → insn ≡ insns.Member op place → IsCalling x
-  calling call v (start zero) insn op place h e = the_prelude refl
-  calling call v (image new at early) insn op place h e = an_image new at early refl
-  calling call v (start (suc k)) insn op place h e = let no = sym h ∙ e in cc
-  calling call v (probe_array id at late) insn op place h e = let no = sym h ∙ e in cc
-  calling call v (probe_id id at late) insn op place h e = absurd (no_number id op place (sym h ∙ e))
-  calling call v (probe_one id at late) insn op place h e = let no = sym h ∙ e in cc
-  calling call v (probe_store id at late) insn op place h e = let no = sym h ∙ e in cc
-  calling call v (hop to at due) insn op place h e = let no = sym h ∙ e in cc
+  calling : (uses : List Use) (call v : ℕ) (x : Item) (insn : Insn) (op place : ℕ) → IsInsnOf uses call v x insn → insn ≡ insns.Member op place → IsCalling x
+  calling uses call v (start zero) insn op place h e = the_prelude refl
+  calling uses call v (image new at early) insn op place h e = an_image new at early refl
+  calling uses call v (start (suc k)) insn op place h e = let no = sym h ∙ e in cc
+  calling uses call v (probe_array id at late) insn op place h e = let no = sym h ∙ e in cc
+  calling uses call v (probe_id id at late) insn op place h e = absurd (no_number id op place (sym h ∙ e))
+  calling uses call v (probe_one id at late) insn op place h e = let no = sym h ∙ e in cc
+  calling uses call v (probe_store id at late) insn op place h e = let no = sym h ∙ e in cc
+  calling uses call v (hop to at due) insn op place h e = let no = sym h ∙ e in cc
 
   -- the instruction at a place of a method that is there
   insn_there : (r : Program) (m : Entry) (q : ℕ) (i : LocatedInsn) (c : Linked) (b : Body) → slice_get r.classes m.class ≡ Some c
@@ -300,7 +301,7 @@ module _ (p p' : Program) (sides : Entry → Side) (marks : Entry → Marks) (ar
         (ap (λ m. located p' m f'.place) (sym h.one.method) ∙ w'.at_call.stands) in
         let twin = twin_insn p p' sides f.method side f'.place h.item h.here in
         let member = member_called p' w'.at_call.insn.at w'.at_call.insn.insn callee' w'.at_call.calls in
-        by (calling t.call t.body.arg_slots h.item twin.0 member.0 member.1 twin.2 (same_Some twin.0 w'.at_call.insn.insn (sym twin.1 ∙ there.0) ∙ member.2))
+        by (calling t.twin.uses t.call t.body.arg_slots h.item twin.0 member.0 member.1 twin.2 (same_Some twin.0 w'.at_call.insn.insn (sym twin.1 ∙ there.0) ∙ member.2))
       where
         goes_on : flow_of (insn_at (sides f.method).body.code f.place) ≡ flows.GoesOn
         goes_on =
@@ -486,12 +487,12 @@ module _ (p p' : Program) (sides : Entry → Side) (marks : Entry → Marks) (ar
             → SameStatics (extra_in (class_at p' class)) class (xs class) (xs' class)
         pair_of c here (new, there, inl pair) =
             subst (λ o. SameStatics o class (xs class) (xs' class))
-            (sym (ap extra_in there ∙ ap (λ b. if b then Some (count_in new.probes) else None) (unchanged_declares p.names p'.names c new pair)))
+            (sym (ap extra_in there ∙ ap (λ b. if b then Some (count_in new.probes) else None) (unchanged_data p.names p'.names c new pair)))
             (unchanged_same class c new there pair)
         pair_of c here (new, there, inr pair) =
             subst (λ o. SameStatics o class (xs class) (xs' class))
             (sym (ap extra_in there
-            ∙ ap (λ b. if b then Some (count_in new.probes) else None) (changed_declares p.names p'.names c new pair (are.added c new pair))))
+            ∙ ap (λ b. if b then Some (count_in new.probes) else None) (changed_data p.names p'.names c new pair)))
             (changed_same class c new here there pair)
 
         by : (o : Option Linked) → slice_get p.classes class ≡ o → SameStatics (extra_in (class_at p' class)) class (xs class) (xs' class)

@@ -35,7 +35,7 @@ use Rattle.jc_machine_model.specs.Begin.{number_value, first_value, first_static
 use Rattle.jc_twin_simulation.specs.Sides.{Side, count_in, IsSide, AreSides}
 use Rattle.jc_twin_simulation.specs.Mid.{SameFrame, extra_in, SameStatics, SameShared, SameThread, SameThreads, Mid}
 use Rattle.jc_twin_simulation.proofs.PlaceLaws.{place, position_place, place_there, place_before, place_last, place-map}
-use Rattle.jc_twin_simulation.proofs.ClassLaws.{class_same, class_there, unchanged_declares, changed_declares}
+use Rattle.jc_twin_simulation.proofs.ClassLaws.{class_same, class_there, unchanged_data, changed_data}
 use Rattle.jc_twin_simulation.proofs.EnterLaws.{static_slots, enters_same}
 use Rattle.jc_twin_simulation.proofs.MemberLaws.{enterable_same, entered_static}
 use Rattle.jc_twin_simulation.proofs.SameLaws.{no_class}
@@ -64,11 +64,11 @@ module _ (p p' : Program) (sides : Entry → Side) (are : AreSides p p' sides) w
       → SameStatics (extra_in (class_at p' class)) class (values c) (values new)
   statics_by class c new there (inl pair) =
       subst (λ o. SameStatics o class (values c) (values new))
-      (sym (ap extra_in there ∙ ap (λ b. if b then Some (count_in new.probes) else None) (unchanged_declares p.names p'.names c new pair)))
+      (sym (ap extra_in there ∙ ap (λ b. if b then Some (count_in new.probes) else None) (unchanged_data p.names p'.names c new pair)))
       (ap (map first_value) pair.statics)
   statics_by class c new there (inr pair) =
       subst (λ o. SameStatics o class (values c) (values new))
-      (sym (ap extra_in there ∙ ap (λ b. if b then Some (count_in new.probes) else None) (changed_declares p.names p'.names c new pair (are.added c new pair))))
+      (sym (ap extra_in there ∙ ap (λ b. if b then Some (count_in new.probes) else None) (changed_data p.names p'.names c new pair)))
       (false, ap (map first_value) pair.statics ∙ map_append first_value c.statics data_static ∙ ap (λ v. map first_value c.statics ++ v ∷ []) data_first)
 
   statics_at : (class : ℕ) (o : Option Linked) → slice_get p.classes class ≡ o

@@ -18,6 +18,7 @@ use Rattle.jc_programs.specs.Members.{class_named, method_named, static_named}
 use Rattle.jc_plan.specs.Probed.{probe_count}
 use Rattle.jc_emit.specs.TwinProgram.{AreSameBodies, AreTwinBodies, IsPair, IsChangedPair, IsUnchangedPair, DifferInName, data_static}
 use Rattle.jc_machine_model.specs.Methods.{is_init_name, declares_init}
+use Rattle.jc_twin_simulation.specs.Mid.{has_data}
 use Rattle.jc_twin_simulation.proofs.PlaceLaws.{place, position_place, place_there, place_before, place_last, place_none, place_is, any_at, none_at, place-map}
 
 -- ---- names
@@ -230,3 +231,20 @@ pub changed_declares : (names new_names : Names) (c new : Linked) (pair : IsChan
     → slice_get new.bodies (length c.bodies) ≡ Some pair.added → declares_init new ≡ true
 changed_declares names new_names c new pair e =
     any_at (λ (b : Body). is_init_name b.name) new.bodies (length c.bodies) pair.added e (same_bytes pair.added.name init_name pair.added_is.name)
+
+-- ---- which classes have `$jacocoData`
+
+last_field : (fields : List StaticField) (f : StaticField) → slice_get (fields ++ f ∷ []) (length fields) ≡ Some f
+last_field [] f = refl
+last_field (g ∷ fields) f = last_field fields f
+
+pub unchanged_data : (names new_names : Names) (c new : Linked) → IsUnchangedPair names new_names c new → has_data new ≡ false
+unchanged_data names new_names c new pair =
+    ap (list_any (λ (f : StaticField). bytes_eq f.name data_name)) pair.statics
+    ∙ none_at (λ (f : StaticField). bytes_eq f.name data_name) c.statics
+    (λ k f e. other_name f.name data_name (λ same. pair.none_added.statics f (stands_in c.statics k f e) same))
+
+pub changed_data : (names new_names : Names) (c new : Linked) → IsChangedPair names new_names c new → has_data new ≡ true
+changed_data names new_names c new pair =
+    any_at (λ (f : StaticField). bytes_eq f.name data_name) new.statics (length c.statics) data_static
+    (ap (λ l. slice_get l (length c.statics)) pair.statics ∙ last_field c.statics data_static) (same_bytes data_name data_name refl)

@@ -36,7 +36,7 @@ use Rattle.jc_machine_model.specs.Step.{result_of}
 use Rattle.jc_twin_simulation.specs.Sides.{Side, count_in, IsChanged, IsSide, AreSides}
 use Rattle.jc_twin_simulation.specs.Mid.{null_or, InitStep, reads_field, doubles, asks_null, clears, wants_id, wants_text, wants_count, fetches_array, keeps_array, writes_field, gives_back, step_place, step_stack, extra_in, values_of, SameShared}
 use Rattle.jc_twin_simulation.proofs.StaticLaws.{reads_extra, puts_extra}
-use Rattle.jc_twin_simulation.proofs.ClassLaws.{class_same, class_again, data_found}
+use Rattle.jc_twin_simulation.proofs.ClassLaws.{class_same, class_again, changed_data, data_found}
 use Rattle.jc_twin_simulation.proofs.FrameLaws.{location, result_is}
 use Rattle.jc_twin_simulation.proofs.AsideLaws.{pushes_number}
 
@@ -159,7 +159,7 @@ module _ (p p' : Program) (sides : Entry → Side) where
     extra : extra_in (class_at p' k) ≡ Some init.count
     extra =
         ap extra_in side.new_is
-        ∙ ap (λ b. if b then Some (count_in t.new.probes) else None) c.declares
+        ∙ ap (λ b. if b then Some (count_in t.new.probes) else None) (changed_data p.names p'.names t.class t.new c.pair)
         ∙ ap (λ o. Some (count_in o)) c.pair.probes
 
     may_name : (q : ℕ) → may_name_field (at q) k data_name ≡ true

@@ -1,23 +1,23 @@
 -- What the prelude or a probe has pushed, from the instructions in front.
-use Rattle.std.proofs.Common.{◌≡◌, ⊎_elim, ℕ, ℤ, zero, suc, ◌+◌, ◌-◌, ◌<◌, ◌≤◌, pos, Bool, true, false, List, [], ◌∷◌, ◌++◌, drop, Some, nat_le, refl, sym, ap, ap₂, ◌∙◌, subst, arith, if◌then◌else◌}
+use Rattle.std.proofs.Common.{◌≡◌, ⊎_elim, ℕ, ℤ, zero, suc, ◌+◌, ◌-◌, pos, Bool, true, false, List, [], ◌∷◌, ◌++◌, drop, Some, nat_le, nat_lt, refl, sym, ap, ap₂, ◌∙◌, subst, subst₂, arith, if◌then◌else◌}
 use Rattle.std.specs.Prelude.{slice_get}
-use Rattle.std.proofs.lemmas.Bool.{cases_lt, lt-ltb}
 use Rattle.std.proofs.lemmas.Option.{same_Some}
 use Rattle.jc_methods.specs.Opcode as opcode
 use Rattle.jc_methods.specs.declared.insn.Insn.{Insn}
 use Rattle.jc_methods.specs.declared.insn.Insn.TheVariants as insns
+use Rattle.jc_methods.specs.declared.body.Use.{Use}
 use Rattle.jc_programs.specs.declared.program.Program.{Program}
 use Rattle.jc_programs.specs.declared.run_end.Entry.{Entry}
-use Rattle.jc_emit.specs.Items.{Item, start, image, probe_array, probe_id, probe_one, probe_store, hop, extra_of}
-use Rattle.jc_emit.specs.Local.{IsBehind, OkStart, StartsOn}
+use Rattle.jc_emit.specs.Items.{Item, start, image, probe_array, probe_id, probe_one, probe_store, hop, own_of, extra_of}
+use Rattle.jc_emit.specs.Local.{IsBehind}
 use Rattle.jc_emit.specs.Marks.{push, prelude_size}
 use Rattle.jc_emit.proofs.ProbeLaws.{same_number}
 use Rattle.jc_machine_model.specs.Values.{Value, int}
 use Rattle.jc_twin_simulation.specs.Sides.{Side, IsSide}
 use Rattle.jc_twin_simulation.specs.Mid.{pushed_of}
-use Rattle.jc_twin_simulation.specs.Together.{IsPushedBy, ArePushed}
+use Rattle.jc_twin_simulation.specs.Together.{IsPushedBy, IsPushedIn, ArePushed}
 use Rattle.jc_twin_simulation.proofs.FrameLaws.{twin_insn}
-use Rattle.jc_twin_simulation.proofs.TogetherLaws.{number_form, start_behind, id_behind, one_behind, last_behind}
+use Rattle.jc_twin_simulation.proofs.TogetherLaws.{number_form, start_within, aside_past, start_behind, id_behind, one_behind, last_behind}
 
 -- ---- what was pushed
 
@@ -36,13 +36,13 @@ number_told n = by (nat_le n 5) (nat_le n 127)
     by false true = refl
     by false false = refl
 
-number_is : (array : Value) (insn : Insn) (n : ℕ) (v : Value) → insn ≡ push n → IsPushedBy array insn v → v ≡ int (pos n)
-number_is array insn n v e h = ⊎_elim
+number_is : (uses : List Use) (array : Value) (insn : Insn) (n : ℕ) (v : Value) → insn ≡ push n → IsPushedBy uses array insn v → v ≡ int (pos n)
+number_is uses array insn n v e h = ⊎_elim
     (λ f.
-    let k = subst (λ i. IsPushedBy array i v) (e ∙ f.1) h in
+    let k = subst (λ i. IsPushedBy uses array i v) (e ∙ f.1) h in
     k.2 ∙ ap (λ j. int (pos j)) (sym (same_number n k.0 (f.1 ∙ k.1))))
     (λ f.
-    let k = subst (λ i. IsPushedBy array i v) (e ∙ f.1) h in
+    let k = subst (λ i. IsPushedBy uses array i v) (e ∙ f.1) h in
     k.2 ∙ ap (λ j. int (pos j)) (sym (same_number n k.0 (f.1 ∙ k.1))))
     (number_form n)
 
@@ -51,14 +51,14 @@ module _ (p p' : Program) (sides : Entry → Side) (m : Entry) (side : IsSide p 
   t = sides m
 
   abbrev Pushed : ℕ → ℕ → List Value → Type 0
-  Pushed q extra stack = ArePushed a t.twin.code q extra stack
+  Pushed q extra stack = ArePushed a t.twin q extra stack
 
   -- one value less, by the instruction in front
   record Down (r n : ℕ) (insn : Insn) (stack : List Value) : Type 0 where
     top : Value
     rest : List Value
     is : stack ≡ top ∷ rest
-    by : IsPushedBy a insn top
+    by : IsPushedIn (nat_lt r prelude_size) t.twin.uses a insn top
     below : Pushed r n rest
 
   down : (q n r : ℕ) (insn : Insn) (stack : List Value) → q ≡ suc r → slice_get t.twin.code r ≡ Some insn → Pushed q (suc n) stack → Down r n insn stack
@@ -70,23 +70,30 @@ module _ (p p' : Program) (sides : Entry → Side) (m : Entry) (side : IsSide p 
         top = v;
         rest = stack;
         is = refl;
-        by = subst (λ i. IsPushedBy a i v) same k.4;
+        by = subst₂ (λ j i. IsPushedIn (nat_lt j prelude_size) t.twin.uses a i v) place same k.4;
         below = subst (λ j. Pushed j n stack) place k.5;
       }
 
-  store_off : (q : ℕ) (st : List Value) → slice_get t.items q ≡ Some (start 1) → Pushed q 1 st → st ≡ a ∷ drop 1 st
-  store_off q st here k =
-      let f = start_behind p p' sides m side q 0 here in
-      let c = twin_insn p p' sides m side f.place (start 0) f.here in
+  -- by an instruction of a probe
+  by_probe : (q : ℕ) (x : Item) (insn : Insn) (v : Value) → slice_get t.items q ≡ Some x → own_of x ≡ false → IsBehind x
+      → IsPushedIn (nat_lt q prelude_size) t.twin.uses a insn v → IsPushedBy t.twin.uses a insn v
+  by_probe q x insn v here aside b h = subst (λ s. IsPushedIn s t.twin.uses a insn v) (aside_past p p' sides m side q x here aside b) h
+
+  start_off : (q n : ℕ) (st : List Value) → slice_get t.items q ≡ Some (start (suc n)) → Pushed q 1 st → st ≡ a ∷ drop 1 st
+  start_off q n st here k =
+      let f = start_behind p p' sides m side q n here in
+      let c = twin_insn p p' sides m side f.place (start n) f.here in
       let d = down q 0 f.place c.0 st f.next c.1 k in
-      d.is ∙ ap (λ v. v ∷ d.rest) (subst (λ i. IsPushedBy a i d.top) c.2 d.by) ∙ ap (λ l. a ∷ drop 1 l) (sym d.is)
+      let top = subst (λ s. IsPushedIn s t.twin.uses a c.0 d.top) (start_within p p' sides m side f.place n f.here) d.by in
+      d.is ∙ ap (λ v. v ∷ d.rest) top ∙ ap (λ l. a ∷ drop 1 l) (sym d.is)
 
   id_off : (q id at : ℕ) (late : Bool) (st : List Value) → slice_get t.items q ≡ Some (probe_id id at late) → Pushed q 1 st → st ≡ a ∷ drop 1 st
   id_off q id at late st here k =
       let f = id_behind p p' sides m side q id at late here in
       let c = twin_insn p p' sides m side f.place (probe_array id at late) f.here in
       let d = down q 0 f.place c.0 st f.next c.1 k in
-      d.is ∙ ap (λ v. v ∷ d.rest) (subst (λ i. IsPushedBy a i d.top) c.2 d.by) ∙ ap (λ l. a ∷ drop 1 l) (sym d.is)
+      let by = by_probe f.place (probe_array id at late) c.0 d.top f.here refl tt d.by in
+      d.is ∙ ap (λ v. v ∷ d.rest) (subst (λ i. IsPushedBy t.twin.uses a i d.top) c.2 by) ∙ ap (λ l. a ∷ drop 1 l) (sym d.is)
 
   one_off : (q id at : ℕ) (late : Bool) (st : List Value) → slice_get t.items q ≡ Some (probe_one id at late) → Pushed q 2 st
       → st ≡ int (pos id) ∷ a ∷ drop 2 st
@@ -94,7 +101,8 @@ module _ (p p' : Program) (sides : Entry → Side) (m : Entry) (side : IsSide p 
       let f = one_behind p p' sides m side q id at late here in
       let c = twin_insn p p' sides m side f.place (probe_id id at late) f.here in
       let d = down q 1 f.place c.0 st f.next c.1 k in
-      d.is ∙ ap₂ (λ v l. v ∷ l) (number_is a c.0 id d.top c.2 d.by) (id_off f.place id at late d.rest f.here d.below)
+      let by = by_probe f.place (probe_id id at late) c.0 d.top f.here refl tt d.by in
+      d.is ∙ ap₂ (λ v l. v ∷ l) (number_is t.twin.uses a c.0 id d.top c.2 by) (id_off f.place id at late d.rest f.here d.below)
       ∙ ap (λ l. int (pos id) ∷ a ∷ drop 2 l) (sym d.is)
 
   last_off : (q id at : ℕ) (late : Bool) (st : List Value) → slice_get t.items q ≡ Some (probe_store id at late) → Pushed q 3 st
@@ -103,30 +111,16 @@ module _ (p p' : Program) (sides : Entry → Side) (m : Entry) (side : IsSide p 
       let f = last_behind p p' sides m side q id at late here in
       let c = twin_insn p p' sides m side f.place (probe_one id at late) f.here in
       let d = down q 2 f.place c.0 st f.next c.1 k in
-      d.is ∙ ap₂ (λ v l. v ∷ l) (number_is a c.0 1 d.top c.2 d.by) (one_off f.place id at late d.rest f.here d.below)
+      let by = by_probe f.place (probe_one id at late) c.0 d.top f.here refl tt d.by in
+      d.is ∙ ap₂ (λ v l. v ∷ l) (number_is t.twin.uses a c.0 1 d.top c.2 by) (one_off f.place id at late d.rest f.here d.below)
       ∙ ap (λ l. int (pos 1) ∷ int (pos id) ∷ a ∷ drop 3 l) (sym d.is)
 
   pub item_off : (q : ℕ) (x : Item) (st : List Value) → slice_get t.items q ≡ Some x → Pushed q (extra_of x) st → st ≡ pushed_of a x ++ drop (extra_of x) st
   item_off q (start zero) st here k = refl
-  item_off q (start (suc zero)) st here k = store_off q st here k
-  item_off q (start (suc (suc n))) st here k = let ok = side.ok.ok q (start (suc (suc n))) here in let within = ok.within in absurd (omega (arith, within))
+  item_off q (start (suc n)) st here k = start_off q n st here k
   item_off q (image insn at early) st here k = refl
   item_off q (probe_array id at late) st here k = refl
   item_off q (probe_id id at late) st here k = id_off q id at late st here k
   item_off q (probe_one id at late) st here k = one_off q id at late st here k
   item_off q (probe_store id at late) st here k = last_off q id at late st here k
   item_off q (hop to at due) st here k = refl
-
-  -- the prelude stands at the beginning
-  begins : (v : ℕ) → t.slot ≡ Some v → (q : ℕ) → q < prelude_size → slice_get t.items q ≡ Some (start q)
-  begins v e zero lt = subst (OkStart t.body.code t.slot t.ids t.items) e side.ok.start
-  begins v e (suc q) lt =
-      let ok = side.ok.ok q (start q) (begins v e q (omega (arith, lt))) in
-      let next : q + 1 ≡ suc q = omega arith in
-      subst (λ k. slice_get t.items k ≡ Some (start (suc q))) next
-      (subst (λ more. StartsOn t.body.code t.slot t.ids t.items more q q) (lt-ltb (suc q) prelude_size lt) ok.next)
-
-  -- what isn't in the prelude stands behind it
-  pub past_prelude : (q : ℕ) (x : Item) (v : ℕ) → t.slot ≡ Some v → slice_get t.items q ≡ Some x → IsBehind x → prelude_size ≤ q
-  past_prelude q x v e here b =
-      ⊎_elim (λ lt. absurd (subst IsBehind (same_Some x (start q) (sym here ∙ begins v e q lt)) b)) (λ le. le) (cases_lt q prelude_size)

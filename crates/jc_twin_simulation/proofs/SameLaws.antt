@@ -21,7 +21,7 @@ use Rattle.jc_twin_simulation.specs.Same as spec
 use Rattle.jc_twin_simulation.specs.Sides.{Side, count_in, array_of, IsSide, AreSides, AreMarksOf}
 use Rattle.jc_twin_simulation.specs.Mid.{pushed_of, null_or, SameLocals, OneMethod, SameFrame, SameWait, SameWaits, extra_in, SameStatics, values_of, SameShared, SameThread, SameThreads, Mid}
 use Rattle.jc_twin_simulation.proofs.LocalLaws.{gets_local}
-use Rattle.jc_twin_simulation.proofs.ClassLaws.{unchanged_declares}
+use Rattle.jc_twin_simulation.proofs.ClassLaws.{unchanged_data}
 use Rattle.jc_twin_simulation.proofs.OwnTurnLaws.{new_no_init}
 use Rattle.jc_twin_simulation.proofs.TurnLaws.{inside_named}
 
@@ -157,7 +157,7 @@ module _ (p p' : Program) (sides : Entry → Side) where
                   → slice_get (values_of s' class) field ≡ slice_get (values_of s class) field
               by_pair (new, there, inl pair) =
                   values_same None class field (ap extra_in there
-                  ∙ ap (λ b. if b then Some (count_in new.probes) else None) (unchanged_declares p.names p'.names c new pair)) (λ last. refl)
+                  ∙ ap (λ b. if b then Some (count_in new.probes) else None) (unchanged_data p.names p'.names c new pair)) (λ last. refl)
               by_pair (new, there, inr pair) =
                   values_same (extra_in (class_at p' class)) class field refl
                   (λ last. absurd (true≢false (sym (is_added class c new there pair) ∙ ap (is_data p' class) (sym (ss.counts class c e) ∙ last) ∙ other)))

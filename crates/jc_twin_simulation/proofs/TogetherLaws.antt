@@ -1,8 +1,8 @@
 -- Worlds that belong together are so in terms of the two programs.
-use Rattle.std.proofs.Common.{◌≡◌, ◌⊎◌, inl, inr, ⊎_elim, ℕ, zero, suc, ◌+◌, ◌<◌, ◌≤◌, pos, Bool, true, false, List, [], ◌∷◌, ◌++◌, length, Option, Some, None, nat_le, refl, sym, ap, ◌∙◌, subst, arith, if◌then◌else◌}
+use Rattle.std.proofs.Common.{◌≡◌, ◌⊎◌, inl, inr, ⊎_elim, ℕ, zero, suc, ◌+◌, ◌<◌, ◌≤◌, pos, Bool, true, false, List, [], ◌∷◌, ◌++◌, length, Option, Some, None, nat_le, nat_lt, refl, sym, ap, ◌∙◌, subst, arith, if◌then◌else◌}
 use Rattle.std.specs.Prelude.{slice_get, slice_index_or}
 use Rattle.std.specs.List.{AllByRecursion}
-use Rattle.std.proofs.lemmas.Bool.{true≢false, lt-ltb}
+use Rattle.std.proofs.lemmas.Bool.{true≢false, cases_lt, lt-ltb, le-ltb}
 use Rattle.std.proofs.lemmas.Option.{none-some, same_Some}
 use Rattle.jc_bytes.proofs.BooleanLaws.{stands_in}
 use Rattle.jc_methods.specs.Opcode as opcode
@@ -10,14 +10,16 @@ use Rattle.jc_methods.specs.ProbeMembers.{data_name}
 use Rattle.jc_methods.specs.declared.insn.Insn.{Insn}
 use Rattle.jc_methods.specs.declared.insn.Insn.TheVariants as insns
 use Rattle.jc_methods.specs.declared.body.Body.{Body}
+use Rattle.jc_methods.specs.declared.body.Use.{Use}
 use Rattle.jc_programs.specs.declared.program.Program.{Program}
 use Rattle.jc_programs.specs.declared.program.Linked.{Linked}
 use Rattle.jc_programs.specs.declared.program.StaticField.{StaticField}
 use Rattle.jc_programs.specs.declared.run_end.Entry.{Entry}
 use Rattle.jc_programs.specs.Members.{class_at, body_of}
-use Rattle.jc_emit.specs.Items.{Item, start, image, probe_array, probe_id, probe_one, probe_store, hop, extra_of}
-use Rattle.jc_emit.specs.Local.{IsBehind}
+use Rattle.jc_emit.specs.Items.{Item, start, image, probe_array, probe_id, probe_one, probe_store, hop, own_of, extra_of}
+use Rattle.jc_emit.specs.Local.{IsBehind, OkStart, StartsOn}
 use Rattle.jc_emit.specs.Marks.{Marks, push, prelude_size}
+use Rattle.jc_emit.specs.Seen.{IsPlain}
 use Rattle.jc_emit.specs.TwinProgram.{IsPair, data_static}
 use Rattle.jc_emit.proofs.ToldLaws.{mapped}
 use Rattle.jc_machine_model.specs.Values.{Value, int, probes}
@@ -27,8 +29,8 @@ use Rattle.jc_twin_simulation.specs.ProbeRuns.{MayFollow, IsFirst}
 use Rattle.jc_twin_simulation.specs.Same.{twin_slot, array_slot, is_named_data, is_data_in, is_data}
 use Rattle.jc_twin_simulation.specs.Sides.{Side, count_in, array_of, IsSide, AreSides, AreMarksOf}
 use Rattle.jc_twin_simulation.specs.Mid.{pushed_of, null_or, step_stack, SameLocals, OneMethod, SameFrame, SameWaits, extra_in, SameStatics, values_of, SameShared, SameThread, SameThreads, Mid}
-use Rattle.jc_twin_simulation.specs.Together.{count_of, array_in, IsPushedBy, ArePushed, KeepsArray, HasProbeState, HasTopState, HasState, IsStuckWithin, Together}
-use Rattle.jc_twin_simulation.proofs.ClassLaws.{other_name, changed_declares}
+use Rattle.jc_twin_simulation.specs.Together.{count_of, array_in, IsPushedBy, IsPushedIn, ArePushed, KeepsArray, HasProbeState, HasTopState, HasState, IsStuckWithin, Together}
+use Rattle.jc_twin_simulation.proofs.ClassLaws.{other_name, changed_data}
 use Rattle.jc_twin_simulation.proofs.FrameLaws.{body_is, twin_insn}
 use Rattle.jc_twin_simulation.proofs.LocalLaws.{reads_local}
 use Rattle.jc_twin_simulation.proofs.OwnTurnLaws.{new_no_init}
@@ -50,10 +52,10 @@ number_form n = by (nat_le n 5) (nat_le n 127)
     by false true = inr (_, refl)
     by false false = inr (_, refl)
 
-number_pushed : (array : Value) (insn : Insn) (n : ℕ) → insn ≡ push n → IsPushedBy array insn (int (pos n))
-number_pushed array insn n e = ⊎_elim
-    (λ h. subst (λ i. IsPushedBy array i (int (pos n))) (sym (e ∙ h.1)) (n, sym h.1, refl))
-    (λ h. subst (λ i. IsPushedBy array i (int (pos n))) (sym (e ∙ h.1)) (n, sym h.1, refl))
+number_pushed : (uses : List Use) (array : Value) (insn : Insn) (n : ℕ) → insn ≡ push n → IsPushedBy uses array insn (int (pos n))
+number_pushed uses array insn n e = ⊎_elim
+    (λ h. subst (λ i. IsPushedBy uses array i (int (pos n))) (sym (e ∙ h.1)) (n, sym h.1, refl))
+    (λ h. subst (λ i. IsPushedBy uses array i (int (pos n))) (sym (e ∙ h.1)) (n, sym h.1, refl))
     (number_form n)
 
 -- ---- each item of a probe has the others in front of it
@@ -85,47 +87,7 @@ module _ (p p' : Program) (sides : Entry → Side) (m : Entry) (side : IsSide p 
   pub last_behind : (q id at : ℕ) (late : Bool) → slice_get t.items q ≡ Some (probe_store id at late) → Behind q (probe_one id at late)
   last_behind q id at late here = behind q (probe_one id at late) (probe_store id at late) here (λ h. h) (λ z h. h)
 
-  -- ---- what was pushed
-
-  module _ (a : Value) where
-    abbrev Pushed : ℕ → ℕ → List Value → Type 0
-    Pushed q extra stack = ArePushed a t.twin.code q extra stack
-
-    store_pushed : (q : ℕ) (st : List Value) → slice_get t.items q ≡ Some (start 1) → Pushed q 1 (a ∷ st)
-    store_pushed q st here =
-        let f = start_behind q 0 here in
-        let c = twin_insn p p' sides m side f.place (start 0) f.here in
-        (f.place, c.0, f.next, c.1, subst (λ i. IsPushedBy a i a) (sym c.2) refl, tt)
-
-    id_pushed : (q id at : ℕ) (late : Bool) (st : List Value) → slice_get t.items q ≡ Some (probe_id id at late) → Pushed q 1 (a ∷ st)
-    id_pushed q id at late st here =
-        let f = id_behind q id at late here in
-        let c = twin_insn p p' sides m side f.place (probe_array id at late) f.here in
-        (f.place, c.0, f.next, c.1, subst (λ i. IsPushedBy a i a) (sym c.2) refl, tt)
-
-    one_pushed : (q id at : ℕ) (late : Bool) (st : List Value) → slice_get t.items q ≡ Some (probe_one id at late) → Pushed q 2 (int (pos id) ∷ a ∷ st)
-    one_pushed q id at late st here =
-        let f = one_behind q id at late here in
-        let c = twin_insn p p' sides m side f.place (probe_id id at late) f.here in
-        (f.place, c.0, f.next, c.1, number_pushed a c.0 id c.2, id_pushed f.place id at late st f.here)
-
-    last_pushed : (q id at : ℕ) (late : Bool) (st : List Value) → slice_get t.items q ≡ Some (probe_store id at late)
-        → Pushed q 3 (int (pos 1) ∷ int (pos id) ∷ a ∷ st)
-    last_pushed q id at late st here =
-        let f = last_behind q id at late here in
-        let c = twin_insn p p' sides m side f.place (probe_one id at late) f.here in
-        (f.place, c.0, f.next, c.1, number_pushed a c.0 1 c.2, one_pushed f.place id at late st f.here)
-
-    pub item_pushed : (q : ℕ) (x : Item) (st : List Value) → slice_get t.items q ≡ Some x → Pushed q (extra_of x) (pushed_of a x ++ st)
-    item_pushed q (start zero) st here = tt
-    item_pushed q (start (suc zero)) st here = store_pushed q st here
-    item_pushed q (start (suc (suc k))) st here = let ok = side.ok.ok q (start (suc (suc k))) here in let within = ok.within in absurd (omega (arith, within))
-    item_pushed q (image insn at early) st here = tt
-    item_pushed q (probe_array id at late) st here = tt
-    item_pushed q (probe_id id at late) st here = id_pushed q id at late st here
-    item_pushed q (probe_one id at late) st here = one_pushed q id at late st here
-    item_pushed q (probe_store id at late) st here = last_pushed q id at late st here
-    item_pushed q (hop to at due) st here = tt
+  -- ---- the prelude
 
   -- behind the prelude
   pub behind_prelude : (q : ℕ) (x : Item) → slice_get t.items q ≡ Some x → prelude_size ≤ q → IsBehind x
@@ -134,6 +96,82 @@ module _ (p p' : Program) (sides : Entry → Side) (m : Entry) (side : IsSide p 
       let place = ok.place in let within = ok.within in
       absurd (omega (arith, place, within, le))
   behind_prelude q other here le = tt
+
+  -- the prelude stands at the beginning
+  begins : (v : ℕ) → t.slot ≡ Some v → (q : ℕ) → q < prelude_size → slice_get t.items q ≡ Some (start q)
+  begins v e zero lt = subst (OkStart t.body.code t.slot t.ids t.items) e side.ok.start
+  begins v e (suc q) lt =
+      let ok = side.ok.ok q (start q) (begins v e q (omega (arith, lt))) in
+      let next : q + 1 ≡ suc q = omega arith in
+      subst (λ k. slice_get t.items k ≡ Some (start (suc q))) next
+      (subst (λ more. StartsOn t.body.code t.slot t.ids t.items more q q) (lt-ltb (suc q) prelude_size lt) ok.next)
+
+  -- what isn't in the prelude stands behind it
+  pub past_prelude : (q : ℕ) (x : Item) (v : ℕ) → t.slot ≡ Some v → slice_get t.items q ≡ Some x → IsBehind x → prelude_size ≤ q
+  past_prelude q x v e here b =
+      ⊎_elim (λ lt. absurd (subst IsBehind (same_Some x (start q) (sym here ∙ begins v e q lt)) b)) (λ le. le) (cases_lt q prelude_size)
+
+  -- whether an instruction of the prelude or of a probe is in the prelude is told by its place
+  pub start_within : (q k : ℕ) → slice_get t.items q ≡ Some (start k) → nat_lt q prelude_size ≡ true
+  start_within q k here =
+      let ok = side.ok.ok q (start k) here in
+      let place = ok.place in let within = ok.within in
+      lt-ltb q prelude_size (omega (arith, place, within))
+
+  pub aside_past : (q : ℕ) (x : Item) → slice_get t.items q ≡ Some x → own_of x ≡ false → IsBehind x → nat_lt q prelude_size ≡ false
+  aside_past q x here aside b = le-ltb q prelude_size (by t.slot refl)
+    where
+      by : (o : Option ℕ) → t.slot ≡ o → prelude_size ≤ q
+      by None e = absurd (true≢false (sym (subst (λ s. IsPlain s t.items) e side.plain q x here) ∙ aside))
+      by (Some v) e = past_prelude q x v e here b
+
+  -- ---- what was pushed
+
+  module _ (a : Value) where
+    abbrev Pushed : ℕ → ℕ → List Value → Type 0
+    Pushed q extra stack = ArePushed a t.twin q extra stack
+
+    by_probe : (q : ℕ) (x : Item) (insn : Insn) (v : Value) → slice_get t.items q ≡ Some x → own_of x ≡ false → IsBehind x
+        → IsPushedBy t.twin.uses a insn v → IsPushedIn (nat_lt q prelude_size) t.twin.uses a insn v
+    by_probe q x insn v here aside b h = subst (λ s. IsPushedIn s t.twin.uses a insn v) (sym (aside_past q x here aside b)) h
+
+    start_pushed : (q k : ℕ) (st : List Value) → slice_get t.items q ≡ Some (start (suc k)) → Pushed q 1 (a ∷ st)
+    start_pushed q k st here =
+        let f = start_behind q k here in
+        let c = twin_insn p p' sides m side f.place (start k) f.here in
+        (f.place, c.0, f.next, c.1, subst (λ s. IsPushedIn s t.twin.uses a c.0 a) (sym (start_within f.place k f.here)) refl, tt)
+
+    id_pushed : (q id at : ℕ) (late : Bool) (st : List Value) → slice_get t.items q ≡ Some (probe_id id at late) → Pushed q 1 (a ∷ st)
+    id_pushed q id at late st here =
+        let f = id_behind q id at late here in
+        let c = twin_insn p p' sides m side f.place (probe_array id at late) f.here in
+        let by = by_probe f.place (probe_array id at late) c.0 a f.here refl tt (subst (λ i. IsPushedBy t.twin.uses a i a) (sym c.2) refl) in
+        (f.place, c.0, f.next, c.1, by, tt)
+
+    one_pushed : (q id at : ℕ) (late : Bool) (st : List Value) → slice_get t.items q ≡ Some (probe_one id at late) → Pushed q 2 (int (pos id) ∷ a ∷ st)
+    one_pushed q id at late st here =
+        let f = one_behind q id at late here in
+        let c = twin_insn p p' sides m side f.place (probe_id id at late) f.here in
+        let by = by_probe f.place (probe_id id at late) c.0 (int (pos id)) f.here refl tt (number_pushed t.twin.uses a c.0 id c.2) in
+        (f.place, c.0, f.next, c.1, by, id_pushed f.place id at late st f.here)
+
+    last_pushed : (q id at : ℕ) (late : Bool) (st : List Value) → slice_get t.items q ≡ Some (probe_store id at late)
+        → Pushed q 3 (int (pos 1) ∷ int (pos id) ∷ a ∷ st)
+    last_pushed q id at late st here =
+        let f = last_behind q id at late here in
+        let c = twin_insn p p' sides m side f.place (probe_one id at late) f.here in
+        let by = by_probe f.place (probe_one id at late) c.0 (int (pos 1)) f.here refl tt (number_pushed t.twin.uses a c.0 1 c.2) in
+        (f.place, c.0, f.next, c.1, by, one_pushed f.place id at late st f.here)
+
+    pub item_pushed : (q : ℕ) (x : Item) (st : List Value) → slice_get t.items q ≡ Some x → Pushed q (extra_of x) (pushed_of a x ++ st)
+    item_pushed q (start zero) st here = tt
+    item_pushed q (start (suc k)) st here = start_pushed q k st here
+    item_pushed q (image insn at early) st here = tt
+    item_pushed q (probe_array id at late) st here = tt
+    item_pushed q (probe_id id at late) st here = id_pushed q id at late st here
+    item_pushed q (probe_one id at late) st here = one_pushed q id at late st here
+    item_pushed q (probe_store id at late) st here = last_pushed q id at late st here
+    item_pushed q (hop to at due) st here = tt
 
 -- ---- frames
 
@@ -160,10 +198,10 @@ module _ (p p' : Program) (sides : Entry → Side) (marks : Entry → Marks) (ar
             same_Some (extra_of x) extra
             (sym (ap (λ l. slice_get l f'.place) (told f.method o.side).extra ∙ mapped extra_of t.items f'.place x here)
             ∙ ap (λ e. slice_get (marks e).extra f'.place) (sym m) ∙ k) in
-            subst (λ y. ArePushed y b.code f'.place extra f'.stack) (sym array)
-            (subst (λ (z : Body). ArePushed a z.code f'.place extra f'.stack) body2
-            (subst (λ n. ArePushed a t.twin.code f'.place n f'.stack) more
-            (subst (ArePushed a t.twin.code f'.place (extra_of x)) (sym st) (item_pushed p p' sides f.method o.side a f'.place x f.stack here))));
+            subst (λ y. ArePushed y b f'.place extra f'.stack) (sym array)
+            (subst (λ (z : Body). ArePushed a z f'.place extra f'.stack) body2
+            (subst (λ n. ArePushed a t.twin f'.place n f'.stack) more
+            (subst (ArePushed a t.twin f'.place (extra_of x)) (sym st) (item_pushed p p' sides f.method o.side a f'.place x f.stack here))));
         array = λ v e. keeps v (sym (slot_is p p' sides f.method o.side) ∙ ap (array_slot p') (sym m) ∙ e);
       }
     where
@@ -263,7 +301,7 @@ module _ (p p' : Program) (sides : Entry → Side) (marks : Entry → Marks) (ar
         (λ old. absurd (n.2 (λ name. pair.none_added.statics n.0 (stands_in c.statics field n.0 old) (inr name))))
         (λ last.
         let extra : extra_in (class_at p' class) ≡ Some (count_in new.probes) =
-        ap extra_in there ∙ ap (λ b. if b then Some (count_in new.probes) else None) (changed_declares p.names p'.names c new pair (are.added c new pair)) in
+        ap extra_in there ∙ ap (λ b. if b then Some (count_in new.probes) else None) (changed_data p.names p'.names c new pair) in
         let is = subst (λ o. SameStatics o class (values_of s class) (values_of s' class)) extra (ss.statics class) in
         let array : probes class (count_in new.probes) ≡ array_in p' class = sym (ap (λ o. probes class (count_of o)) there) in
         let at : field ≡ length (values_of s class) = last.0 ∙ sym (ss.counts class c here) in (

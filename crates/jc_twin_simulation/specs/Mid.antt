@@ -1,10 +1,13 @@
 -- The simulation relation: worlds of a program and of its twin that belong together. Each turn keeps it.
-use Rattle.std.specs.Prelude.{◌≡◌, ◌⊎◌, ℕ, suc, ◌+◌, ◌≤◌, pos, Bool, true, false, List, [], ◌∷◌, ◌++◌, length, Option, Some, None, insert, if◌then◌else◌, ⊤, slice_get, slice_index_or}
+use Rattle.std.specs.Prelude.{◌≡◌, ◌⊎◌, ℕ, suc, ◌+◌, ◌≤◌, pos, Bool, true, false, List, [], ◌∷◌, ◌++◌, length, Option, Some, None, insert, if◌then◌else◌, ⊤, slice_get, slice_index_or, bytes_eq}
 use Rattle.std.specs.Int.{w64, cast_signed}
+use Rattle.std.specs.List.{list_any}
+use Rattle.jc_methods.specs.ProbeMembers.{data_name}
 use Rattle.jc_methods.specs.declared.insn.Insn.{Insn}
 use Rattle.jc_programs.specs.declared.program.Program.{Program}
 use Rattle.jc_programs.specs.declared.program.Linked.{Linked}
 use Rattle.jc_programs.specs.declared.program.ProbeInit.{ProbeInit}
+use Rattle.jc_programs.specs.declared.program.StaticField.{StaticField}
 use Rattle.jc_programs.specs.declared.run_end.Entry.{Entry}
 use Rattle.jc_programs.specs.Members.{class_at}
 use Rattle.jc_emit.specs.Items.{Item, start, image, probe_id, probe_one, probe_store, at_of}
@@ -12,7 +15,6 @@ use Rattle.jc_emit.specs.Local.{IsBehind}
 use Rattle.jc_machine_model.specs.Values.{Value, int, long, null, probes, text}
 use Rattle.jc_machine_model.specs.World.{Frame, Thread, running, returned, threw, stuck, Shared, World}
 use Rattle.jc_machine_model.specs.Locals.{is_pair_there}
-use Rattle.jc_machine_model.specs.Methods.{declares_init}
 use Rattle.jc_twin_simulation.specs.Sides.{Side, count_in, array_of, GoesOnAt, IsSide}
 
 -- ---- frames
@@ -89,12 +91,16 @@ step_stack class init gives_back = probes class init.count ∷ []
 
 -- ---- static fields
 
--- how many probes a changed class has
+-- the class has a field that keeps its probe array
+abbrev pub has_data : Linked → Bool
+has_data c = list_any (λ (f : StaticField). bytes_eq f.name data_name) c.statics
+
+-- how many probes a class has that keeps its array in a field
 abbrev pub extra_in : Option Linked → Option ℕ
 extra_in None = None
-extra_in (Some c) = if declares_init c then Some (count_in c.probes) else None
+extra_in (Some c) = if has_data c then Some (count_in c.probes) else None
 
--- a changed class has one static field more, which holds null or its probe array
+-- such a class has one static field more than the original, which holds null or its probe array
 abbrev pub SameStatics : Option ℕ → (class : ℕ) → List Value → List Value → Type 0
 SameStatics None class xs xs' = xs' ≡ xs
 SameStatics (Some count) class xs xs' = (found : Bool) × (xs' ≡ xs ++ (null_or found (probes class count) ∷ []))

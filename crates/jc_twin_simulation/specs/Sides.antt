@@ -68,7 +68,7 @@ pub record IsSide (p p' : Program) (method : Entry) (t : Side) : Type 0 where
   pub well : IsWellMadeOfAnySize t.body
   pub same : IsSameMethod t.body t.twin
   pub uses : KeepsUses t.body t.twin
-  pub code : AreInsnsOf t.call t.body.arg_slots t.items t.twin.code
+  pub code : AreInsnsOf t.twin.uses t.call t.body.arg_slots t.items t.twin.code
   pub plain : IsPlain t.slot t.items
   pub ok : AllOk t.body.code t.slot t.ids t.items
   pub ranked : IsRanked t.body.code t.ids t.items

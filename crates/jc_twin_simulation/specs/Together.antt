@@ -1,9 +1,10 @@
 -- The simulation relation in terms of the two programs: worlds that look the same, and what the twin's world has more.
-use Rattle.std.specs.Prelude.{◌≡◌, ⊤, ℕ, zero, suc, ◌≤◌, pos, Bool, true, false, List, [], ◌∷◌, Option, Some, None, slice_get, slice_index_or}
+use Rattle.std.specs.Prelude.{◌≡◌, ⊤, ℕ, zero, suc, ◌≤◌, pos, Bool, true, false, List, [], ◌∷◌, Option, Some, None, nat_lt, slice_get, slice_index_or}
 use Rattle.std.specs.List.{AllByRecursion}
 use Rattle.jc_methods.specs.declared.insn.Insn.{Insn}
 use Rattle.jc_methods.specs.declared.insn.Insn.TheVariants as insns
 use Rattle.jc_methods.specs.declared.body.Body.{Body}
+use Rattle.jc_methods.specs.declared.body.Use.{Use}
 use Rattle.jc_programs.specs.declared.program.Program.{Program}
 use Rattle.jc_programs.specs.declared.program.Linked.{Linked}
 use Rattle.jc_programs.specs.declared.program.ProbeInit.{ProbeInit}
@@ -36,18 +37,23 @@ array_in p' class = probes class (count_of (class_at p' class))
 
 -- ---- what was pushed
 
--- An instruction of the prelude or of a probe pushes the value: the probe array, or a number.
-abbrev pub IsPushedBy : (array : Value) → Insn → Value → Type 0
-IsPushedBy array (insns.Local op slot) v = v ≡ array
-IsPushedBy array (insns.Member op place) v = v ≡ array
-IsPushedBy array insn v = (n : ℕ) × Pushes insn n × (v ≡ int (pos n))
+-- Behind an instruction of a probe the value lies on the stack: the probe array, which was loaded, or a number.
+abbrev pub IsPushedBy : List Use → (array : Value) → Insn → Value → Type 0
+IsPushedBy uses array (insns.Local op slot) v = v ≡ array
+IsPushedBy uses array insn v = (n : ℕ) × Pushes uses insn n × (v ≡ int (pos n))
 
--- So many values on top of the stack are what the instructions directly in front of q have pushed.
-abbrev pub ArePushed : (array : Value) → List Insn → (q extra : ℕ) → List Value → Type 0
-ArePushed array code q zero stack = ⊤
-ArePushed array code q (suc n) [] = ⊥
-ArePushed array code q (suc n) (v ∷ stack) =
-    (r : ℕ) × (insn : Insn) × (q ≡ suc r) × (slice_get code r ≡ Some insn) × IsPushedBy array insn v × ArePushed array code r n stack
+-- Behind each instruction of the prelude it is the probe array.
+abbrev pub IsPushedIn : (in_prelude : Bool) → List Use → (array : Value) → Insn → Value → Type 0
+IsPushedIn true uses array insn v = v ≡ array
+IsPushedIn false uses array insn v = IsPushedBy uses array insn v
+
+-- So many values on top of the stack are what the instructions directly in front of q of a body have pushed.
+abbrev pub ArePushed : (array : Value) → Body → (q extra : ℕ) → List Value → Type 0
+ArePushed array b q zero stack = ⊤
+ArePushed array b q (suc n) [] = ⊥
+ArePushed array b q (suc n) (v ∷ stack) =
+    (r : ℕ) × (insn : Insn) × (q ≡ suc r) × (slice_get b.code r ≡ Some insn) × IsPushedIn (nat_lt r prelude_size) b.uses array insn v
+    × ArePushed array b r n stack
 
 module _ (p' : Program) (marks : Entry → Marks) where
   -- ---- frames
@@ -64,7 +70,7 @@ module _ (p' : Program) (marks : Entry → Marks) where
   -- of a method that isn't `$jacocoInit`
   pub record HasProbeState (f' : Frame) : Type 0 where
     pub pushed : (b : Body) (extra : ℕ) → body_of p' f'.method ≡ Some b → slice_get (marks f'.method).extra f'.place ≡ Some extra
-        → ArePushed (array_in p' f'.method.class) b.code f'.place extra f'.stack
+        → ArePushed (array_in p' f'.method.class) b f'.place extra f'.stack
     pub array : (v : ℕ) → array_slot p' f'.method ≡ Some v → KeepsArray f' v
 
   -- a frame of `$jacocoInit` has the stack that its code has made
