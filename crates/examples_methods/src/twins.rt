@@ -2,10 +2,12 @@
 //! computation.
 #![tactic(auto, unfolding(jc_emit::specs::Emission::emission, jc_emit::specs::Items::twin_items, jc_methods::specs::Widened::widened, jc_methods::specs::Flow::inverse_of))]
 
-ghost use Rattle.std.specs.Prelude.{◌≡◌, ◌+◌, false, true, negsuc, map};
+ghost use Rattle.std.specs.Prelude.{◌≡◌, ◌+◌, negsuc, map};
 ghost use Rattle.jc_methods.specs.Widened.{widened};
 ghost use Rattle.jc_methods.specs.declared.insn.Insn.TheVariants as insns;
 ghost use Rattle.jc_kinds_after.specs.Shift.{with_slot};
+ghost use Rattle.jc_emit.specs.Marks.{unplaced};
+ghost use Rattle.jc_emit.specs.Sizes.{narrow, widest};
 ghost use Rattle.jc_emit.specs.Emission.{emission};
 ghost use Rattle.jc_emit.specs.Items.{insn_of, at_of, own_of, twin_items};
 ghost use Rattle.jc_emit.specs.Shift.{shifted_state};
@@ -30,7 +32,7 @@ pub fn worked_abs()
     ensures extra { (emission abs 0 abs_states 0).extra ≡ abs_extra }
     ensures frames { (emission abs 0 abs_states 0).frames ≡ abs_new_frames }
     ensures wide_frames { (emission abs 0 abs_states 0).wide_frames ≡ abs_wide_frames }
-    ensures wide { map (insn_of 0 1) (twin_items abs 0 true) ≡ widened (map (insn_of 0 1) (twin_items abs 0 false)) }
+    ensures wide { map (insn_of unplaced 1) (twin_items abs 0 widest) ≡ widened (map (insn_of unplaced 1) (twin_items abs 0 narrow)) }
 {}
 
 /// A loop: a probe on the goto, and one on the return.
@@ -41,7 +43,7 @@ pub fn worked_counts_down()
     ensures extra { (emission counts_down 0 counts_down_states 0).extra ≡ counts_down_extra }
     ensures frames { (emission counts_down 0 counts_down_states 0).frames ≡ counts_down_new_frames }
     ensures wide_frames { (emission counts_down 0 counts_down_states 0).wide_frames ≡ counts_down_wide_frames }
-    ensures wide { map (insn_of 0 1) (twin_items counts_down 0 true) ≡ widened (map (insn_of 0 1) (twin_items counts_down 0 false)) }
+    ensures wide { map (insn_of unplaced 1) (twin_items counts_down 0 widest) ≡ widened (map (insn_of unplaced 1) (twin_items counts_down 0 narrow)) }
 {}
 
 /// A jump to the next instruction: a probe on each edge.
@@ -52,7 +54,7 @@ pub fn worked_jumps_to_next()
     ensures extra { (emission jumps_to_next 0 jumps_to_next_states 0).extra ≡ jumps_to_next_extra }
     ensures frames { (emission jumps_to_next 0 jumps_to_next_states 0).frames ≡ jumps_to_next_new_frames }
     ensures wide_frames { (emission jumps_to_next 0 jumps_to_next_states 0).wide_frames ≡ jumps_to_next_wide_frames }
-    ensures wide { map (insn_of 0 1) (twin_items jumps_to_next 0 true) ≡ widened (map (insn_of 0 1) (twin_items jumps_to_next 0 false)) }
+    ensures wide { map (insn_of unplaced 1) (twin_items jumps_to_next 0 widest) ≡ widened (map (insn_of unplaced 1) (twin_items jumps_to_next 0 narrow)) }
 {}
 
 /// A jump over a switch of two targets.
@@ -63,7 +65,7 @@ pub fn worked_switches()
     ensures extra { (emission switches 0 switches_states 0).extra ≡ switches_extra }
     ensures frames { (emission switches 0 switches_states 0).frames ≡ switches_new_frames }
     ensures wide_frames { (emission switches 0 switches_states 0).wide_frames ≡ switches_wide_frames }
-    ensures wide { map (insn_of 0 1) (twin_items switches 0 true) ≡ widened (map (insn_of 0 1) (twin_items switches 0 false)) }
+    ensures wide { map (insn_of unplaced 1) (twin_items switches 0 widest) ≡ widened (map (insn_of unplaced 1) (twin_items switches 0 narrow)) }
 {}
 
 /// Two exception rows with one handler.
@@ -75,14 +77,14 @@ pub fn worked_catches()
     ensures handlers { (emission catches 0 catches_states 1).handlers ≡ catches_new_rows }
     ensures frames { (emission catches 0 catches_states 1).frames ≡ catches_new_frames }
     ensures wide_frames { (emission catches 0 catches_states 1).wide_frames ≡ catches_wide_frames }
-    ensures wide { map (insn_of 0 1) (twin_items catches 0 true) ≡ widened (map (insn_of 0 1) (twin_items catches 0 false)) }
+    ensures wide { map (insn_of unplaced 1) (twin_items catches 0 widest) ≡ widened (map (insn_of unplaced 1) (twin_items catches 0 narrow)) }
 {}
 
 /// In the wide layout a conditional jump is its inverse over a goto, which is no image.
 pub fn worked_wide()
-    ensures code { map (insn_of 0 1) (twin_items jumps_to_next 0 true) ≡ wide_code }
-    ensures at { map at_of (twin_items jumps_to_next 0 true) ≡ wide_at }
-    ensures own { map own_of (twin_items jumps_to_next 0 true) ≡ wide_own }
+    ensures code { map (insn_of unplaced 1) (twin_items jumps_to_next 0 widest) ≡ wide_code }
+    ensures at { map at_of (twin_items jumps_to_next 0 widest) ≡ wide_at }
+    ensures own { map own_of (twin_items jumps_to_next 0 widest) ≡ wide_own }
 {}
 
 /// Lines and variables begin where jumps land, and end there or at the new end; one local variable and three slots of the

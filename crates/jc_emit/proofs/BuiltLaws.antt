@@ -11,7 +11,7 @@ use Rattle.jc_methods.specs.declared.body.Body.{Body}
 use Rattle.jc_plan.specs.declared.branch.Branch.{Branch}
 use Rattle.jc_plan.specs.Probed.{probe_of}
 use Rattle.jc_plan.specs.Plan.{lead_probe}
-use Rattle.jc_emit.specs.Sizes.{insn_at, early_probe, late_by, late_probe, arms_by, arms_at, probe_size, hop_size, arm_sizes, wide_by, behind_size}
+use Rattle.jc_emit.specs.Sizes.{TwinForm, is_wide, insn_at, early_probe, late_by, late_probe, arms_by, arms_at, probe_size, hop_size, arm_sizes, wide_by, behind_size}
 use Rattle.jc_emit.specs.Marks.{image_place}
 use Rattle.jc_methods.specs.Widened.{inverted}
 use Rattle.jc_emit.specs.TwinCode.{to_of}
@@ -66,45 +66,45 @@ plain_arms land ids (x ∷ xs) =
     trues_both (hop_part land (ids x) (to_of x)) (arm_parts land ids xs)
     ∙ omega (arith, plain_hop land (ids x) (to_of x), plain_arms land ids xs)
 
-module _ (b : Body) (first : ℕ) (wide : Bool) where
+module _ (b : Body) (first : ℕ) (form : TwinForm) where
   abbrev old : ℕ → Insn
   old i = insn_at b.code i
 
   abbrev behind : ℕ → ℕ
-  behind i = behind_size b first wide i
+  behind i = behind_size b first form i
 
   abbrev seg : ℕ → List Item
-  seg i = segment b first wide i
+  seg i = segment b first form i
 
   abbrev main : ℕ → Flow → List Item
-  main i flow = image_part b first wide i (old i) flow
+  main i flow = image_part b first form i (old i) flow
 
   abbrev size : ℕ → ℕ
-  size i = segment_size b first wide i
+  size i = segment_size b first form i
 
   -- what an instruction of this flow has behind its image
   abbrev behind_by : ℕ → Flow → ℕ
   behind_by i flow =
-      wide_by flow wide + hop_size (late_by (probe_of b first) i (old i) flow) + arm_sizes (probe_of b first) (arms_by i (old i) flow)
+      wide_by flow (is_wide form i) + hop_size (late_by (probe_of b first) i (old i) flow) + arm_sizes (probe_of b first) (arms_by i (old i) flow)
 
   pub size_is : (i : ℕ) (flow : Flow) → flow_of (old i) ≡ flow → behind i ≡ behind_by i flow
   size_is i flow e = ap (behind_by i) e
 
-  pub size_tests : (i : ℕ) → flow_of (old i) ≡ flows.Branches → behind i ≡ wide_by flows.Branches wide + hop_size (late_probe b first i) + 0
-  size_tests i e = ap (λ f. wide_by f wide + hop_size (late_probe b first i) + arm_sizes (probe_of b first) (arms_by i (old i) f)) e
+  pub size_tests : (i : ℕ) → flow_of (old i) ≡ flows.Branches → behind i ≡ wide_by flows.Branches (is_wide form i) + hop_size (late_probe b first i) + 0
+  size_tests i e = ap (λ f. wide_by f (is_wide form i) + hop_size (late_probe b first i) + arm_sizes (probe_of b first) (arms_by i (old i) f)) e
 
   pub size_switches : (i : ℕ) → flow_of (old i) ≡ flows.Switches → behind i ≡ 0 + 0 + arm_sizes (probe_of b first) (arms_at b.code i)
   size_switches i e =
-      ap (λ f. wide_by f wide + hop_size (late_by (probe_of b first) i (old i) f) + arm_sizes (probe_of b first) (arms_at b.code i)) e
+      ap (λ f. wide_by f (is_wide form i) + hop_size (late_by (probe_of b first) i (old i) f) + arm_sizes (probe_of b first) (arms_at b.code i)) e
 
   length-tests : (i : ℕ) (insn : Insn) (o : Option ℕ)
-      → length (tests_part b first wide i insn o) ≡ 1 + (wide_by flows.Branches wide + hop_size o + 0)
+      → length (tests_part b first form i insn o) ≡ 1 + (wide_by flows.Branches (is_wide form i) + hop_size o + 0)
   length-tests i insn None =
-      omega (arith, length-test wide (image_of b first wide i) (with_places (land_of b first wide) insn) i (jump_target insn) None)
+      omega (arith, length-test (is_wide form i) (image_of b first form i) (with_places (land_of b first form) insn) i (jump_target insn) None)
   length-tests i insn (Some id) =
-      let front = test_part wide (image_of b first wide i) (inverted (lead_of b first wide (i + 1)) insn) i (i + 1) (lead_probe b first (i + 1)) in
-      let more = length-append front (hop_part (land_of b first wide) (Some id) (jump_target insn)) in
-      let one = length-test wide (image_of b first wide i) (inverted (lead_of b first wide (i + 1)) insn) i (i + 1) (lead_probe b first (i + 1)) in
+      let front = test_part (is_wide form i) (image_of b first form i) (inverted (lead_of b first form (i + 1)) insn) i (i + 1) (lead_probe b first (i + 1)) in
+      let more = length-append front (hop_part (land_of b first form) (Some id) (jump_target insn)) in
+      let one = length-test (is_wide form i) (image_of b first form i) (inverted (lead_of b first form (i + 1)) insn) i (i + 1) (lead_probe b first (i + 1)) in
       omega (arith, more, one)
 
   length-main : (i : ℕ) (flow : Flow) → flow_of (old i) ≡ flow → length (main i flow) ≡ 1 + behind i
@@ -112,7 +112,7 @@ module _ (b : Body) (first : ℕ) (wide : Bool) where
   length-main i flows.Branches e = length-tests i (old i) (late_probe b first i) ∙ ap (λ k. 1 + k) (sym (size_tests i e))
   length-main i flows.Jumps e = ap (λ k. 1 + k) (sym (size_is i flows.Jumps e))
   length-main i flows.Switches e =
-      let l = length-arms (land_of b first wide) (probe_of b first) (arms_at b.code i) in
+      let l = length-arms (land_of b first form) (probe_of b first) (arms_at b.code i) in
       omega (arith, l, size_switches i e)
   length-main i flows.Returns e = ap (λ k. 1 + k) (sym (size_is i flows.Returns e))
   length-main i flows.Throws e = ap (λ k. 1 + k) (sym (size_is i flows.Throws e))
@@ -134,20 +134,20 @@ module _ (b : Body) (first : ℕ) (wide : Bool) where
   own_test false q insn i on due = refl
   own_test true q insn i on due = refl
 
-  own_tests : (i : ℕ) (insn : Insn) (o : Option ℕ) → trues (map own_of (tests_part b first wide i insn o)) ≡ 1
-  own_tests i insn None = own_test wide (image_of b first wide i) (with_places (land_of b first wide) insn) i (jump_target insn) None
+  own_tests : (i : ℕ) (insn : Insn) (o : Option ℕ) → trues (map own_of (tests_part b first form i insn o)) ≡ 1
+  own_tests i insn None = own_test (is_wide form i) (image_of b first form i) (with_places (land_of b first form) insn) i (jump_target insn) None
   own_tests i insn (Some id) =
-      let front = test_part wide (image_of b first wide i) (inverted (lead_of b first wide (i + 1)) insn) i (i + 1) (lead_probe b first (i + 1)) in
-      let one = own_test wide (image_of b first wide i) (inverted (lead_of b first wide (i + 1)) insn) i (i + 1) (lead_probe b first (i + 1)) in
-      let both = trues_both front (hop_part (land_of b first wide) (Some id) (jump_target insn)) in
-      let none = plain_hop (land_of b first wide) (Some id) (jump_target insn) in
+      let front = test_part (is_wide form i) (image_of b first form i) (inverted (lead_of b first form (i + 1)) insn) i (i + 1) (lead_probe b first (i + 1)) in
+      let one = own_test (is_wide form i) (image_of b first form i) (inverted (lead_of b first form (i + 1)) insn) i (i + 1) (lead_probe b first (i + 1)) in
+      let both = trues_both front (hop_part (land_of b first form) (Some id) (jump_target insn)) in
+      let none = plain_hop (land_of b first form) (Some id) (jump_target insn) in
       omega (arith, both, one, none)
 
   own_main : (i : ℕ) (flow : Flow) → trues (map own_of (main i flow)) ≡ 1
   own_main i flows.GoesOn = refl
   own_main i flows.Branches = own_tests i (old i) (late_probe b first i)
   own_main i flows.Jumps = refl
-  own_main i flows.Switches = ap suc (plain_arms (land_of b first wide) (probe_of b first) (arms_at b.code i))
+  own_main i flows.Switches = ap suc (plain_arms (land_of b first form) (probe_of b first) (arms_at b.code i))
   own_main i flows.Returns = refl
   own_main i flows.Throws = refl
 
@@ -167,13 +167,14 @@ module _ (b : Body) (first : ℕ) (wide : Bool) where
   first_test false q insn i on due rest = refl
   first_test true q insn i on due rest = refl
 
-  first_tests : (i : ℕ) (insn : Insn) (o : Option ℕ) → image_place (map own_of (tests_part b first wide i insn o)) 0 ≡ 0
+  first_tests : (i : ℕ) (insn : Insn) (o : Option ℕ) → image_place (map own_of (tests_part b first form i insn o)) 0 ≡ 0
   first_tests i insn None =
-      let part = test_part wide (image_of b first wide i) (with_places (land_of b first wide) insn) i (jump_target insn) None in
+      let part = test_part (is_wide form i) (image_of b first form i) (with_places (land_of b first form) insn) i (jump_target insn) None in
       ap (λ l. image_place (map own_of l) 0) (sym (append-nil part))
-      ∙ first_test wide (image_of b first wide i) (with_places (land_of b first wide) insn) i (jump_target insn) None ([])
+      ∙ first_test (is_wide form i) (image_of b first form i) (with_places (land_of b first form) insn) i (jump_target insn) None ([])
   first_tests i insn (Some id) =
-      first_test wide (image_of b first wide i) (inverted (lead_of b first wide (i + 1)) insn) i (i + 1) (lead_probe b first (i + 1)) (hop_part (land_of b first wide) (Some id) (jump_target insn))
+      first_test (is_wide form i) (image_of b first form i) (inverted (lead_of b first form (i + 1)) insn) i (i + 1) (lead_probe b first (i + 1))
+      (hop_part (land_of b first form) (Some id) (jump_target insn))
 
   first_main : (i : ℕ) (flow : Flow) → image_place (map own_of (main i flow)) 0 ≡ 0
   first_main i flows.GoesOn = refl
@@ -203,7 +204,7 @@ module _ (b : Body) (first : ℕ) (wide : Bool) where
   -- ---- all segments
 
   abbrev lead : ℕ → ℕ
-  lead i = lead_of b first wide i
+  lead i = lead_of b first form i
 
   abbrev built : ℕ → List Item
   built n = prelude ++ pieces seg n
@@ -217,7 +218,7 @@ module _ (b : Body) (first : ℕ) (wide : Bool) where
   length-built : (n : ℕ) → length (built n) ≡ lead n
   length-built n = omega (arith, length-pieces ([]) seg size sized n)
 
-  image_built : (n i : ℕ) → i < n → image_place (map own_of (built n)) i ≡ image_of b first wide i
+  image_built : (n i : ℕ) → i < n → image_place (map own_of (built n)) i ≡ image_of b first form i
   image_built zero i lt = absurd (omega arith)
   image_built (suc n) i lt =
       let split : map own_of (built (suc n)) ≡ map own_of (built n) ++ map own_of (seg n) =
@@ -231,31 +232,31 @@ module _ (b : Body) (first : ℕ) (wide : Bool) where
       ∙ ap (λ k. k + image_place (map own_of (seg n)) 0) (length-map (built n) own_of ∙ length-built n)
       ∙ ap (λ k. lead n + k) (image_within n)
       ∙ omega arith
-      ∙ ap (image_of b first wide) (sym same))
+      ∙ ap (image_of b first form) (sym same))
       (cases_lt i n)
 
   -- the piece of i stands at its lead place
   pub has_segment : (i : ℕ) → i < length b.code → HasAt (built (length b.code)) (lead i) (seg i)
   has_segment i lt = has_piece prelude seg size sized (length b.code) i lt
 
-pub image_is : (b : Body) (first : ℕ) (wide : Bool) (i : ℕ) → i < length b.code
-    → image_place (map own_of (twin_items b first wide)) i ≡ image_of b first wide i
+pub image_is : (b : Body) (first : ℕ) (form : TwinForm) (i : ℕ) → i < length b.code
+    → image_place (map own_of (twin_items b first form)) i ≡ image_of b first form i
 unfolding twin_items
-image_is b first wide i lt = image_built b first wide (length b.code) i lt
+image_is b first form i lt = image_built b first form (length b.code) i lt
 
-pub own_twin : (b : Body) (first : ℕ) (wide : Bool) → trues (map own_of (twin_items b first wide)) ≡ length b.code
+pub own_twin : (b : Body) (first : ℕ) (form : TwinForm) → trues (map own_of (twin_items b first form)) ≡ length b.code
 unfolding twin_items
-own_twin b first wide = own_built b first wide (length b.code)
+own_twin b first form = own_built b first form (length b.code)
 
-pub length_twin : (b : Body) (first : ℕ) (wide : Bool) → length (twin_items b first wide) ≡ lead_of b first wide (length b.code)
+pub length_twin : (b : Body) (first : ℕ) (form : TwinForm) → length (twin_items b first form) ≡ lead_of b first form (length b.code)
 unfolding twin_items
-length_twin b first wide = length-built b first wide (length b.code)
+length_twin b first form = length-built b first form (length b.code)
 
-pub segment_at : (b : Body) (first : ℕ) (wide : Bool) (i : ℕ) → i < length b.code
-    → HasAt (twin_items b first wide) (lead_of b first wide i) (segment b first wide i)
+pub segment_at : (b : Body) (first : ℕ) (form : TwinForm) (i : ℕ) → i < length b.code
+    → HasAt (twin_items b first form) (lead_of b first form i) (segment b first form i)
 unfolding twin_items
-segment_at b first wide i lt = has_segment b first wide i lt
+segment_at b first form i lt = has_segment b first form i lt
 
-pub prelude_at : (b : Body) (first : ℕ) (wide : Bool) → HasAt (twin_items b first wide) 0 prelude
+pub prelude_at : (b : Body) (first : ℕ) (form : TwinForm) → HasAt (twin_items b first form) 0 prelude
 unfolding twin_items
-prelude_at b first wide = (refl, (refl, tt))
+prelude_at b first form = (refl, (refl, tt))

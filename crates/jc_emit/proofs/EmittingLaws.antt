@@ -15,6 +15,8 @@ use Rattle.jc_methods.specs.declared.emitted.Emitted.{Emitted}
 use Rattle.jc_methods.specs.declared.plan.Plan.{Plan}
 use Rattle.jc_methods.proofs.MetNamesLaws.{grows_none}
 use Rattle.jc_plan.specs.Plan.{plan_of}
+use Rattle.jc_emit.specs.Marks.{unplaced}
+use Rattle.jc_emit.specs.Sizes.{narrow}
 use Rattle.jc_emit.specs.declared.frames.Framing.{Framing}
 use Rattle.jc_emit.specs.declared.places.Places.{Places}
 use Rattle.jc_emit.specs.TwinTables.{moved_row, moved_line, moved_var}
@@ -52,10 +54,10 @@ framing_made first f b p places states made is are put same_body same_plan same_
 }
 
 -- all parts of the emission
-pub emission_is : (b : Body) (first : ℕ) (states : List State) (array : ℕ) (e : Emitted) → e.code ≡ map (insn_of 0 b.arg_slots) (twin_items b first false)
-    → e.at ≡ map at_of (twin_items b first false) → e.own ≡ map own_of (twin_items b first false) → e.extra ≡ map extra_of (twin_items b first false)
-    → e.handlers ≡ map (moved_row (lead_of b first false) (land_of b first false)) b.handlers → e.lines ≡ map (moved_line (land_of b first false)) b.lines
-    → e.vars ≡ map (moved_var b.arg_slots (land_of b first false)) b.vars → e.kind_vars ≡ map (moved_var b.arg_slots (land_of b first false)) b.kind_vars
+pub emission_is : (b : Body) (first : ℕ) (states : List State) (array : ℕ) (e : Emitted) → e.code ≡ map (insn_of unplaced b.arg_slots) (twin_items b first narrow)
+    → e.at ≡ map at_of (twin_items b first narrow) → e.own ≡ map own_of (twin_items b first narrow) → e.extra ≡ map extra_of (twin_items b first narrow)
+    → e.handlers ≡ map (moved_row (lead_of b first narrow) (land_of b first narrow)) b.handlers → e.lines ≡ map (moved_line (land_of b first narrow)) b.lines
+    → e.vars ≡ map (moved_var b.arg_slots (land_of b first narrow)) b.vars → e.kind_vars ≡ map (moved_var b.arg_slots (land_of b first narrow)) b.kind_vars
     → e.frames ≡ pieces (frames_at b first states array) (length b.code) → e.wide_frames ≡ pieces (wide_frames_at b first states array) (length b.code)
     → e.max_stack ≡ b.max_stack + 3 → e.max_locals ≡ b.max_locals + 1 → e ≡ emission b first states array
 unfolding emission

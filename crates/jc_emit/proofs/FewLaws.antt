@@ -1,5 +1,5 @@
 -- An emission has few instructions and few arms of switches.
-use Rattle.std.proofs.Common.{◌≡◌, ℕ, zero, suc, ◌+◌, ◌*◌, ◌<◌, ◌≤◌, Bool, false, cond, nat_le, List, [], ◌∷◌, ◌++◌, length, take, map, Option, Some, None, refl, ap, ◌∙◌, arith, pos, add-one}
+use Rattle.std.proofs.Common.{◌≡◌, ℕ, zero, suc, ◌+◌, ◌*◌, ◌<◌, ◌≤◌, Bool, cond, nat_le, List, [], ◌∷◌, ◌++◌, length, take, map, Option, Some, None, refl, ap, ◌∙◌, arith, pos, add-one}
 use Rattle.std.specs.List.{sum_by}
 use Rattle.std.proofs.lemmas.Bool.{cond_both}
 use Rattle.std.proofs.lemmas.List.{take_more, take_all}
@@ -21,8 +21,8 @@ use Rattle.jc_plan.specs.Probed.{probe_of}
 use Rattle.jc_plan.specs.Plan.{lead_probe}
 use Rattle.jc_plan.proofs.FlowLaws.{few_of}
 use Rattle.jc_kinds_after.specs.Shift.{with_slot}
-use Rattle.jc_emit.specs.Sizes.{insn_at, early_by, early_probe, late_probe, arms_by, arms_at}
-use Rattle.jc_emit.specs.Marks.{push}
+use Rattle.jc_emit.specs.Sizes.{narrow, insn_at, early_by, early_probe, late_probe, arms_by, arms_at}
+use Rattle.jc_emit.specs.Marks.{unplaced, push}
 use Rattle.jc_emit.specs.TwinCode.{to_of, arm_place}
 use Rattle.jc_emit.specs.Items.{Item, insn_of, prelude, probe, lead_part, early_part, hop_part, arm_parts, lead_of, land_of, image_of, tests_part, image_part, segment, twin_items}
 use Rattle.jc_emit.specs.Emission.{emission}
@@ -48,11 +48,11 @@ few_push n =
 
 abbrev weigh : ℕ → List Item → ℕ
 weigh v [] = 0
-weigh v (x ∷ xs) = 1 + arm_count (insn_of 0 v x) + weigh v xs
+weigh v (x ∷ xs) = 1 + arm_count (insn_of unplaced v x) + weigh v xs
 
-weigh_all : (v : ℕ) (xs : List Item) → length (map (insn_of 0 v) xs) + sum_by arm_count (map (insn_of 0 v) xs) ≡ weigh v xs
+weigh_all : (v : ℕ) (xs : List Item) → length (map (insn_of unplaced v) xs) + sum_by arm_count (map (insn_of unplaced v) xs) ≡ weigh v xs
 weigh_all v [] = refl
-weigh_all v (x ∷ xs) = omega (arith, sum_by-cons arm_count (insn_of 0 v x) (map (insn_of 0 v) xs), weigh_all v xs)
+weigh_all v (x ∷ xs) = omega (arith, sum_by-cons arm_count (insn_of unplaced v x) (map (insn_of unplaced v) xs), weigh_all v xs)
 
 length_weighed : (v : ℕ) (xs : List Item) → length xs ≤ weigh v xs
 length_weighed v [] = omega arith
@@ -95,33 +95,33 @@ module _ (b : Body) (first v : ℕ) where
   old i = insn_at b.code i
 
   abbrev land : ℕ → ℕ
-  land i = land_of b first false i
+  land i = land_of b first narrow i
 
-  weigh_tests : (i : ℕ) (insn : Insn) (o : Option ℕ) → weigh v (tests_part b first false i insn o) ≤ 6 + arm_count insn
-  weigh_tests i insn None = omega (arith, same_arms (land_of b first false) insn)
-  weigh_tests i insn (Some id) = omega (arith, few_push id, few_inverted (lead_of b first false (i + 1)) insn)
+  weigh_tests : (i : ℕ) (insn : Insn) (o : Option ℕ) → weigh v (tests_part b first narrow i insn o) ≤ 6 + arm_count insn
+  weigh_tests i insn None = omega (arith, same_arms (land_of b first narrow) insn)
+  weigh_tests i insn (Some id) = omega (arith, few_push id, few_inverted (lead_of b first narrow (i + 1)) insn)
 
   -- the probe in front of an image, the image and what stands behind it
   weigh_image : (i : ℕ) (flow : Flow)
-      → weigh v (early_part (early_by (probe_of b first) i (old i) flow) i) + weigh v (image_part b first false i (old i) flow) ≤ 11 + 6 * arm_count (old i)
+      → weigh v (early_part (early_by (probe_of b first) i (old i) flow) i) + weigh v (image_part b first narrow i (old i) flow) ≤ 11 + 6 * arm_count (old i)
   weigh_image i flows.GoesOn = omega (arith, few_slots b.arg_slots (old i))
   weigh_image i flows.Branches = omega (arith, weigh_tests i (old i) (late_probe b first i))
-  weigh_image i flows.Jumps = omega (arith, weigh_early v (early_by (probe_of b first) i (old i) flows.Jumps) i, same_arms (land_of b first false) (old i))
+  weigh_image i flows.Jumps = omega (arith, weigh_early v (early_by (probe_of b first) i (old i) flows.Jumps) i, same_arms (land_of b first narrow) (old i))
   weigh_image i flows.Switches =
       omega (
         arith,
-        same_arms (arm_place (probe_of b first) (land_of b first false) (image_of b first false i + 1) (arms_at b.code i)) (old i),
-        weigh_arms v (land_of b first false) (probe_of b first) (arms_at b.code i),
+        same_arms (arm_place (probe_of b first) (land_of b first narrow) (image_of b first narrow i + 1) (arms_at b.code i)) (old i),
+        weigh_arms v (land_of b first narrow) (probe_of b first) (arms_at b.code i),
         few_arms i (old i) (flow_of (old i)),
       )
   weigh_image i flows.Returns = omega (arith, weigh_early v (early_by (probe_of b first) i (old i) flows.Returns) i)
   weigh_image i flows.Throws = omega (arith, weigh_early v (early_by (probe_of b first) i (old i) flows.Throws) i)
 
-  weigh_segment : (i : ℕ) → weigh v (segment b first false i) ≤ 15 * (1 + arm_count (old i))
+  weigh_segment : (i : ℕ) → weigh v (segment b first narrow i) ≤ 15 * (1 + arm_count (old i))
   weigh_segment i =
       let lead = lead_part (lead_probe b first i) i in
       let early = early_part (early_probe b first i) i in
-      let rest = image_part b first false i (old i) (flow_of (old i)) in
+      let rest = image_part b first narrow i (old i) (flow_of (old i)) in
       omega (
         arith,
         weigh_both v lead (early ++ rest),
@@ -139,31 +139,31 @@ module _ (b : Body) (first v : ℕ) where
       let one = sum_by-cons sizes (old n) [] in
       ap insns_and_arms (take_more b.code n (insns.Simple 0) lt) ∙ omega (arith, e, one)
 
-  weigh_pieces : (n : ℕ) → n ≤ length b.code → weigh v (pieces (segment b first false) n) ≤ 15 * insns_and_arms (take n b.code)
+  weigh_pieces : (n : ℕ) → n ≤ length b.code → weigh v (pieces (segment b first narrow) n) ≤ 15 * insns_and_arms (take n b.code)
   weigh_pieces zero le = omega arith
   weigh_pieces (suc n) le =
       let up : insns_and_arms (take (n + 1) b.code) ≡ insns_and_arms (take (suc n) b.code) = ap (λ k. insns_and_arms (take k b.code)) (add-one n) in
       omega (
         arith,
-        weigh_both v (pieces (segment b first false) n) (segment b first false n),
+        weigh_both v (pieces (segment b first narrow) n) (segment b first narrow n),
         weigh_pieces n (omega arith),
         weigh_segment n,
         few_more n (omega arith),
         up,
       )
 
-  weigh_twin : IsCode b.code → weigh v (twin_items b first false) ≤ 983027
+  weigh_twin : IsCode b.code → weigh v (twin_items b first narrow) ≤ 983027
   unfolding twin_items
   weigh_twin code =
       let all : insns_and_arms (take (length b.code) b.code) ≡ insns_and_arms b.code = ap insns_and_arms (take_all (length b.code) b.code (omega arith)) in
-      omega (arith, weigh_both v prelude (pieces (segment b first false) (length b.code)), weigh_pieces (length b.code) (omega arith), all, code.few)
+      omega (arith, weigh_both v prelude (pieces (segment b first narrow) (length b.code)), weigh_pieces (length b.code) (omega arith), all, code.few)
 
-  pub few_items : IsCode b.code → length (twin_items b first false) ≤ 983027
-  few_items code = omega (arith, length_weighed v (twin_items b first false), weigh_twin code)
+  pub few_items : IsCode b.code → length (twin_items b first narrow) ≤ 983027
+  few_items code = omega (arith, length_weighed v (twin_items b first narrow), weigh_twin code)
 
 -- of instructions and arms of switches together
 pub few_emitted : (b : Body) (first : ℕ) (states : List State) (array : ℕ) → IsCode b.code
     → length (emission b first states array).code + sum_by arm_count (emission b first states array).code ≤ 1000000
 unfolding emission
 few_emitted b first states array code =
-    omega (arith, weigh_all b.arg_slots (twin_items b first false), weigh_twin b first b.arg_slots code)
+    omega (arith, weigh_all b.arg_slots (twin_items b first narrow), weigh_twin b first b.arg_slots code)

@@ -21,7 +21,7 @@ use Rattle.jc_methods.specs.FrameOrder.{RiseFrom}
 use Rattle.jc_kinds_after.specs.Shift.{renamed, shifted}
 use Rattle.jc_kinds_after.proofs.ShiftLaws.{map-insert}
 use Rattle.jc_emit.specs.Shift.{shifted_state, image_kind, probe_array_class}
-use Rattle.jc_emit.specs.Sizes.{insn_at, late_by, late_probe, arms_at, probe_size, hop_size, arm_sizes}
+use Rattle.jc_emit.specs.Sizes.{narrow, insn_at, late_by, late_probe, arms_at, probe_size, hop_size, arm_sizes}
 use Rattle.jc_emit.specs.TwinCode.{to_of, arm_place}
 use Rattle.jc_emit.specs.TwinFrames.{state_at, left_by, IsNarrowFrame, IsFrame, AreTwinFrames}
 use Rattle.jc_emit.specs.Marks.{prelude_size}
@@ -80,13 +80,13 @@ none_is (Some x) h = absurd cc
 module _ (b : Body) (first : ℕ) (states : List State) (array : ℕ) (names : List (List ℕ)) (is_code : IsCode b.code) (are_frames : AreFramesFrom 0 b.code b.max_locals b.max_stack b.frames)
     (fit : (f : FrameAt) → Contains b.frames f → state_at states f.at ≡ f.state) (named : slice_index_or names array ([]) ≡ probe_array_class) where
   abbrev q_of : ℕ → ℕ
-  q_of i = image_of b first false i
+  q_of i = image_of b first narrow i
 
   abbrev land : ℕ → ℕ
-  land i = land_of b first false i
+  land i = land_of b first narrow i
 
   abbrev lead : ℕ → ℕ
-  lead i = lead_of b first false i
+  lead i = lead_of b first narrow i
 
   abbrev part : ℕ → List FrameAt
   part i = frames_at b first states array i
@@ -147,13 +147,13 @@ module _ (b : Body) (first : ℕ) (states : List State) (array : ℕ) (names : L
   -- ---- each is asked for
 
   abbrev Asked : ℕ → State → Type 0
-  Asked q s = IsNarrowFrame b first states (image_of b first false) (land_of b first false) (lead_of b first false) q s
+  Asked q s = IsNarrowFrame b first states (image_of b first narrow) (land_of b first narrow) (lead_of b first narrow) q s
 
   abbrev IsGood : FrameAt → Type 0
-  IsGood f = (s : State) × Asked f.at s × (type_state names f.state ≡ shifted (image_of b first false) b.arg_slots (type_state names s))
+  IsGood f = (s : State) × Asked f.at s × (type_state names f.state ≡ shifted (image_of b first narrow) b.arg_slots (type_state names s))
 
-  pub seen_is : (s : State) → type_state names (moved s) ≡ shifted (image_of b first false) b.arg_slots (type_state names s)
-  seen_is s = seen_moved names b.arg_slots array (image_of b first false) s named
+  pub seen_is : (s : State) → type_state names (moved s) ≡ shifted (image_of b first narrow) b.arg_slots (type_state names s)
+  seen_is s = seen_moved names b.arg_slots array (image_of b first narrow) s named
 
   inverse_asked : (i : ℕ) → i < length b.code → has_inverse b first states array i ≡ true → Asked (lead i) (state_at states i)
   inverse_asked zero lt h = absurd cc
@@ -186,23 +186,23 @@ module _ (b : Body) (first : ℕ) (states : List State) (array : ℕ) (names : L
 
   -- the arms of a switch
   abbrev whole : ℕ → ℕ → ℕ
-  whole i to = arm_place (probe_of b first) (land_of b first false) (q_of i + 1) (arms_at b.code i) to
+  whole i to = arm_place (probe_of b first) (land_of b first narrow) (q_of i + 1) (arms_at b.code i) to
 
   arms_good : (i : ℕ) → i < length b.code → (here : ℕ) (xs : List Branch) → Arms i xs
-      → Agrees (probe_of b first) (land_of b first false) (whole i) here xs
+      → Agrees (probe_of b first) (land_of b first narrow) (whole i) here xs
       → ((y : Branch) → Contains xs y → Contains (arms_at b.code i) y)
       → (f : FrameAt) → Contains (arm_frames b first states array here (moved (left i)) xs) f → IsGood f
   arms_good i lt here [] arms a listed f c = absurd (none_in f c)
   arms_good i lt here (x ∷ xs) arms a listed f c =
       ⊎_elim (λ front. single (probe_of b first x) refl front)
       (λ rest. arms_good i lt (here + hop_size (probe_of b first x)) xs arms.3
-      (agrees_rest (probe_of b first) (land_of b first false) (whole i) here x xs arms.0 a) (λ y d. listed y (later_in x xs y d)) f rest)
+      (agrees_rest (probe_of b first) (land_of b first narrow) (whole i) here x xs arms.0 a) (λ y d. listed y (later_in x xs y d)) f rest)
       (Contains-append_cases (arm_frame b first states array here (moved (left i)) (probe_of b first x)) _ f c)
     where
       single : (o : Option ℕ) → probe_of b first x ≡ o → Contains (arm_frame b first states array here (moved (left i)) o) f → IsGood f
       single None e d = absurd (none_in f d)
       single (Some id) e d =
-          let place = agrees_first (probe_of b first) (land_of b first false) (whole i) here id x xs a e in
+          let place = agrees_first (probe_of b first) (land_of b first narrow) (whole i) here id x xs a e in
           subst IsGood (contains_one (frame here (moved (left i))) f d)
           (left i, inr (inr (record { switch = i; branch = x; id = id; within = lt; listed = listed x (first_in x xs); probed = e; place = sym place; state_is = refl })), seen_is (left i))
 
@@ -221,7 +221,7 @@ module _ (b : Body) (first : ℕ) (states : List State) (array : ℕ) (names : L
 
   abbrev IsThere : ℕ → State → Type 0
   IsThere q s =
-      (f : FrameAt) × Contains (pieces part (length b.code)) f × (f.at ≡ q) × (type_state names f.state ≡ shifted (image_of b first false) b.arg_slots (type_state names s))
+      (f : FrameAt) × Contains (pieces part (length b.code)) f × (f.at ≡ q) × (type_state names f.state ≡ shifted (image_of b first narrow) b.arg_slots (type_state names s))
 
   there : (i : ℕ) (f : FrameAt) (s : State) → i < length b.code → Contains (part i) f → f.state ≡ moved s → IsThere f.at s
   there i f s lt c e = (f, of_piece part (length b.code) i f lt c, refl, ap (type_state names) e ∙ seen_is s)
@@ -258,7 +258,7 @@ module _ (b : Body) (first : ℕ) (states : List State) (array : ℕ) (names : L
       by flows.Throws h = absurd (none_some id h)
 
   arm_there : (i : ℕ) → i < length b.code → (here : ℕ) (xs : List Branch) → Arms i xs
-      → Agrees (probe_of b first) (land_of b first false) (whole i) here xs
+      → Agrees (probe_of b first) (land_of b first narrow) (whole i) here xs
       → (x : Branch) (id : ℕ) → Contains xs x → probe_of b first x ≡ Some id
       → Contains (arm_frames b first states array here (moved (left i)) xs) (frame (whole i (to_of x)) (moved (left i)))
   arm_there i lt here [] arms a x id c e = absurd (none_in x c)
@@ -266,13 +266,13 @@ module _ (b : Body) (first : ℕ) (states : List State) (array : ℕ) (names : L
       ⊎_elim
       (λ same.
       let some : probe_of b first y ≡ Some id = ap (probe_of b first) same ∙ e in
-      let place : here ≡ whole i (to_of x) = sym (agrees_first (probe_of b first) (land_of b first false) (whole i) here id y xs a some) ∙ ap (λ z. whole i (to_of z)) same in
+      let place : here ≡ whole i (to_of x) = sym (agrees_first (probe_of b first) (land_of b first narrow) (whole i) here id y xs a some) ∙ ap (λ z. whole i (to_of z)) same in
       Contains-append_left (arm_frame b first states array here (moved (left i)) (probe_of b first y)) _ _
       (subst (λ o. Contains (arm_frame b first states array here (moved (left i)) o) (frame (whole i (to_of x)) (moved (left i)))) (sym some)
       (subst (λ q. Contains (frame here (moved (left i)) ∷ []) (frame q (moved (left i)))) place (first_in (frame here (moved (left i))) ([])))))
       (λ later.
       Contains-append_right (arm_frame b first states array here (moved (left i)) (probe_of b first y)) _ _
-      (arm_there i lt (here + hop_size (probe_of b first y)) xs arms.3 (agrees_rest (probe_of b first) (land_of b first false) (whole i) here y xs arms.0 a) x id later e))
+      (arm_there i lt (here + hop_size (probe_of b first y)) xs arms.3 (agrees_rest (probe_of b first) (land_of b first narrow) (whole i) here y xs arms.0 a) x id later e))
       (which_in y xs x c)
 
   every_there : (q : ℕ) (s : State) → Asked q s → IsThere q s
@@ -285,7 +285,7 @@ module _ (b : Body) (first : ℕ) (states : List State) (array : ℕ) (names : L
       subst (λ z. IsThere q z) state (subst (λ k. IsThere k (state_at states o.frame.at)) (sym o.place) here)
   every_there q s (inr (inl o)) =
       let up = add-one o.test in
-      let next = next_within b first false is_code o.test o.within (inr (late_tests o.test o.id o.probed)) in
+      let next = next_within b first narrow is_code o.test o.within (inr (late_tests o.test o.id o.probed)) in
       let inverse : has_inverse b first states array (suc o.test) ≡ true = ap is_some o.probed in
       let here = leading (o.test + 1) next (ap (has_inverse b first states array) up ∙ inverse) in
       subst (λ z. IsThere q z) (sym o.state_is) (subst (λ k. IsThere k (state_at states (o.test + 1))) (sym o.place) here)
@@ -296,12 +296,12 @@ module _ (b : Body) (first : ℕ) (states : List State) (array : ℕ) (names : L
       let here = there i f (left i) o.within (Contains-append_right (lead_frames i) _ f (Contains-append_right (land_frames i) (arms_part i) f c)) refl in
       subst (λ z. IsThere q z) (sym o.state_is) (subst (λ k. IsThere k (left i)) (sym o.place) here)
 
-  pub frames_told : AreTwinFrames names names b.arg_slots (image_of b first false) Asked (pieces part (length b.code))
+  pub frames_told : AreTwinFrames names names b.arg_slots (image_of b first narrow) Asked (pieces part (length b.code))
   frames_told = record { rising = all_rise; each = each_good; every = every_there }
 
   -- so they are the frames of the narrow layout
-  pub layout_told : AreTwinFrames names names b.arg_slots (image_of b first false)
-      (IsFrame b first states (image_of b first false) (land_of b first false) (lead_of b first false) false) (pieces part (length b.code))
+  pub layout_told : AreTwinFrames names names b.arg_slots (image_of b first narrow)
+      (IsFrame b first states (image_of b first narrow) (land_of b first narrow) (lead_of b first narrow) narrow) (pieces part (length b.code))
   layout_told = record {
     rising = all_rise;
     each = λ f c. let good = each_good f c in (good.0, inl good.1, good.2);
@@ -311,7 +311,7 @@ module _ (b : Body) (first : ℕ) (states : List State) (array : ℕ) (names : L
       false_true : false ≡ true → ⊥
       false_true e = cc
 
-      by : (q : ℕ) (s : State) → IsFrame b first states (image_of b first false) (land_of b first false) (lead_of b first false) false q s
-          → (f : FrameAt) × Contains (pieces part (length b.code)) f × (f.at ≡ q) × (type_state names f.state ≡ shifted (image_of b first false) b.arg_slots (type_state names s))
+      by : (q : ℕ) (s : State) → IsFrame b first states (image_of b first narrow) (land_of b first narrow) (lead_of b first narrow) narrow q s
+          → (f : FrameAt) × Contains (pieces part (length b.code)) f × (f.at ≡ q) × (type_state names f.state ≡ shifted (image_of b first narrow) b.arg_slots (type_state names s))
       by q s (inl asked) = every_there q s asked
       by q s (inr wide) = absurd (false_true wide.layout)

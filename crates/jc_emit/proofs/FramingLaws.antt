@@ -17,7 +17,7 @@ use Rattle.jc_plan.specs.Probed.{probe_of}
 use Rattle.jc_plan.specs.Plan.{lead_probe, out_probes}
 use Rattle.jc_plan.proofs.FlowLaws.{few_at}
 use Rattle.jc_emit.specs.declared.frames.Framing.{Framing}
-use Rattle.jc_emit.specs.Sizes.{insn_at, hop_size, late_probe, arms_at}
+use Rattle.jc_emit.specs.Sizes.{narrow, insn_at, hop_size, late_probe, arms_at}
 use Rattle.jc_emit.specs.TwinFrames.{no_state, operands_of, state_at, left_by, state_behind}
 use Rattle.jc_emit.specs.Items.{segment_size, lead_of, land_of, image_of}
 use Rattle.jc_emit.specs.Emission.{frame, frame_if, moved_state, has_frame, has_inverse, arm_frame, arm_frames, frames_at, is_further, wide_frames_at}
@@ -101,8 +101,8 @@ module _ (first : ℕ) (f : Framing) (is : IsFraming first f) where
 
   pub image_small : (images : List ℕ) (i x : ℕ) → images ≡ f.places.now.images.items → x ≡ get_or images i x → i < length b.code → x ≤ 983027
   image_small images i x same read lt =
-      let e = table_read (image_of b first false) (length b.code) i x f.places.now.images.items images is.places.images lt same read in
-      omega (arith, e, length_twin b first false, few_items b first b.arg_slots is.code, total_grows (segment_size b first false) (suc i) (length b.code) (omega arith))
+      let e = table_read (image_of b first narrow) (length b.code) i x f.places.now.images.items images is.places.images lt same read in
+      omega (arith, e, length_twin b first narrow, few_items b first b.arg_slots is.code, total_grows (segment_size b first narrow) (suc i) (length b.code) (omega arith))
 
   pub arms_small : (i : ℕ) → i < length b.code → length (arms_at b.code i) ≤ 65536
   arms_small i lt =
@@ -114,7 +114,7 @@ module _ (first : ℕ) (f : Framing) (is : IsFraming first f) where
       omega (arith, image_small images i x same read lt, arms_small i lt, ap length ids, length-map (arms_at b.code i) (probe_of b first))
 
   pub next_there : (i : ℕ) → i < length b.code → flow_of (insn_at b.code i) ≡ flows.Branches → i + 1 < length b.code
-  next_there i lt tests = next_within b first false is.code i lt (inr tests)
+  next_there i lt tests = next_within b first narrow is.code i lt (inr tests)
 
   pub state_read : (i : ℕ) (s : State) → i < length b.code → get_or states i s ≡ state_at states i
   state_read i s lt = let n = is.count in get_or_default states i s no_state (omega (arith, n, lt))
@@ -134,7 +134,7 @@ module _ (first : ℕ) (f : Framing) (is : IsFraming first f) where
 
   -- behind a conditional jump without a probe
   pub behind_none : (i here : ℕ) (s : State) (framed lead further : Bool) → i < length b.code → flow_of (insn_at b.code i) ≡ flows.Branches
-      → None ≡ late_probe b first i → here ≡ image_of b first false i
+      → None ≡ late_probe b first i → here ≡ image_of b first narrow i
       → framed ≡ has_frame b first states f.array (i + 1) → lead ≡ is_some (lead_probe b first (i + 1)) → further ≡ not (framed && not lead)
       → frame_if further (frame (here + 1) (moved (without 0 (get_or states (i + 1) s)))) ≡ wide_frames_at b first states f.array i
   behind_none i here s framed lead further lt tests none place framed_is lead_is further_is =
@@ -143,41 +143,41 @@ module _ (first : ℕ) (f : Framing) (is : IsFraming first f) where
       let lacks : further ≡ not (has_frame b first states f.array (i + 1) && is_none (lead_probe b first (i + 1))) =
       further_is ∙ ap₂ (λ (x y : Bool). not (x && not y)) framed_is lead_is ∙ ap (λ (y : Bool). not (has_frame b first states f.array (i + 1) && y)) (not_none (lead_probe b first (i + 1))) in
       (λ k. frame_if (lacks k) (frame (place k + 1) (moved (state k))))
-      ∙ ap (λ flow. frame_if (is_further b first states f.array i None flow) (frame (image_of b first false i + 1) (moved (state_at states (i + 1))))) (sym tests)
-      ∙ ap (λ o. frame_if (is_further b first states f.array i o (flow_of (insn_at b.code i))) (frame (image_of b first false i + 1) (moved (state_behind b states i o)))) none
+      ∙ ap (λ flow. frame_if (is_further b first states f.array i None flow) (frame (image_of b first narrow i + 1) (moved (state_at states (i + 1))))) (sym tests)
+      ∙ ap (λ o. frame_if (is_further b first states f.array i o (flow_of (insn_at b.code i))) (frame (image_of b first narrow i + 1) (moved (state_behind b states i o)))) none
 
   -- behind one with a probe
   pub behind_some : (i here id : ℕ) (s : State) (operands : ℕ) → i < length b.code → flow_of (insn_at b.code i) ≡ flows.Branches
-      → Some id ≡ late_probe b first i → here ≡ image_of b first false i → operands ≡ operands_of (insn_at b.code i)
+      → Some id ≡ late_probe b first i → here ≡ image_of b first narrow i → operands ≡ operands_of (insn_at b.code i)
       → frame_if true (frame (here + 1) (moved (without operands (get_or states i s)))) ≡ wide_frames_at b first states f.array i
   behind_some i here id s operands lt tests probed place taken =
       let state : without operands (get_or states i s) ≡ left_by (insn_at b.code i) (state_at states i) =
       ap₂ (λ (n : ℕ) (t : State). without n t) taken (state_read i s lt) in
       (λ k. frame_if true (frame (place k + 1) (moved (state k))))
-      ∙ ap (λ flow. frame_if (is_further b first states f.array i (Some id) flow) (frame (image_of b first false i + 1) (moved (left_by (insn_at b.code i) (state_at states i))))) (sym tests)
-      ∙ ap (λ o. frame_if (is_further b first states f.array i o (flow_of (insn_at b.code i))) (frame (image_of b first false i + 1) (moved (state_behind b states i o)))) probed
+      ∙ ap (λ flow. frame_if (is_further b first states f.array i (Some id) flow) (frame (image_of b first narrow i + 1) (moved (left_by (insn_at b.code i) (state_at states i))))) (sym tests)
+      ∙ ap (λ o. frame_if (is_further b first states f.array i o (flow_of (insn_at b.code i))) (frame (image_of b first narrow i + 1) (moved (state_behind b states i o)))) probed
 
   -- nothing behind other instructions
   pub behind_other : (i : ℕ) (flow : Flow) → flow_of (insn_at b.code i) ≡ flow → (flow ≡ flows.Branches → ⊥) → wide_frames_at b first states f.array i ≡ []
   behind_other i flow e other =
-      ap (λ fl. frame_if (is_further b first states f.array i (late_probe b first i) fl) (frame (image_of b first false i + 1) (moved (state_behind b states i (late_probe b first i))))) e
+      ap (λ fl. frame_if (is_further b first states f.array i (late_probe b first i) fl) (frame (image_of b first narrow i + 1) (moved (state_behind b states i (late_probe b first i))))) e
       ∙ by flow (late_probe b first i) other
     where
       by : (fl : Flow) (o : Option ℕ) → (fl ≡ flows.Branches → ⊥)
-          → frame_if (is_further b first states f.array i o fl) (frame (image_of b first false i + 1) (moved (state_behind b states i (late_probe b first i)))) ≡ []
+          → frame_if (is_further b first states f.array i o fl) (frame (image_of b first narrow i + 1) (moved (state_behind b states i (late_probe b first i)))) ≡ []
       by flows.Branches o differs = absurd (differs refl)
       by fl None differs = refl
       by fl (Some id) differs = refl
 
   -- the frames of an instruction, put one after the other
   pub all_put : (i : ℕ) (leads lands : ℕ) (s : State) (inverse lead framed led landed : Bool) (old one two new arms : List FrameAt) → i < length b.code
-      → leads ≡ lead_of b first false i → lands ≡ land_of b first false i
+      → leads ≡ lead_of b first narrow i → lands ≡ land_of b first narrow i
       → inverse ≡ has_inverse b first states f.array i → lead ≡ is_some (lead_probe b first i) → framed ≡ has_frame b first states f.array i
       → led ≡ (inverse && lead) → landed ≡ (framed || (inverse && not lead))
       → one ≡ old ++ frame_if led (frame leads (moved (without 0 (get_or states i s))))
       → two ≡ one ++ frame_if landed (frame lands (moved (without 0 (get_or states i s))))
       → new ≡ two ++ arms
-      → arms ≡ arm_frames b first states f.array (image_of b first false i + 1) (moved (left_by (insn_at b.code i) (state_at states i))) (arms_at b.code i)
+      → arms ≡ arm_frames b first states f.array (image_of b first narrow i + 1) (moved (left_by (insn_at b.code i) (state_at states i))) (arms_at b.code i)
       → new ≡ old ++ frames_at b first states f.array i
   all_put i leads lands s inverse lead framed led landed old one two new arms lt leads_is lands_is inverse_is lead_is framed_is led_is landed_is one_is two_is new_is arms_is =
       let state : without 0 (get_or states i s) ≡ state_at states i = without_none (get_or states i s) ∙ state_read i s lt in

@@ -18,10 +18,10 @@ use Rattle.jc_plan.specs.Probed.{probe_of}
 use Rattle.jc_plan.specs.Plan.{lead_probe}
 use Rattle.jc_bytes.proofs.FirstSeenLaws.{first_seen_listed}
 use Rattle.jc_plan.proofs.ByBranchLaws.{last_parts}
-use Rattle.jc_emit.specs.Sizes.{insn_at, early_by, early_probe, late_by, late_probe, arms_at, probe_size, hop_size, wide_by, behind_size}
+use Rattle.jc_emit.specs.Sizes.{TwinForm, is_wide, insn_at, early_by, early_probe, late_by, late_probe, arms_at, probe_size, hop_size, wide_by, behind_size}
 use Rattle.jc_methods.specs.Widened.{inverted}
 use Rattle.jc_emit.specs.TwinCode.{to_of, here_or, arm_place}
-use Rattle.jc_emit.specs.Marks.{prelude_size}
+use Rattle.jc_emit.specs.Marks.{unplaced, prelude_size}
 use Rattle.jc_emit.specs.Items.{Item, image, probe_array, hop, probe, lead_part, early_part, hop_part, arm_parts, test_part, segment_size, lead_of, land_of, image_of, tests_part, image_part, segment, twin_items}
 use Rattle.jc_emit.specs.Local.{Stands, Lands, Ok, OkImage, IsOfEdgeTo, AllOk, TestsAlike, TestsInversely, SwitchesAlike, JumpsAlike}
 use Rattle.jc_emit.proofs.PiecesLaws.{HasAt, has_front, has_back, Each, each_append, each_at, each_piece}
@@ -57,27 +57,27 @@ inverted_twice insn t l e formed =
     let tests = sym (ap flow_of j.is) ∙ e in
     subst (λ x. inverted t (inverted l x) ≡ with_places (λ to. t) x) (sym j.is) (ap (λ op. insns.Jump op t) (twice_inverse j.op j.to form tests))
 
-module _ (b : Body) (first : ℕ) (wide : Bool) (is_code : IsCode b.code) where
+module _ (b : Body) (first : ℕ) (form : TwinForm) (is_code : IsCode b.code) where
   abbrev items : List Item
-  items = twin_items b first wide
+  items = twin_items b first form
 
   abbrev ids : Branch → Option ℕ
   ids x = probe_of b first x
 
   abbrev q_of : ℕ → ℕ
-  q_of i = image_of b first wide i
+  q_of i = image_of b first form i
 
   abbrev land : ℕ → ℕ
-  land i = land_of b first wide i
+  land i = land_of b first form i
 
   abbrev lead : ℕ → ℕ
-  lead i = lead_of b first wide i
+  lead i = lead_of b first form i
 
   abbrev old : ℕ → Insn
   old i = insn_at b.code i
 
   abbrev main : ℕ → Flow → List Item
-  main i flow = image_part b first wide i (old i) flow
+  main i flow = image_part b first form i (old i) flow
 
   abbrev On : ℕ → ℕ → Option ℕ → Type 0
   On q at due = Stands b.code (Some b.arg_slots) (probe_of b first) items q at due
@@ -129,14 +129,14 @@ module _ (b : Body) (first : ℕ) (wide : Bool) (is_code : IsCode b.code) where
   test_lands false q i insn on due rest h = image_lands q i insn None refl h.0
   test_lands true q i insn on due rest h = image_lands q i (inverted (q + 2) insn) None refl h.0
 
-  tests_land : (i : ℕ) (insn : Insn) (o : Option ℕ) → HasAt items (q_of i) (tests_part b first wide i insn o) → In (q_of i) i None
-  tests_land i insn None h = plain wide h
+  tests_land : (i : ℕ) (insn : Insn) (o : Option ℕ) → HasAt items (q_of i) (tests_part b first form i insn o) → In (q_of i) i None
+  tests_land i insn None h = plain (is_wide form i) h
     where
-      plain : (w : Bool) → HasAt items (q_of i) (test_part w (q_of i) (with_places (land_of b first wide) insn) i (jump_target insn) None)
+      plain : (w : Bool) → HasAt items (q_of i) (test_part w (q_of i) (with_places (land_of b first form) insn) i (jump_target insn) None)
           → In (q_of i) i None
       plain false h = image_lands (q_of i) i _ None refl h.0
       plain true h = image_lands (q_of i) i _ None refl h.0
-  tests_land i insn (Some id) h = test_lands wide (q_of i) i (inverted (lead (i + 1)) insn) (i + 1) (lead_probe b first (i + 1)) _ h
+  tests_land i insn (Some id) h = test_lands (is_wide form i) (q_of i) i (inverted (lead (i + 1)) insn) (i + 1) (lead_probe b first (i + 1)) _ h
 
   main_lands : (i : ℕ) (flow : Flow) → early_probe b first i ≡ None → HasAt items (q_of i) (main i flow) → In (q_of i) i None
   main_lands i flows.GoesOn none h = image_lands (q_of i) i _ None refl h.0
@@ -147,16 +147,16 @@ module _ (b : Body) (first : ℕ) (wide : Bool) (is_code : IsCode b.code) where
   main_lands i flows.Throws none h = image_lands (q_of i) i _ (early_probe b first i) none h.0
 
   pub land_lands : (i : ℕ) → i < length b.code → In (land i) i None
-  land_lands i lt = by (early_probe b first i) refl (early_at b first wide 0 i lt)
+  land_lands i lt = by (early_probe b first i) refl (early_at b first form unplaced i lt)
     where
       by : (o : Option ℕ) → early_probe b first i ≡ o → HasAt items (land i) (early_part o i) → In (land i) i None
       by None none h =
           let e : q_of i ≡ land i = ap (λ o. land i + probe_size o) none ∙ omega arith in
-          subst (λ q. In q i None) e (main_lands i (flow_of (old i)) none (main_at b first wide 0 i lt))
+          subst (λ q. In q i None) e (main_lands i (flow_of (old i)) none (main_at b first form unplaced i lt))
       by (Some id) some h = early_lands (land i) id i h.0
 
   pub lead_lands : (i : ℕ) → i < length b.code → In (lead i) i (lead_probe b first i)
-  lead_lands i lt = by (lead_probe b first i) refl (lead_at b first wide 0 i lt)
+  lead_lands i lt = by (lead_probe b first i) refl (lead_at b first form unplaced i lt)
     where
       by : (o : Option ℕ) → lead_probe b first i ≡ o → HasAt items (lead i) (lead_part o i) → In (lead i) i o
       by None none h =
@@ -175,10 +175,10 @@ module _ (b : Body) (first : ℕ) (wide : Bool) (is_code : IsCode b.code) where
       absurd (is_code.ends parts.0 (old i) parts.1 falls))
       (cases_lt (i + 1) (length b.code))
 
-  next_lands : (i q : ℕ) → i < length b.code → FallsThrough (old i) → q ≡ q_of i + 1 + behind_size b first wide i
+  next_lands : (i q : ℕ) → i < length b.code → FallsThrough (old i) → q ≡ q_of i + 1 + behind_size b first form i
       → In q (i + 1) (ids (sequence i))
   next_lands i q lt falls e =
-      let next : lead (i + 1) ≡ q = ap (λ k. prelude_size + total (segment_size b first wide) k) (add-one i) ∙ omega (arith, e) in
+      let next : lead (i + 1) ≡ q = ap (λ k. prelude_size + total (segment_size b first form) k) (add-one i) ∙ omega (arith, e) in
       subst (λ k. In k (i + 1) (ids (sequence i))) next (lead_lands (i + 1) (next_within i lt falls))
 
   pub target_within : (i : ℕ) → i < length b.code → targets_of (old i) ≡ jump_target (old i) ∷ [] → jump_target (old i) < length b.code
@@ -192,7 +192,7 @@ module _ (b : Body) (first : ℕ) (wide : Bool) (is_code : IsCode b.code) where
   edge_to : (i id to : ℕ) (flow : Flow) (x : Branch) → i < length b.code → flow_of (old i) ≡ flow
       → Contains (branches_by flow i (targets_of (old i))) x → ids x ≡ Some id → place_of x.way ≡ Some to → To id to
   edge_to i id to flow x lt e c some leads =
-      record { of_branch = record { branch = x; listed = found_at b first wide 0 is_code i flow x lt e c; has_id = some }; leads = leads }
+      record { of_branch = record { branch = x; listed = found_at b first form unplaced is_code i flow x lt e c; has_id = some }; leads = leads }
 
   sequence_to : (i id : ℕ) → i < length b.code → lead_probe b first i ≡ Some id → To id i
   sequence_to zero id lt some = absurd (none_some id some)
@@ -200,7 +200,7 @@ module _ (b : Body) (first : ℕ) (wide : Bool) (is_code : IsCode b.code) where
       let within : j < length b.code = omega arith in
       let up : j + 1 ≡ suc j = add-one j in
       edge_to j id (suc j) (flow_of (old j)) (sequence j) within refl
-      (sequence_listed b first wide 0 is_code (flow_of (old j)) j (targets_of (old j)) (fallen_before b first wide 0 is_code j id within some))
+      (sequence_listed b first form unplaced is_code (flow_of (old j)) j (targets_of (old j)) (fallen_before b first form unplaced is_code j id within some))
       (ap (lead_probe b first) up ∙ some) (ap Some up)
 
   late_is : (i : ℕ) (o : Option ℕ) → flow_of (old i) ≡ flows.Branches → late_probe b first i ≡ o → ids (jump i (jump_target (old i))) ≡ o
@@ -215,8 +215,8 @@ module _ (b : Body) (first : ℕ) (wide : Bool) (is_code : IsCode b.code) where
   arm_to : (i id : ℕ) (x : Branch) → i < length b.code → flow_of (old i) ≡ flows.Switches → Contains (arms_at b.code i) x → ids x ≡ Some id
       → To id (to_of x)
   arm_to i id x lt e c some =
-      edge_to i id (to_of x) flows.Switches x lt e (subst (λ l. Contains l x) (arms_is b first wide 0 is_code i e) c) some
-      (ap place_of (arm_way i (arms_at b.code i) (are_arms_at b first wide 0 is_code i e) x c))
+      edge_to i id (to_of x) flows.Switches x lt e (subst (λ l. Contains l x) (arms_is b first form unplaced is_code i e) c) some
+      (ap place_of (arm_way i (arms_at b.code i) (are_arms_at b first form unplaced is_code i e) x c))
 
   -- ---- probes
 
@@ -232,7 +232,7 @@ module _ (b : Body) (first : ℕ) (wide : Bool) (is_code : IsCode b.code) where
       (land_lands to lt, tt)
 
   lead_fine : (i : ℕ) → i < length b.code → Each Fine (lead i) (lead_part (lead_probe b first i) i)
-  lead_fine i lt = by (lead_probe b first i) refl (lead_at b first wide 0 i lt)
+  lead_fine i lt = by (lead_probe b first i) refl (lead_at b first form unplaced i lt)
     where
       by : (o : Option ℕ) → lead_probe b first i ≡ o → HasAt items (lead i) (lead_part o i) → Each Fine (lead i) (lead_part o i)
       by None none h = tt
@@ -245,19 +245,19 @@ module _ (b : Body) (first : ℕ) (wide : Bool) (is_code : IsCode b.code) where
       → HasAt items (q_of i) (main i flow) → (insn : Insn) × (slice_get items (q_of i) ≡ Some (image insn i (Some id)))
   early_image i id flows.GoesOn e some h = absurd (none_some id e)
   early_image i id flows.Branches e some h = absurd (none_some id e)
-  early_image i id flows.Jumps e some h = (_, h.0 ∙ ap (λ o. Some (image (with_places (land_of b first wide) (old i)) i o)) some)
+  early_image i id flows.Jumps e some h = (_, h.0 ∙ ap (λ o. Some (image (with_places (land_of b first form) (old i)) i o)) some)
   early_image i id flows.Switches e some h = absurd (none_some id e)
   early_image i id flows.Returns e some h = (_, h.0 ∙ ap (λ o. Some (image (old i) i o)) some)
   early_image i id flows.Throws e some h = (_, h.0 ∙ ap (λ o. Some (image (old i) i o)) some)
 
   early_fine : (i : ℕ) → i < length b.code → Each Fine (land i) (early_part (early_probe b first i) i)
-  early_fine i lt = by (early_probe b first i) refl (early_at b first wide 0 i lt)
+  early_fine i lt = by (early_probe b first i) refl (early_at b first form unplaced i lt)
     where
       by : (o : Option ℕ) → early_probe b first i ≡ o → HasAt items (land i) (early_part o i) → Each Fine (land i) (early_part o i)
       by None none h = tt
       by (Some id) some h =
           let e : q_of i ≡ land i + 1 + 1 + 1 + 1 = ap (λ o. land i + probe_size o) some ∙ omega arith in
-          let found = early_image i id (flow_of (old i)) some some (main_at b first wide 0 i lt) in
+          let found = early_image i id (flow_of (old i)) some some (main_at b first form unplaced i lt) in
           ((some, h.1.0), ((some, h.1.1.0), ((some, h.1.1.1.0), ((some, (found.0, subst (λ q. slice_get items q ≡ Some (image found.0 i (Some id))) e found.1)), tt))))
 
   -- ---- switches
@@ -326,8 +326,8 @@ module _ (b : Body) (first : ℕ) (wide : Bool) (is_code : IsCode b.code) where
       (lt, h ∙ sym (ap (early_by (probe_of b first) i (old i)) e), subst (OkImage b.code (Some b.arg_slots) (probe_of b first) items q i (old i) new) (sym e) ok)
 
   behind_tests : (i : ℕ) (o : Option ℕ) → flow_of (old i) ≡ flows.Branches → late_probe b first i ≡ o
-      → behind_size b first wide i ≡ wide_by flows.Branches wide + hop_size o + 0
-  behind_tests i o e h = size_tests b first wide i e ∙ ap (λ p. wide_by flows.Branches wide + hop_size p + 0) h
+      → behind_size b first form i ≡ wide_by flows.Branches (is_wide form i) + hop_size o + 0
+  behind_tests i o e h = size_tests b first form i e ∙ ap (λ p. wide_by flows.Branches (is_wide form i) + hop_size p + 0) h
 
   -- a conditional jump without a probe, and one with a probe
   abbrev plain_test : Bool → ℕ → List Item
@@ -343,7 +343,7 @@ module _ (b : Body) (first : ℕ) (wide : Bool) (is_code : IsCode b.code) where
   AreFineAt q xs = HasAt items q xs → Each Fine q xs
 
   plain_fine : (w : Bool) (i : ℕ) → i < length b.code → (e : flow_of (old i) ≡ flows.Branches) → late_probe b first i ≡ None
-      → behind_size b first wide i ≡ wide_by flows.Branches w + 0 + 0 → AreFineAt (q_of i) (plain_test w i)
+      → behind_size b first form i ≡ wide_by flows.Branches w + 0 + 0 → AreFineAt (q_of i) (plain_test w i)
   plain_fine false i lt e none size h =
       let to = jump_target (old i) in
       let within = target_within i lt (tests_target (old i) e) in
@@ -400,14 +400,14 @@ module _ (b : Body) (first : ℕ) (wide : Bool) (is_code : IsCode b.code) where
       )
 
   tests_fine : (i : ℕ) → i < length b.code → flow_of (old i) ≡ flows.Branches → (o : Option ℕ) → late_probe b first i ≡ o
-      → HasAt items (q_of i) (tests_part b first wide i (old i) o) → Each Fine (q_of i) (tests_part b first wide i (old i) o)
-  tests_fine i lt e None none h = plain_fine wide i lt e none (behind_tests i None e none) h
-  tests_fine i lt e (Some id) some h = probed_fine wide i id lt e some h
+      → HasAt items (q_of i) (tests_part b first form i (old i) o) → Each Fine (q_of i) (tests_part b first form i (old i) o)
+  tests_fine i lt e None none h = plain_fine (is_wide form i) i lt e none (behind_tests i None e none) h
+  tests_fine i lt e (Some id) some h = probed_fine (is_wide form i) i id lt e some h
 
   main_fine : (i : ℕ) (flow : Flow) → i < length b.code → flow_of (old i) ≡ flow → HasAt items (q_of i) (main i flow)
       → Each Fine (q_of i) (main i flow)
   main_fine i flows.GoesOn lt e h =
-      (image_fine (q_of i) i _ None flows.GoesOn lt e refl (refl, next_lands i (q_of i + 1) lt (inl e) (omega (arith, size_is b first wide i flows.GoesOn e))), tt)
+      (image_fine (q_of i) i _ None flows.GoesOn lt e refl (refl, next_lands i (q_of i + 1) lt (inl e) (omega (arith, size_is b first form i flows.GoesOn e))), tt)
   main_fine i flows.Branches lt e h = tests_fine i lt e (late_probe b first i) refl h
   main_fine i flows.Jumps lt e h =
       let to = jump_target (old i) in
@@ -419,13 +419,13 @@ module _ (b : Body) (first : ℕ) (wide : Bool) (is_code : IsCode b.code) where
       } in
       (image_fine (q_of i) i _ (early_probe b first i) flows.Jumps lt e (ap (early_by (probe_of b first) i (old i)) e) alike, tt)
   main_fine i flows.Switches lt e h =
-      let list = arms_is b first wide 0 is_code i e in
+      let list = arms_is b first form unplaced is_code i e in
       let within : AreWithin (arms_at b.code i) = λ x c. listed_within i lt x (subst (λ l. Contains l x) list c) in
       let alike : Switches i (with_places (arm_place (probe_of b first) land (q_of i + 1) (arms_at b.code i)) (old i)) = record {
         place = arm_place (probe_of b first) land (q_of i + 1) (arms_at b.code i);
         same = refl;
         each = λ x c. arms_land i (arm_place (probe_of b first) land (q_of i + 1) (arms_at b.code i)) (q_of i + 1) (arms_at b.code i)
-            (are_arms_at b first wide 0 is_code i e) (λ y d. refl) h.1 within x
+            (are_arms_at b first form unplaced is_code i e) (λ y d. refl) h.1 within x
             (subst (λ l. Contains l x) (sym list) (subst (λ f. Contains (branches_by f i (targets_of (old i))) x) e c));
       } in
       (image_fine (q_of i) i _ None flows.Switches lt e refl alike, arms_fine (q_of i + 1) (arms_at b.code i) h.1 within (λ x id c some. arm_to i id x lt e c some))
@@ -434,13 +434,13 @@ module _ (b : Body) (first : ℕ) (wide : Bool) (is_code : IsCode b.code) where
   main_fine i flows.Throws lt e h =
       (image_fine (q_of i) i _ (early_probe b first i) flows.Throws lt e (ap (early_by (probe_of b first) i (old i)) e) refl, tt)
 
-  segment_fine : (i : ℕ) → i < length b.code → Each Fine (lead i) (segment b first wide i)
+  segment_fine : (i : ℕ) → i < length b.code → Each Fine (lead i) (segment b first form i)
   segment_fine i lt =
       each_append Fine (lead i) (lead_part (lead_probe b first i) i) _ (lead_fine i lt)
       (subst (λ k. Each Fine (lead i + k) (early_part (early_probe b first i) i ++ main i (flow_of (old i)))) (sym (length-lead (lead_probe b first i) i))
       (each_append Fine (land i) (early_part (early_probe b first i) i) _ (early_fine i lt)
       (subst (λ k. Each Fine (land i + k) (main i (flow_of (old i)))) (sym (length-early (early_probe b first i) i))
-      (main_fine i (flow_of (old i)) lt refl (main_at b first wide 0 i lt)))))
+      (main_fine i (flow_of (old i)) lt refl (main_at b first form unplaced i lt)))))
 
   start_lands : In prelude_size 0 None
   start_lands = lead_lands 0 is_code.some
@@ -451,12 +451,12 @@ module _ (b : Body) (first : ℕ) (wide : Bool) (is_code : IsCode b.code) where
     record { place = refl; within = omega arith; next = refl },
     (
       record { place = refl; within = omega arith; next = start_lands },
-      each_piece Fine (segment b first wide) (segment_size b first wide) (sized b first wide) prelude_size (length b.code) (λ i lt. segment_fine i lt),
+      each_piece Fine (segment b first form) (segment_size b first form) (sized b first form) prelude_size (length b.code) (λ i lt. segment_fine i lt),
     ),
   )
 
   pub twin_ok : AllOk b.code (Some b.arg_slots) (probe_of b first) items
   twin_ok = record {
     ok = λ q x h. subst (λ k. Fine k x) (zero-add q) (each_at Fine 0 items q x all_fine h);
-    start = (prelude_at b first wide).0;
+    start = (prelude_at b first form).0;
   }

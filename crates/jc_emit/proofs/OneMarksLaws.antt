@@ -1,5 +1,5 @@
 -- Two twins of one body with one code have the same marks, whatever their layouts are.
-use Rattle.std.proofs.Common.{◌≡◌, ⊎_elim, ℕ, zero, suc, ◌+◌, ◌<◌, Bool, true, false, List, [], ◌∷◌, ◌++◌, map, length, None, refl, sym, ap, ap₂, ◌∙◌, arith}
+use Rattle.std.proofs.Common.{◌≡◌, ⊎_elim, ℕ, zero, suc, ◌+◌, ◌<◌, Bool, true, false, List, [], ◌∷◌, ◌++◌, map, length, None, refl, sym, ap, ap₂, ◌∙◌, subst, arith}
 use Rattle.std.proofs.lemmas.Bool.{cases_lt}
 use Rattle.std.proofs.lemmas.List.{length-map, get_or_past}
 use Rattle.jc_bytes.specs.PlainLists.{pieces, total}
@@ -13,8 +13,8 @@ use Rattle.jc_methods.specs.declared.insn.Flow.TheVariants as flows
 use Rattle.jc_methods.specs.declared.body.Body.{Body}
 use Rattle.jc_plan.specs.Probed.{probe_of}
 use Rattle.jc_plan.specs.Plan.{lead_probe}
-use Rattle.jc_emit.specs.Sizes.{insn_at, early_probe, arms_at, probe_size, wide_by}
-use Rattle.jc_emit.specs.Marks.{Marks}
+use Rattle.jc_emit.specs.Sizes.{TwinForm, IsUniform, narrow, widest, layout_form, insn_at, early_probe, arms_at, probe_size, wide_by}
+use Rattle.jc_emit.specs.Marks.{TwinPlaces, Marks, prelude_size}
 use Rattle.jc_emit.specs.TwinCode.{arm_place}
 use Rattle.jc_emit.specs.Items.{image, insn_of, marks_of_items, prelude, lead_part, early_part, arm_parts, segment_size, land_of, image_of, image_part, segment, twin_items}
 use Rattle.jc_emit.specs.Twin.{AreTwinMarks}
@@ -41,7 +41,7 @@ module _ (b : Body) (first : ℕ) where
   old i = insn_at b.code i
 
   abbrev size : Bool → ℕ → ℕ
-  size wide i = segment_size b first wide i
+  size wide i = segment_size b first (layout_form wide) i
 
   -- how many instructions more the wide layout has
   abbrev more : ℕ → ℕ
@@ -65,13 +65,13 @@ module _ (b : Body) (first : ℕ) where
     sizes_same : size true ≡ size false
     sizes_same = λ k i. (let e : size true i ≡ size false i = omega (arith, size_more i, none_more i) in e) k
 
-    lands_same : land_of b first true ≡ land_of b first false
-    lands_same = λ k i. 2 + total (sizes_same k) i + probe_size (lead_probe b first i)
+    lands_same : land_of b first widest ≡ land_of b first narrow
+    lands_same = λ k i. prelude_size + total (sizes_same k) i + probe_size (lead_probe b first i)
 
-    image_same : (i : ℕ) → image_of b first true i ≡ image_of b first false i
+    image_same : (i : ℕ) → image_of b first widest i ≡ image_of b first narrow i
     image_same i = λ k. lands_same k i + probe_size (early_probe b first i)
 
-    part_same : (i : ℕ) (flow : Flow) → flow_of (old i) ≡ flow → image_part b first true i (old i) flow ≡ image_part b first false i (old i) flow
+    part_same : (i : ℕ) (flow : Flow) → flow_of (old i) ≡ flow → image_part b first widest i (old i) flow ≡ image_part b first narrow i (old i) flow
     part_same i flows.GoesOn e = refl
     part_same i flows.Branches e = absurd (omega (arith, none_more i, ap (λ f. wide_by f true) e))
     part_same i flows.Jumps e = ap (λ (land : ℕ → ℕ). image (with_places land (old i)) i (early_probe b first i) ∷ []) lands_same
@@ -81,28 +81,38 @@ module _ (b : Body) (first : ℕ) where
     part_same i flows.Returns e = refl
     part_same i flows.Throws e = refl
 
-    segment_same : (i : ℕ) → segment b first true i ≡ segment b first false i
+    segment_same : (i : ℕ) → segment b first widest i ≡ segment b first narrow i
     segment_same i =
         ap (λ part. lead_part (lead_probe b first i) i ++ (early_part (early_probe b first i) i ++ part)) (part_same i (flow_of (old i)) refl)
 
-    items_same : twin_items b first true ≡ twin_items b first false
+    items_same : twin_items b first widest ≡ twin_items b first narrow
     unfolding twin_items
     items_same = λ k. prelude ++ pieces (λ i. segment_same i k) (length b.code)
 
   -- one code in both layouts
-  both_layouts : (code : List Insn) (call other : ℕ) → code ≡ map (insn_of call b.arg_slots) (twin_items b first true)
-      → code ≡ map (insn_of other b.arg_slots) (twin_items b first false) → twin_items b first true ≡ twin_items b first false
-  both_layouts code call other wide narrow =
-      let long = ap length wide ∙ length-map (twin_items b first true) (insn_of call b.arg_slots) ∙ length_twin b first true in
-      let short = ap length narrow ∙ length-map (twin_items b first false) (insn_of other b.arg_slots) ∙ length_twin b first false in
+  both_layouts : (code : List Insn) (named other : TwinPlaces) → code ≡ map (insn_of named b.arg_slots) (twin_items b first widest)
+      → code ≡ map (insn_of other b.arg_slots) (twin_items b first narrow) → twin_items b first widest ≡ twin_items b first narrow
+  both_layouts code named other e f =
+      let long = ap length e ∙ length-map (twin_items b first widest) (insn_of named b.arg_slots) ∙ length_twin b first widest in
+      let short = ap length f ∙ length-map (twin_items b first narrow) (insn_of other b.arg_slots) ∙ length_twin b first narrow in
       items_same (omega (arith, long, short, total_more (length b.code)))
 
-  one_items : (w u : Bool) (code : List Insn) (call other : ℕ) → code ≡ map (insn_of call b.arg_slots) (twin_items b first w)
-      → code ≡ map (insn_of other b.arg_slots) (twin_items b first u) → twin_items b first w ≡ twin_items b first u
-  one_items true true code call other e f = refl
-  one_items true false code call other e f = both_layouts code call other e f
-  one_items false true code call other e f = sym (both_layouts code other call f e)
-  one_items false false code call other e f = refl
+  one_items : (w u : Bool) (code : List Insn) (named other : TwinPlaces) → code ≡ map (insn_of named b.arg_slots) (twin_items b first (layout_form w))
+      → code ≡ map (insn_of other b.arg_slots) (twin_items b first (layout_form u))
+      → twin_items b first (layout_form w) ≡ twin_items b first (layout_form u)
+  one_items true true code named other e f = refl
+  one_items true false code named other e f = both_layouts code named other e f
+  one_items false true code named other e f = sym (both_layouts code other named f e)
+  one_items false false code named other e f = refl
+
+  one_forms : (x y : TwinForm) → IsUniform x → IsUniform y → (code : List Insn) (named other : TwinPlaces)
+      → code ≡ map (insn_of named b.arg_slots) (twin_items b first x) → code ≡ map (insn_of other b.arg_slots) (twin_items b first y)
+      → twin_items b first x ≡ twin_items b first y
+  one_forms x y w u code named other e f =
+      ap (twin_items b first) w.1
+      ∙ one_items w.0 u.0 code named other (subst (λ z. code ≡ map (insn_of named b.arg_slots) (twin_items b first z)) w.1 e)
+      (subst (λ z. code ≡ map (insn_of other b.arg_slots) (twin_items b first z)) u.1 f)
+      ∙ sym (ap (twin_items b first) u.1)
 
 pub one_marks : (first : ℕ) (b b' : Body) (m n : Marks) → IsWellMadeOfAnySize b → AreTwinMarks first b b' m → AreTwinMarks first b b' n
     → m ≡ n
@@ -110,8 +120,9 @@ one_marks first b b' m n well of_one of_other =
     let t = of_one.twin in
     let u = of_other.twin in
     of_one.marks
-    ∙ marks_known b first t.wide t.call b'.code t.marks well.code t.code
+    ∙ marks_known b first t.form t.places b'.code t.marks well.code t.code
     ∙ ap marks_of_items
-    (one_items b first t.wide u.wide b'.code t.call u.call (code_known b first t.wide t.call b'.code t.marks well.code t.code) (code_known b first u.wide u.call b'.code u.marks well.code u.code))
-    ∙ sym (marks_known b first u.wide u.call b'.code u.marks well.code u.code)
+    (one_forms b first t.form u.form t.uniform u.uniform b'.code t.places u.places
+    (code_known b first t.form t.places b'.code t.marks well.code t.code) (code_known b first u.form u.places b'.code u.marks well.code u.code))
+    ∙ sym (marks_known b first u.form u.places b'.code u.marks well.code u.code)
     ∙ sym of_other.marks

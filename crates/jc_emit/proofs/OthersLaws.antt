@@ -21,8 +21,8 @@ use Rattle.jc_plan.specs.Probed.{probe_of, id_if}
 use Rattle.jc_plan.specs.Plan.{lead_probe}
 use Rattle.jc_bytes.proofs.FirstSeenLaws.{contains_one, first_seen_distinct}
 use Rattle.jc_plan.proofs.ListedLaws.{listed_from, lists_from}
-use Rattle.jc_emit.specs.Sizes.{insn_at, early_by, early_probe, late_by, late_probe, arms_by, arms_at, hop_size, wide_by, wide_size}
-use Rattle.jc_emit.specs.Marks.{Marks, prelude_size}
+use Rattle.jc_emit.specs.Sizes.{TwinForm, is_wide, insn_at, early_by, early_probe, late_by, late_probe, arms_by, arms_at, hop_size, wide_by, wide_size}
+use Rattle.jc_emit.specs.Marks.{TwinPlaces, Marks, prelude_size}
 use Rattle.jc_methods.specs.Widened.{inverted}
 use Rattle.jc_emit.specs.TwinCode.{to_of, here_or, arm_place, probe_place, probe_place_by, probe_owner, probe_owner_by, ProbedEdge, InProbe, IsHop, IsWideGoto, NothingElse, HasProbe, HasArm, HasArms, HasGotoBehind}
 use Rattle.jc_emit.specs.Items.{marks_of_items, Item, start, hop, insn_of, own_of, probe, lead_part, early_part, hop_part, arm_parts, test_part, segment_size, lead_of, land_of, image_of, tests_part, image_part, segment, twin_items}
@@ -112,42 +112,42 @@ arms_by_list b i = by (flow_of (insn_at b.code i)) refl
     by flows.Returns e = tt
     by flows.Throws e = tt
 
-module _ (b : Body) (first : ℕ) (wide : Bool) (call : ℕ) (is_code : IsCode b.code) where
+module _ (b : Body) (first : ℕ) (form : TwinForm) (named : TwinPlaces) (is_code : IsCode b.code) where
   abbrev items : List Item
-  items = twin_items b first wide
+  items = twin_items b first form
 
   abbrev code : List Insn
-  code = map (insn_of call b.arg_slots) items
+  code = map (insn_of named b.arg_slots) items
 
   abbrev m : Marks
   m = marks_of_items items
 
   abbrev image_at : ℕ → ℕ
-  image_at i = image_of b first wide i
+  image_at i = image_of b first form i
 
   abbrev land : ℕ → ℕ
-  land i = land_of b first wide i
+  land i = land_of b first form i
 
   abbrev lead : ℕ → ℕ
-  lead i = lead_of b first wide i
+  lead i = lead_of b first form i
 
   abbrev old : ℕ → Insn
   old i = insn_at b.code i
 
   abbrev Edge : Type 0
-  Edge = ProbedEdge b first wide code m image_at land lead
+  Edge = ProbedEdge b first form code m image_at land lead
 
   abbrev place : Branch → ℕ
-  place x = probe_place b first wide code m image_at land lead x
+  place x = probe_place b first form code m image_at land lead x
 
   abbrev place_by : Way → Flow → ℕ → ℕ
-  place_by way flow i = probe_place_by b first wide code m image_at land lead way flow i
+  place_by way flow i = probe_place_by b first form code m image_at land lead way flow i
 
   abbrev owner_by : Way → Flow → ℕ → ℕ
-  owner_by way flow i = probe_owner_by b first wide code m image_at land lead way flow i
+  owner_by way flow i = probe_owner_by b first form code m image_at land lead way flow i
 
   abbrev Has : ℕ → ℕ → ℕ → Type 0
-  Has q id at = HasProbe b first wide code m image_at land lead q id at
+  Has q id at = HasProbe b first form code m image_at land lead q id at
 
   -- ---- which branches there are
 
@@ -188,14 +188,14 @@ module _ (b : Body) (first : ℕ) (wide : Bool) (call : ℕ) (is_code : IsCode b
   sequence_has : (i id : ℕ) → i < length b.code → probe_of b first (sequence i) ≡ Some id → Has (lead (i + 1)) id (i + 1)
   sequence_has i id lt some =
       ⊎_elim
-      (λ more. (places_told b first wide call).leads (i + 1) id more some)
+      (λ more. (places_told b first form named).leads (i + 1) id more some)
       (λ over.
       let e : length b.code + 0 ≡ i + 1 = omega arith in
-      absurd (none_some id (sym (lead_none b first wide is_code 0) ∙ ap (lead_probe b first) e ∙ some)))
+      absurd (none_some id (sym (lead_none b first form is_code 0) ∙ ap (lead_probe b first) e ∙ some)))
       (cases_lt (i + 1) (length b.code))
 
   arms_have : (i : ℕ) (whole : ℕ → ℕ) (here : ℕ) (xs : List Branch) → Arms i xs → Agrees (probe_of b first) land whole here xs
-      → HasArms b first wide code m image_at land lead here xs
+      → HasArms b first form code m image_at land lead here xs
       → (x : Branch) (id : ℕ) → Contains xs x → probe_of b first x ≡ Some id
       → Has (whole (to_of x)) id (to_of x) × (x.at ≡ i) × (x.way ≡ ways.Switches (to_of x))
   arms_have i whole here [] arms a h x id c some = absurd (none_in x c)
@@ -203,7 +203,7 @@ module _ (b : Body) (first : ℕ) (wide : Bool) (call : ℕ) (is_code : IsCode b
       ⊎_elim
       (λ same.
       let yes : probe_of b first y ≡ Some id = ap (probe_of b first) same ∙ some in
-      let arm_has = subst (λ o. HasArm b first wide code m image_at land lead here (to_of y) o) yes h.0 in
+      let arm_has = subst (λ o. HasArm b first form code m image_at land lead here (to_of y) o) yes h.0 in
       let there = subst (λ q. Has q id (to_of y)) (sym (agrees_first (probe_of b first) land whole here id y xs a yes)) arm_has.0 in
       subst (λ z. Has (whole (to_of z)) id (to_of z) × (z.at ≡ i) × (z.way ≡ ways.Switches (to_of z))) same (there, arms.1, arms.2))
       (λ later. arms_have i whole (here + hop_size (probe_of b first y)) xs arms.3 (agrees_rest (probe_of b first) land whole here y xs arms.0 a) h.1 x id later some)
@@ -233,27 +233,27 @@ module _ (b : Body) (first : ℕ) (wide : Bool) (call : ℕ) (is_code : IsCode b
       let one = subst (λ ts. Contains (map (jump i) ts) x) (tests_target (old i) e) later in
       let same = contains_one (jump i (jump_target (old i))) x one in
       let late : late_probe b first i ≡ Some id = ap (late_by (probe_of b first) i (old i)) e ∙ ap (probe_of b first) same ∙ some in
-      subst (λ z. Has (place_by z.way flows.Branches i) id (owner_by z.way flows.Branches i) × (z.at ≡ i)) same ((jumps_told b first wide call).probes i id (lt, e) late, refl))
+      subst (λ z. Has (place_by z.way flows.Branches i) id (owner_by z.way flows.Branches i) × (z.at ≡ i)) same ((jumps_told b first form named).probes i id (lt, e) late, refl))
       (which_in (sequence i) (map (jump i) (targets_of (old i))) x c)
   edge_has i flows.Jumps x id lt e c some =
       let one = subst (λ ts. Contains (map (jump i) ts) x) (jumps_target (old i) e) c in
       let same = contains_one (jump i (jump_target (old i))) x one in
       let early : early_probe b first i ≡ Some id = ap (early_by (probe_of b first) i (old i)) e ∙ ap (probe_of b first) same ∙ some in
-      subst (λ z. Has (place_by z.way flows.Jumps i) id (owner_by z.way flows.Jumps i) × (z.at ≡ i)) same ((places_told b first wide call).early i id lt early, refl)
+      subst (λ z. Has (place_by z.way flows.Jumps i) id (owner_by z.way flows.Jumps i) × (z.at ≡ i)) same ((places_told b first form named).early i id lt early, refl)
   edge_has i flows.Switches x id lt e c some =
       let listed = subst (λ l. Contains l x) (sym (arms_is i e)) c in
-      let h = arms_have i (arm_at i) (image_at i + 1) (arms_at b.code i) (are_arms_at i e) (λ y d. refl) ((switches_told b first wide call).arms i (lt, e)) x id listed some in
+      let h = arms_have i (arm_at i) (image_at i + 1) (arms_at b.code i) (are_arms_at i e) (λ y d. refl) ((switches_told b first form named).arms i (lt, e)) x id listed some in
       (subst (λ w. Has (place_by w flows.Switches i) id (owner_by w flows.Switches i)) (sym h.2) h.0, h.1)
   edge_has i flows.Returns x id lt e c some =
       let same = contains_one (exit i) x c in
       let early : early_probe b first i ≡ Some id = ap (early_by (probe_of b first) i (old i)) e ∙ ap (probe_of b first) same ∙ some in
-      subst (λ z. Has (place_by z.way flows.Returns i) id (owner_by z.way flows.Returns i) × (z.at ≡ i)) same ((places_told b first wide call).early i id lt early, refl)
+      subst (λ z. Has (place_by z.way flows.Returns i) id (owner_by z.way flows.Returns i) × (z.at ≡ i)) same ((places_told b first form named).early i id lt early, refl)
   edge_has i flows.Throws x id lt e c some =
       let same = contains_one (exit i) x c in
       let early : early_probe b first i ≡ Some id = ap (early_by (probe_of b first) i (old i)) e ∙ ap (probe_of b first) same ∙ some in
-      subst (λ z. Has (place_by z.way flows.Throws i) id (owner_by z.way flows.Throws i) × (z.at ≡ i)) same ((places_told b first wide call).early i id lt early, refl)
+      subst (λ z. Has (place_by z.way flows.Throws i) id (owner_by z.way flows.Throws i) × (z.at ≡ i)) same ((places_told b first form named).early i id lt early, refl)
 
-  probes_told : (e : Edge) → Has (place e.branch) e.id (probe_owner b first wide code m image_at land lead e.branch)
+  probes_told : (e : Edge) → Has (place e.branch) e.id (probe_owner b first form code m image_at land lead e.branch)
   probes_told e =
       let a = at_found e.branch e.listed in
       let h = edge_has a.at (flow_of (old a.at)) e.branch e.id a.within refl a.listed e.probed in
@@ -264,10 +264,10 @@ module _ (b : Body) (first : ℕ) (wide : Bool) (call : ℕ) (is_code : IsCode b
   abbrev Role : ℕ → Item → Type 0
   Role q x =
       (q < prelude_size) ⊎ ((slice_get m.own q ≡ Some true)
-      ⊎ (InProbe b first wide code m image_at land lead q ⊎ (IsHop b first wide code m image_at land lead q ⊎ IsWideGoto b first wide code m image_at land lead q)))
+      ⊎ (InProbe b first form code m image_at land lead q ⊎ (IsHop b first form code m image_at land lead q ⊎ IsWideGoto b first form code m image_at land lead q)))
 
   own_role : (q : ℕ) (x : Item) → slice_get items q ≡ Some x → own_of x ≡ true → Role q x
-  own_role q x h own = inr (inl ((item_stands call b.arg_slots items q x h).own_is ∙ ap Some own))
+  own_role q x h own = inr (inl ((item_stands named b.arg_slots items q x h).own_is ∙ ap Some own))
 
   probe_role : (q : ℕ) (x : Item) (e : Edge) (step : ℕ) → step < 4 → q ≡ place e.branch + step → Role q x
   probe_role q x e step four h = inr (inr (inl (record { edge = e; step = step; four = four; place = h })))
@@ -284,7 +284,7 @@ module _ (b : Body) (first : ℕ) (wide : Bool) (call : ℕ) (is_code : IsCode b
     ),
   )
 
-  hop_roles : (q id to : ℕ) (e : Edge) → HasGotoBehind b first wide code m image_at land lead e.branch.way (flow_of (old e.branch.at))
+  hop_roles : (q id to : ℕ) (e : Edge) → HasGotoBehind b first form code m image_at land lead e.branch.way (flow_of (old e.branch.at))
       → q ≡ place e.branch → Each Role q (hop_part land (Some id) to)
   hop_roles q id to e behind h =
       each_append Role q (probe id to true) (hop (land to) to None ∷ []) (probe_roles q id to true e h)
@@ -343,29 +343,29 @@ module _ (b : Body) (first : ℕ) (wide : Bool) (call : ℕ) (is_code : IsCode b
       probe_roles (land i) id i false edge (x.3 ∙ ap (λ k. place_by x.0.way (flow_of (old k)) k) (sym x.4))
 
   -- conditional jumps
-  test_roles : (w : Bool) → wide ≡ w → (i : ℕ) (insn : Insn) (on : ℕ) (due : Option ℕ) → i < length b.code → flow_of (old i) ≡ flows.Branches
+  test_roles : (w : Bool) (i : ℕ) → is_wide form i ≡ w → (insn : Insn) (on : ℕ) (due : Option ℕ) → i < length b.code → flow_of (old i) ≡ flows.Branches
       → HasAt items (image_at i) (test_part w (image_at i) insn i on due) → Each Role (image_at i) (test_part w (image_at i) insn i on due)
-  test_roles false is i insn on due lt e h = (own_role (image_at i) _ h.0 refl, tt)
-  test_roles true is i insn on due lt e h =
+  test_roles false i is insn on due lt e h = (own_role (image_at i) _ h.0 refl, tt)
+  test_roles true i is insn on due lt e h =
       (own_role (image_at i) _ h.0 refl, (inr (inr (inr (inr (record { layout = is; test = i; tests = (lt, e); place = refl })))), tt))
 
   tests_roles : (i : ℕ) → i < length b.code → flow_of (old i) ≡ flows.Branches → (o : Option ℕ) → late_probe b first i ≡ o
-      → HasAt items (image_at i) (tests_part b first wide i (old i) o) → Each Role (image_at i) (tests_part b first wide i (old i) o)
-  tests_roles i lt e None none h = test_roles wide refl i (with_places land (old i)) (jump_target (old i)) None lt e h
+      → HasAt items (image_at i) (tests_part b first form i (old i) o) → Each Role (image_at i) (tests_part b first form i (old i) o)
+  tests_roles i lt e None none h = test_roles (is_wide form i) i refl (with_places land (old i)) (jump_target (old i)) None lt e h
   tests_roles i lt e (Some id) some h =
-      let part = test_part wide (image_at i) (inverted (lead (i + 1)) (old i)) i (i + 1) (lead_probe b first (i + 1)) in
+      let part = test_part (is_wide form i) (image_at i) (inverted (lead (i + 1)) (old i)) i (i + 1) (lead_probe b first (i + 1)) in
       let more = hop_part land (Some id) (jump_target (old i)) in
-      let long = length-test wide (image_at i) (inverted (lead (i + 1)) (old i)) i (i + 1) (lead_probe b first (i + 1)) in
+      let long = length-test (is_wide form i) (image_at i) (inverted (lead (i + 1)) (old i)) i (i + 1) (lead_probe b first (i + 1)) in
       let x = jump i (jump_target (old i)) in
       let listed = later_in (sequence i) (map (jump i) (targets_of (old i))) x (subst (λ ts. Contains (map (jump i) ts) x) (sym (tests_target (old i) e)) (first_in x ([]))) in
       let probed : probe_of b first x ≡ Some id = sym (ap (late_by (probe_of b first) i (old i)) e) ∙ some in
       let edge = edge_of i flows.Branches x id lt e listed probed in
-      let same : wide_size b wide i ≡ wide_by flows.Branches wide = ap (λ f. wide_by f wide) e in
-      let there : image_at i + length part ≡ image_at i + 1 + wide_size b wide i = omega (arith, long, same) in
+      let same : wide_size b form i ≡ wide_by flows.Branches (is_wide form i) = ap (λ f. wide_by f (is_wide form i)) e in
+      let there : image_at i + length part ≡ image_at i + 1 + wide_size b form i = omega (arith, long, same) in
       each_append Role (image_at i) part more
-      (test_roles wide refl i (inverted (lead (i + 1)) (old i)) (i + 1) (lead_probe b first (i + 1)) lt e (has_front items (image_at i) part more h))
+      (test_roles (is_wide form i) i refl (inverted (lead (i + 1)) (old i)) (i + 1) (lead_probe b first (i + 1)) lt e (has_front items (image_at i) part more h))
       (hop_roles (image_at i + length part) id (jump_target (old i)) edge
-      (subst (λ f. HasGotoBehind b first wide code m image_at land lead (ways.Jumps (jump_target (old i))) f) (sym e) tt)
+      (subst (λ f. HasGotoBehind b first form code m image_at land lead (ways.Jumps (jump_target (old i))) f) (sym e) tt)
       (there ∙ ap (λ f. place_by (ways.Jumps (jump_target (old i))) f i) (sym e)))
 
   -- switches
@@ -386,11 +386,11 @@ module _ (b : Body) (first : ℕ) (wide : Bool) (call : ℕ) (is_code : IsCode b
           let edge = edge_of i flows.Switches x id lt e c some in
           let here_is = agrees_first (probe_of b first) land (arm_at i) here id x xs a some in
           hop_roles here id (to_of x) edge
-          (subst (λ w. HasGotoBehind b first wide code m image_at land lead w (flow_of (old x.at))) (sym arms.2) tt)
+          (subst (λ w. HasGotoBehind b first form code m image_at land lead w (flow_of (old x.at))) (sym arms.2) tt)
           (sym here_is ∙ sym (ap (λ w. place_by w (flow_of (old x.at)) x.at) arms.2 ∙ ap (λ k. arm_at k (to_of x)) arms.1))
 
   main_roles : (i : ℕ) (flow : Flow) → i < length b.code → flow_of (old i) ≡ flow
-      → HasAt items (image_at i) (image_part b first wide i (old i) flow) → Each Role (image_at i) (image_part b first wide i (old i) flow)
+      → HasAt items (image_at i) (image_part b first form i (old i) flow) → Each Role (image_at i) (image_part b first form i (old i) flow)
   main_roles i flows.GoesOn lt e h = (own_role (image_at i) _ h.0 refl, tt)
   main_roles i flows.Branches lt e h = tests_roles i lt e (late_probe b first i) refl h
   main_roles i flows.Jumps lt e h = (own_role (image_at i) _ h.0 refl, tt)
@@ -399,28 +399,28 @@ module _ (b : Body) (first : ℕ) (wide : Bool) (call : ℕ) (is_code : IsCode b
   main_roles i flows.Returns lt e h = (own_role (image_at i) _ h.0 refl, tt)
   main_roles i flows.Throws lt e h = (own_role (image_at i) _ h.0 refl, tt)
 
-  segment_roles : (i : ℕ) → i < length b.code → Each Role (lead i) (segment b first wide i)
+  segment_roles : (i : ℕ) → i < length b.code → Each Role (lead i) (segment b first form i)
   segment_roles i lt =
       each_append Role (lead i) (lead_part (lead_probe b first i) i) _
       (lead_roles i lt (lead_probe b first i) refl)
-      (subst (λ k. Each Role (lead i + k) (early_part (early_probe b first i) i ++ image_part b first wide i (old i) (flow_of (old i)))) (sym (length-lead (lead_probe b first i) i))
+      (subst (λ k. Each Role (lead i + k) (early_part (early_probe b first i) i ++ image_part b first form i (old i) (flow_of (old i)))) (sym (length-lead (lead_probe b first i) i))
       (each_append Role (land i) (early_part (early_probe b first i) i) _
       (early_roles i lt (early_probe b first i) refl)
-      (subst (λ k. Each Role (land i + k) (image_part b first wide i (old i) (flow_of (old i)))) (sym (length-early (early_probe b first i) i))
-      (main_roles i (flow_of (old i)) lt refl (main_at b first wide call i lt)))))
+      (subst (λ k. Each Role (land i + k) (image_part b first form i (old i) (flow_of (old i)))) (sym (length-early (early_probe b first i) i))
+      (main_roles i (flow_of (old i)) lt refl (main_at b first form named i lt)))))
 
   all_roles : Each Role 0 items
   unfolding twin_items
   all_roles =
-      (inl (omega arith), (inl (omega arith), each_piece Role (segment b first wide) (segment_size b first wide) (sized b first wide) prelude_size (length b.code) (λ i lt. segment_roles i lt)))
+      (inl (omega arith), (inl (omega arith), each_piece Role (segment b first form) (segment_size b first form) (sized b first form) prelude_size (length b.code) (λ i lt. segment_roles i lt)))
 
   others_told : (q : ℕ) → q < length code → Role q (start 0)
   others_told q lt =
-      let within : q < length items = omega (arith, length-map items (insn_of call b.arg_slots)) in
+      let within : q < length items = omega (arith, length-map items (insn_of named b.arg_slots)) in
       let here = slice_get-get_or items q (start 0) within in
       let role = each_at Role 0 items q _ all_roles here in
       let e : 0 + q ≡ q = zero-add q in
       subst (λ k. Role k (start 0)) e role
 
-  pub nothing_else_told : NothingElse b first wide code m image_at land lead
+  pub nothing_else_told : NothingElse b first form code m image_at land lead
   nothing_else_told = record { probes = probes_told; others = others_told }

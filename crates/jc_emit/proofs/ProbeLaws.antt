@@ -19,8 +19,8 @@ use Rattle.jc_plan.specs.Edges.{sequence, jump, exit, branches_by}
 use Rattle.jc_plan.specs.Probed.{probe_of, id_if, is_probed, id_of}
 use Rattle.jc_plan.proofs.OneIdLaws.{one_edge}
 use Rattle.jc_plan.proofs.FlowLaws.{IsAt, all_at}
-use Rattle.jc_emit.specs.Sizes.{insn_at, late_by, late_probe, arms_by, arms_at, hop_size}
-use Rattle.jc_emit.specs.Marks.{Marks, IsProbe, aload, invokestatic, prelude_size, push, image_place, land_place, lead_place}
+use Rattle.jc_emit.specs.Sizes.{TwinForm, is_wide, insn_at, late_by, late_probe, arms_by, arms_at, hop_size}
+use Rattle.jc_emit.specs.Marks.{TwinPlaces, Marks, IsProbe, aload, invokestatic, prelude_size, push, image_place, land_place, lead_place}
 use Rattle.jc_emit.specs.TwinCode.{to_of, Sentences, IsTwinCode, ProbedEdge, InProbe, IsWideGoto, IsAdded, HasGotoBehind, HasTest, HasHop, HasArm, HasArms, IsProbeOf, IsProbeIn, arm, probe_place, probe_place_by}
 use Rattle.jc_emit.proofs.OthersLaws.{Arms, arm_way, Agrees, agrees_first, agrees_rest, arms_by_list, at_found, tests_target, jumps_target}
 
@@ -53,27 +53,27 @@ probed_is b first id x e = by (is_probed b x) refl e
 
 -- ---- what stands at a place that isn't own
 
-module _ (b : Body) (first : ℕ) (wide : Bool) (code : List Insn) (m : Marks) (image land lead : ℕ → ℕ) (call : ℕ) (is_code : IsCode b.code)
-    (s : Sentences b first wide code m image land lead call) where
+module _ (b : Body) (first : ℕ) (form : TwinForm) (code : List Insn) (m : Marks) (image land lead : ℕ → ℕ) (named : TwinPlaces) (is_code : IsCode b.code)
+    (s : Sentences b first form code m image land lead named) where
   abbrev old : ℕ → Insn
   old i = insn_at b.code i
 
   abbrev Edge : Type 0
-  Edge = ProbedEdge b first wide code m image land lead
+  Edge = ProbedEdge b first form code m image land lead
 
   abbrev place : Branch → ℕ
-  place x = probe_place b first wide code m image land lead x
+  place x = probe_place b first form code m image land lead x
 
   -- a goto stands there
   abbrev IsGoto : ℕ → Type 0
   IsGoto q = (to : ℕ) × (slice_get code q ≡ Some (goto to))
 
-  hop_goto : (q to : ℕ) → HasHop b first wide code m image land lead q to → IsGoto q
+  hop_goto : (q to : ℕ) → HasHop b first form code m image land lead q to → IsGoto q
   hop_goto q to h = (land to, h.insn_is)
 
   -- the arm places of these branches stand there
   abbrev HasArmsAt : ℕ → List Branch → Type 0
-  HasArmsAt here xs = HasArms b first wide code m image land lead here xs
+  HasArmsAt here xs = HasArms b first form code m image land lead here xs
 
   arms_goto : (i : ℕ) (whole : ℕ → ℕ) (here : ℕ) (xs : List Branch) → Arms i xs → Agrees (probe_of b first) land whole here xs
       → HasArmsAt here xs → (x : Branch) (id : ℕ) → Contains xs x → probe_of b first x ≡ Some id
@@ -83,7 +83,7 @@ module _ (b : Body) (first : ℕ) (wide : Bool) (code : List Insn) (m : Marks) (
       ⊎_elim
       (λ same.
       let yes : probe_of b first y ≡ Some id = ap (probe_of b first) same ∙ some in
-      let arm_has = subst (λ o. HasArm b first wide code m image land lead here (to_of y) o) yes h.0 in
+      let arm_has = subst (λ o. HasArm b first form code m image land lead here (to_of y) o) yes h.0 in
       let at = agrees_first (probe_of b first) land whole here id y xs a yes in
       subst (λ z. IsGoto (whole (to_of z) + 4)) same (subst (λ q. IsGoto (q + 4)) (sym at) (hop_goto (here + 4) (to_of y) arm_has.1)))
       (λ later.
@@ -92,10 +92,10 @@ module _ (b : Body) (first : ℕ) (wide : Bool) (code : List Insn) (m : Marks) (
 
   -- the probe of such a branch has a goto behind it
   abbrev HasGoto : Way → Flow → Type 0
-  HasGoto way flow = HasGotoBehind b first wide code m image land lead way flow
+  HasGoto way flow = HasGotoBehind b first form code m image land lead way flow
 
   abbrev place_by : Way → Flow → ℕ → ℕ
-  place_by way flow i = probe_place_by b first wide code m image land lead way flow i
+  place_by way flow i = probe_place_by b first form code m image land lead way flow i
 
   -- the goto behind a probe that has one
   edge_goto : (i : ℕ) (flow : Flow) (x : Branch) (id : ℕ) → i < length b.code → flow_of (old i) ≡ flow
@@ -122,7 +122,7 @@ module _ (b : Body) (first : ℕ) (wide : Bool) (code : List Insn) (m : Marks) (
       let listed : Contains (arms_at b.code i) x = subst (λ f. Contains (arms_by i (old i) f) x) (sym e) (subst (λ f. Contains (branches_by f i (targets_of (old i))) x) (sym e) c) in
       let way = arm_way i (arms_at b.code i) arms x listed in
       subst (λ w. IsGoto (place_by w flows.Switches i + 4)) (sym way)
-      (arms_goto i (arm b first wide code m image land lead i) (image i + 1) (arms_at b.code i) arms (λ y d. refl) (s.switches.arms i (lt, e)) x id listed some)
+      (arms_goto i (arm b first form code m image land lead i) (image i + 1) (arms_at b.code i) arms (λ y d. refl) (s.switches.arms i (lt, e)) x id listed some)
   edge_goto i flows.Returns x id lt e c some behind =
       absurd (subst (λ z. HasGoto z.way flows.Returns) (sym (contains_one (exit i) x c)) behind)
   edge_goto i flows.Throws x id lt e c some behind =
@@ -131,7 +131,7 @@ module _ (b : Body) (first : ℕ) (wide : Bool) (code : List Insn) (m : Marks) (
   behind_edge : (e : Edge) → HasGoto e.branch.way (flow_of (old e.branch.at))
       → IsGoto (place e.branch + 4)
   behind_edge e behind =
-      let a = at_found b first wide call is_code e.branch e.listed in
+      let a = at_found b first form named is_code e.branch e.listed in
       let same = branch_at a.at e.branch a.listed in
       edge_goto e.branch.at (flow_of (old e.branch.at)) e.branch e.id
       (subst (λ i. i < length b.code) (sym same) a.within) refl
@@ -144,17 +144,17 @@ module _ (b : Body) (first : ℕ) (wide : Bool) (code : List Insn) (m : Marks) (
 
   -- ---- conditional jumps of the wide layout
 
-  test_goto : (w : Bool) (i : ℕ) (insn : Insn) (on : ℕ) → w ≡ true → HasTest b first wide code m image land lead w i insn on
+  test_goto : (w : Bool) (i : ℕ) (insn : Insn) (on : ℕ) → w ≡ true → HasTest b first form code m image land lead w i insn on
       → IsGoto (image i + 1)
   test_goto false i insn on e h = cc
   test_goto true i insn on e h = (jump_target insn, h.1.insn_is)
 
-  wide_goto : (q : ℕ) → IsWideGoto b first wide code m image land lead q → IsGoto q
+  wide_goto : (q : ℕ) → IsWideGoto b first form code m image land lead q → IsGoto q
   wide_goto q w = subst IsGoto (sym w.place) (by (late_probe b first w.test) refl)
     where
       by : (o : Option ℕ) → late_probe b first w.test ≡ o → IsGoto (image w.test + 1)
-      by None none = test_goto wide w.test _ _ w.layout (s.jumps.tests w.test w.tests none)
-      by (Some id) some = test_goto wide w.test _ _ w.layout (s.jumps.inverses w.test id w.tests some)
+      by None none = test_goto (is_wide form w.test) w.test _ _ w.layout (s.jumps.tests w.test w.tests none)
+      by (Some id) some = test_goto (is_wide form w.test) w.test _ _ w.layout (s.jumps.inverses w.test id w.tests some)
 
   -- ---- probes
 
@@ -163,7 +163,7 @@ module _ (b : Body) (first : ℕ) (wide : Bool) (code : List Insn) (m : Marks) (
 
   in_prelude : (q id at : ℕ) → q < prelude_size → IsProbe code m b.arg_slots q id at → ⊥
   in_prelude zero id at lt p =
-      let e = same_Some (invokestatic call) (aload b.arg_slots) (sym s.prelude.first_insns.0.insn_is ∙ p.array.insn_is) in cc
+      let e = same_Some (invokestatic named.giver) (aload b.arg_slots) (sym s.prelude.first_insns.0.insn_is ∙ p.array.insn_is) in cc
   in_prelude (suc zero) id at lt p =
       let e = same_Some 1 0 (sym s.prelude.first_insns.1.0.extra_is ∙ p.array.extra_is) in omega (arith, e)
   in_prelude (suc (suc q)) id at lt p = omega (arith, lt)
@@ -177,8 +177,8 @@ module _ (b : Body) (first : ℕ) (wide : Bool) (code : List Insn) (m : Marks) (
   extra_at e (suc (suc (suc zero))) lt = (s.nothing_else.probes e).store.extra_is
   extra_at e (suc (suc (suc (suc step)))) lt = absurd (omega (arith, lt))
 
-  in_probe : (q id at : ℕ) → IsProbe code m b.arg_slots q id at → InProbe b first wide code m image land lead q
-      → IsProbeOf b first wide code m image land lead q id at
+  in_probe : (q id at : ℕ) → IsProbe code m b.arg_slots q id at → InProbe b first form code m image land lead q
+      → IsProbeOf b first form code m image land lead q id at
   in_probe q id at p i =
       let k = s.nothing_else.probes i.edge in
       let first_step = same_Some i.step 0 (sym (extra_at i.edge i.step i.four) ∙ sym (ap (slice_get m.extra) i.place) ∙ p.array.extra_is) in
@@ -192,11 +192,11 @@ module _ (b : Body) (first : ℕ) (wide : Bool) (code : List Insn) (m : Marks) (
         owner = same_Some at _ (sym p.array.at_is ∙ ap (slice_get m.at) here ∙ k.array.at_is);
       }
 
-  pub probe_found : (q id at : ℕ) → IsProbe code m b.arg_slots q id at → IsProbeOf b first wide code m image land lead q id at
+  pub probe_found : (q id at : ℕ) → IsProbe code m b.arg_slots q id at → IsProbeOf b first form code m image land lead q id at
   probe_found q id at p = by (s.nothing_else.others q (slice_get_within code q (aload b.arg_slots) p.array.insn_is))
     where
-      by : (q < prelude_size) ⊎ ((slice_get m.own q ≡ Some true) ⊎ IsAdded b first wide code m image land lead q)
-          → IsProbeOf b first wide code m image land lead q id at
+      by : (q < prelude_size) ⊎ ((slice_get m.own q ≡ Some true) ⊎ IsAdded b first form code m image land lead q)
+          → IsProbeOf b first form code m image land lead q id at
       by (inl low) = absurd (in_prelude q id at low p)
       by (inr (inl own)) = let e = same_Some false true (sym p.array.own_is ∙ own) in absurd (false_true e)
         where
@@ -218,14 +218,14 @@ module _ (b : Body) (first : ℕ) (wide : Bool) (code : List Insn) (m : Marks) (
 
 -- ---- in the code of a twin
 
-pub probe_in : (b : Body) (first : ℕ) (wide : Bool) (call : ℕ) (code : List Insn) (m : Marks) → IsCode b.code
-    → IsTwinCode b first wide call code m
-    → (q id at : ℕ) → IsProbe code m b.arg_slots q id at → IsProbeIn b first wide code m q id at
-probe_in b first wide call code m is_code is q id at p =
-    probe_found b first wide code m (image_place m.own) (land_place b first m.own) (lead_place b first m.own) call is_code is q id at p
+pub probe_in : (b : Body) (first : ℕ) (form : TwinForm) (named : TwinPlaces) (code : List Insn) (m : Marks) → IsCode b.code
+    → IsTwinCode b first form named code m
+    → (q id at : ℕ) → IsProbe code m b.arg_slots q id at → IsProbeIn b first form code m q id at
+probe_in b first form named code m is_code is q id at p =
+    probe_found b first form code m (image_place m.own) (land_place b first m.own) (lead_place b first m.own) named is_code is q id at p
 
-pub one_probe : (b : Body) (first : ℕ) (wide : Bool) (call : ℕ) (code : List Insn) (m : Marks) → IsCode b.code
-    → IsTwinCode b first wide call code m
+pub one_probe : (b : Body) (first : ℕ) (form : TwinForm) (named : TwinPlaces) (code : List Insn) (m : Marks) → IsCode b.code
+    → IsTwinCode b first form named code m
     → (q r id at to : ℕ) → IsProbe code m b.arg_slots q id at → IsProbe code m b.arg_slots r id to → q ≡ r
-one_probe b first wide call code m is_code is q r id at to p k =
-    probe_once b first wide code m (image_place m.own) (land_place b first m.own) (lead_place b first m.own) call is_code is q r id at to p k
+one_probe b first form named code m is_code is q r id at to p k =
+    probe_once b first form code m (image_place m.own) (land_place b first m.own) (lead_place b first m.own) named is_code is q r id at to p k

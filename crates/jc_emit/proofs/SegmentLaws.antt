@@ -27,7 +27,7 @@ use Rattle.jc_plan.specs.declared.branch.Way.{Way}
 use Rattle.jc_plan.specs.declared.branch.Way.TheVariants.{Falls, Jumps, Switches, Exits}
 use Rattle.jc_plan.specs.Plan.{plan_of, lead_probe, out_by, out_probe, out_probes}
 use Rattle.jc_plan.proofs.CountLaws.{count_le}
-use Rattle.jc_emit.specs.Sizes.{insn_at, arms_by, arms_at}
+use Rattle.jc_emit.specs.Sizes.{narrow, insn_at, arms_by, arms_at}
 use Rattle.jc_emit.specs.TwinCode.{arm_place}
 use Rattle.jc_emit.specs.Items.{image, hop_part, arm_parts, lead_of, land_of, image_of, tests_part, image_part}
 use Rattle.jc_emit.specs.Branching.{IsPushed, IsTableOf, early_in, test_image, arm_place_in, arm_part_in}
@@ -121,8 +121,8 @@ module _ (b : Body) (first : ℕ) (plan : Plan) (is : plan ≡ plan_of b first) 
 
 module _ (b : Body) (first i : ℕ) (insn : Insn) where
   pub tests_is : (o : Option ℕ)
-      → image (test_image (land_of b first false) (lead_of b first false (i + 1)) insn o) i None ∷ hop_part (land_of b first false) o (jump_target insn)
-      ≡ tests_part b first false i insn o
+      → image (test_image (land_of b first narrow) (lead_of b first narrow (i + 1)) insn o) i None ∷ hop_part (land_of b first narrow) o (jump_target insn)
+      ≡ tests_part b first narrow i insn o
   tests_is None = refl
   tests_is (Some id) = refl
 
@@ -136,11 +136,11 @@ pub test_within : (count : ℕ) (insn : Insn) → flow_of insn ≡ flows.Branche
 test_within count insn e within = (subst (AllByRecursion (λ to. to < count)) (tests_target insn e) within).0
 
 pub grows_test : (v : ℕ) (b : Body) (first i : ℕ) (insn new : Insn) (o : Option ℕ) (old mid end : Written)
-    → new ≡ test_image (land_of b first false) (lead_of b first false (i + 1)) insn o
-    → Grows v old mid (image new i None ∷ []) → Grows v mid end (hop_part (land_of b first false) o (jump_target insn))
-    → Grows v old end (tests_part b first false i insn o)
+    → new ≡ test_image (land_of b first narrow) (lead_of b first narrow (i + 1)) insn o
+    → Grows v old mid (image new i None ∷ []) → Grows v mid end (hop_part (land_of b first narrow) o (jump_target insn))
+    → Grows v old end (tests_part b first narrow i insn o)
 grows_test v b first i insn new o old mid end is front behind =
-    let land = land_of b first false in
+    let land = land_of b first narrow in
     let to = jump_target insn in
     subst (Grows v old end) (ap (λ (n : Insn). image n i None ∷ hop_part land o to) is ∙ tests_is b first i insn o)
     (grows_append v old mid end (image new i None ∷ []) (hop_part land o to) front behind)
@@ -163,15 +163,15 @@ module _ (b : Body) (first i : ℕ) (e : flow_of (insn_at b.code i) ≡ flows.Sw
   pub switch_ids : length (out_probes b first i switch) ≡ length seen
   switch_ids = ap length ids_are ∙ length_ids (probe_of b first) i 0 seen
 
-  pub switch_image : (lands table : List ℕ) (ids : List (Option ℕ)) (here : ℕ) → IsTableOf (land_of b first false) lands
-      → LeadsWithin (length lands) switch → ids ≡ out_probes b first i switch → here ≡ image_of b first false i + 1
+  pub switch_image : (lands table : List ℕ) (ids : List (Option ℕ)) (here : ℕ) → IsTableOf (land_of b first narrow) lands
+      → LeadsWithin (length lands) switch → ids ≡ out_probes b first i switch → here ≡ image_of b first narrow i + 1
       → ((to : ℕ) → Contains seen to → get_or table to 0 ≡ arm_place_in (slice_index lands) here seen ids to)
       → with_places (slice_index table) switch
-      ≡ with_places (arm_place (probe_of b first) (land_of b first false) (image_of b first false i + 1) (arms_at b.code i)) switch
+      ≡ with_places (arm_place (probe_of b first) (land_of b first narrow) (image_of b first narrow i + 1) (arms_at b.code i)) switch
   switch_image lands table ids here is within same place each =
       let probe = probe_of b first in
-      let land = land_of b first false in
-      let front = image_of b first false i + 1 in
+      let land = land_of b first narrow in
+      let front = image_of b first narrow i + 1 in
       places_agree (slice_index table) (arm_place probe land front (arms_at b.code i)) switch
       (λ to has.
       each to (first_seen_all (targets_of switch) to has)
@@ -180,18 +180,18 @@ module _ (b : Body) (first i : ℕ) (e : flow_of (insn_at b.code i) ≡ flows.Sw
       ∙ ap (λ (l : List Branch). arm_place probe land front l to) (sym arms_are))
 
   pub switch_parts : (ids : List (Option ℕ)) → ids ≡ out_probes b first i switch
-      → pieces (arm_part_in (land_of b first false) seen ids) (length seen) ≡ arm_parts (land_of b first false) (probe_of b first) (arms_at b.code i)
+      → pieces (arm_part_in (land_of b first narrow) seen ids) (length seen) ≡ arm_parts (land_of b first narrow) (probe_of b first) (arms_at b.code i)
   switch_parts ids same =
-      ap (λ (o : List (Option ℕ)). pieces (arm_part_in (land_of b first false) seen o) (length seen)) (same ∙ ids_are)
-      ∙ arm_pieces (probe_of b first) i (land_of b first false) 0 seen
-      ∙ ap (arm_parts (land_of b first false) (probe_of b first)) (sym arms_are)
+      ap (λ (o : List (Option ℕ)). pieces (arm_part_in (land_of b first narrow) seen o) (length seen)) (same ∙ ids_are)
+      ∙ arm_pieces (probe_of b first) i (land_of b first narrow) 0 seen
+      ∙ ap (arm_parts (land_of b first narrow) (probe_of b first)) (sym arms_are)
 
 -- ---- what belongs to an instruction
 
 pub main_by : (v : ℕ) (b : Body) (first at : ℕ) (old new : Written) (flow : Flow) → flow_of (insn_at b.code at) ≡ flow
-    → Grows v old new (image_part b first false at (insn_at b.code at) flow)
-    → Grows v old new (image_part b first false at (insn_at b.code at) (flow_of (insn_at b.code at)))
-main_by v b first at old new flow e grows = subst (λ f. Grows v old new (image_part b first false at (insn_at b.code at) f)) (sym e) grows
+    → Grows v old new (image_part b first narrow at (insn_at b.code at) flow)
+    → Grows v old new (image_part b first narrow at (insn_at b.code at) (flow_of (insn_at b.code at)))
+main_by v b first at old new flow e grows = subst (λ f. Grows v old new (image_part b first narrow at (insn_at b.code at) f)) (sym e) grows
 
 pub early_pushed : (flow : Flow) (ids : List (Option ℕ)) → ((k : ℕ) → IsPushed (get_or ids k None)) → IsPushed (early_in flow ids)
 early_pushed flows.GoesOn ids each = tt

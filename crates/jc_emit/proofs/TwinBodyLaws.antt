@@ -9,6 +9,8 @@ use Rattle.jc_methods.specs.declared.kind.State.{State}
 use Rattle.jc_methods.specs.declared.body.Body.{Body}
 use Rattle.jc_methods.specs.declared.body.Use.{Use}
 use Rattle.jc_methods.specs.declared.body.What.{What}
+use Rattle.jc_emit.specs.Marks.{giver_at}
+use Rattle.jc_emit.specs.Sizes.{narrow}
 use Rattle.jc_emit.specs.TwinFrames.{IsFrame, AreTwinFrames}
 use Rattle.jc_emit.specs.Items.{marks_of_items, twin_items}
 use Rattle.jc_emit.specs.Emission.{frames_at, emission, HasFrameStates, IsArrayNumber}
@@ -37,17 +39,18 @@ module _ (b : Body) (first : ℕ) (states : List State) (array call : ℕ) (name
       → Twin names names states b.owner first b (twin_body b first states array call)
   unfolding twin_body emission
   has_twin well fit named fresh = record {
-    marks = marks_of_items (twin_items b first false);
-    wide = false;
-    call = call;
+    marks = marks_of_items (twin_items b first narrow);
+    form = narrow;
+    uniform = (false, refl);
+    places = giver_at call;
     method = record { method = refl; owner = refl; name = refl; desc = refl; flags = refl; arg_slots = refl };
     calls = calls b call fresh;
     uses = keeps b call fresh;
-    code = code_told b first false call well.code;
+    code = code_told b first narrow (giver_at call) well.code;
     tables = tables b first states array names well fit named;
     frames =
         at_own b first states array names well fit named
-        (λ image land lead. AreTwinFrames names names b.arg_slots image (IsFrame b first states image land lead false)
+        (λ image land lead. AreTwinFrames names names b.arg_slots image (IsFrame b first states image land lead narrow)
         (pieces (frames_at b first states array) (length b.code)))
         (layout_told b first states array names well.code well.frames fit named);
     max_stack = refl;

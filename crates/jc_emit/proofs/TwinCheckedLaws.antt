@@ -21,11 +21,12 @@ use Rattle.jc_kinds_after.specs.Shift.{renamed, shifted}
 use Rattle.jc_bytes.proofs.BooleanLaws.{none_in, of_map}
 use Rattle.jc_kinds.proofs.EntryShiftLaws.{fits_shift}
 use Rattle.jc_kinds.proofs.WalkLaws.{state_itself}
+use Rattle.jc_emit.specs.Sizes.{TwinForm}
 use Rattle.jc_emit.specs.Straddling.{NoneStraddles}
 use Rattle.jc_emit.specs.TwinTables.{moved_row}
 use Rattle.jc_emit.specs.TwinFrames.{state_at}
 use Rattle.jc_emit.specs.Twin.{Twin}
-use Rattle.jc_emit.specs.Marks.{prelude_size}
+use Rattle.jc_emit.specs.Marks.{TwinPlaces, prelude_size}
 use Rattle.jc_emit.specs.Items.{start, insn_of, segment, lead_of, land_of, image_of}
 use Rattle.jc_emit.proofs.PiecesLaws.{each_at}
 use Rattle.jc_emit.proofs.BuiltLaws.{sized, prelude_at}
@@ -35,15 +36,15 @@ use Rattle.jc_emit.proofs.TwinStatesLaws.{there_fit, fit_there, after_there, all
 use Rattle.jc_emit.proofs.TwinLeadsLaws.{framed, landing_frame, all_led, all_landed}
 use Rattle.jc_emit.proofs.TwinSoundLaws.{Sound, Near, Fine, segment_fine}
 
-module _ (names new_names : Names) (states : List State) (first : ℕ) (wide : Bool) (call : ℕ) (b b' : Body) (p : Premises names new_names states first wide call b b') where
+module _ (names new_names : Names) (states : List State) (first : ℕ) (form : TwinForm) (named : TwinPlaces) (b b' : Body) (p : Premises names new_names states first form named b b') where
   abbrev land : ℕ → ℕ
-  land i = land_of b first wide i
+  land i = land_of b first form i
 
   abbrev lead : ℕ → ℕ
-  lead i = lead_of b first wide i
+  lead i = lead_of b first form i
 
   abbrev moved : TypeState → TypeState
-  moved s = shifted (image_of b first wide) b.arg_slots s
+  moved s = shifted (image_of b first form) b.arg_slots s
 
   abbrev S : ℕ → TypeState
   S i = type_state names (state_at states i)
@@ -52,23 +53,23 @@ module _ (names new_names : Names) (states : List State) (first : ℕ) (wide : B
   N q = state_of new_names b' q
 
   abbrev SoundAt : ℕ → Type 0
-  SoundAt q = Sound names new_names states first wide call b b' p q
+  SoundAt q = Sound names new_names states first form named b b' p q
 
   -- the state behind the call
   abbrev E1 : TypeState
-  E1 = E_array names new_names states first wide call b b' p
+  E1 = E_array names new_names states first form named b b' p
 
   -- ---- the prelude
 
   call_sound : SoundAt 0
   call_sound = record {
-    insn = insn_of call b.arg_slots (start 0);
-    stands = stands names new_names states first wide call b b' p 0 (start 0) (prelude_at b first wide).0;
+    insn = insn_of named b.arg_slots (start 0);
+    stands = stands names new_names states first form named b b' p 0 (start 0) (prelude_at b first form).0;
     before = entry_of b';
-    state_is = state_0 names new_names states first wide call b b' p;
+    state_is = state_0 names new_names states first form named b b' p;
     after = E1;
-    after_is = after_0 names new_names states first wide call b b' p;
-    next = λ falls. fit_there (N 1) E1 E1 (state_1 names new_names states first wide call b b' p) (state_itself E1);
+    after_is = after_0 names new_names states first form named b b' p;
+    next = λ falls. fit_there (N 1) E1 E1 (state_1 names new_names states first form named b b' p) (state_itself E1);
     stops = λ halts. absurd (halts (inl refl));
     jumps = λ r c. absurd (none_in r c);
   }
@@ -76,17 +77,17 @@ module _ (names new_names : Names) (states : List State) (first : ℕ) (wide : B
   store_sound : SoundAt 1
   store_sound =
       let some = p.well.code.some in
-      let l = all_led names new_names states first wide call b b' p 0 (omega (arith, some)) in
+      let l = all_led names new_names states first form named b b' p 0 (omega (arith, some)) in
       let first_lead : lead 0 ≡ prelude_size = omega arith in
       record {
-        insn = insn_of call b.arg_slots (start 1);
-        stands = stands names new_names states first wide call b b' p 1 (start 1) (prelude_at b first wide).1.0;
+        insn = insn_of named b.arg_slots (start 1);
+        stands = stands names new_names states first form named b b' p 1 (start 1) (prelude_at b first form).1.0;
         before = E1;
-        state_is = state_1 names new_names states first wide call b b' p;
+        state_is = state_1 names new_names states first form named b b' p;
         after = moved (entry_of b);
-        after_is = after_1 names new_names states first wide call b b' p;
+        after_is = after_1 names new_names states first form named b b' p;
         next = λ falls. fit_there (N prelude_size) (moved (entry_of b)) (moved l.before) (ap N (sym first_lead) ∙ l.state_is)
-            (fits_shift (image_of b first wide) b.arg_slots (entry_of b) l.before (l.begins refl));
+            (fits_shift (image_of b first form) b.arg_slots (entry_of b) l.before (l.begins refl));
         stops = λ halts. absurd (halts (inl refl));
         jumps = λ r c. absurd (none_in r c);
       }
@@ -107,18 +108,18 @@ module _ (names new_names : Names) (states : List State) (first : ℕ) (wide : B
       (cases_lt q (lead n))
 
   near_piece : (q : ℕ) (i : ℕ) → (lt : i < length b.code) → lead i ≤ q → q < lead (suc i)
-      → (w : SoundAt q) × Near names new_names states first wide call b b' p i w.before
+      → (w : SoundAt q) × Near names new_names states first form named b b' p i w.before
   near_piece q i lt low high =
       let k = q - lead i in
-      let long = sized b first wide i in
-      let within : k < length (segment b first wide i) = omega (arith, low, high, long) in
+      let long = sized b first form i in
+      let within : k < length (segment b first form i) = omega (arith, low, high, long) in
       let place : lead i + k ≡ q = omega (arith, low) in
-      let found = slice_get-get_or (segment b first wide i) k (start 0) within in
-      subst (λ m. (w : SoundAt m) × Near names new_names states first wide call b b' p i w.before) place
-      (each_at (Fine names new_names states first wide call b b' p i) (lead i) (segment b first wide i) k _ (segment_fine names new_names states first wide call b b' p i lt) found)
+      let found = slice_get-get_or (segment b first form i) k (start 0) within in
+      subst (λ m. (w : SoundAt m) × Near names new_names states first form named b b' p i w.before) place
+      (each_at (Fine names new_names states first form named b b' p i) (lead i) (segment b first form i) k _ (segment_fine names new_names states first form named b b' p i lt) found)
 
   long : length b'.code ≡ lead (length b.code)
-  long = code_long names new_names states first wide call b b' p
+  long = code_long names new_names states first form named b b' p
 
   sound : (q : ℕ) → q < length b'.code → SoundAt q
   sound zero lt = call_sound
@@ -131,21 +132,21 @@ module _ (names new_names : Names) (states : List State) (first : ℕ) (wide : B
   -- ---- handlers
 
   old_row : (h : Handler) → Contains b'.handlers h
-      → (g : Handler) × Contains b.handlers g × (h ≡ moved_row (lead_of b first wide) (land_of b first wide) g)
+      → (g : Handler) × Contains b.handlers g × (h ≡ moved_row (lead_of b first form) (land_of b first form) g)
   old_row h c =
-      of_map (moved_row (lead_of b first wide) (land_of b first wide)) b.handlers h (subst (λ l. Contains l h) p.tables.handlers_are c)
+      of_map (moved_row (lead_of b first form) (land_of b first form)) b.handlers h (subst (λ l. Contains l h) p.tables.handlers_are c)
 
   row_is : (g : Handler) → Contains b.handlers g → IsHandler (length b.code) g
   row_is g c = All-contains (IsHandler (length b.code)) b.handlers g p.well.handlers c
 
   handler_frame : (g : Handler) → Contains b.handlers g → HasFrame b' (land g.target)
   handler_frame g c =
-      let f = framed names new_names states first wide call b b' p g.target (row_is g c).target (inr (inl (g, c, refl))) in
-      let a = landing_frame names new_names states first wide call b b' p g.target f in
-      asked_has names new_names states first wide call b b' p (land g.target) a.0 a.1
+      let f = framed names new_names states first form named b b' p g.target (row_is g c).target (inr (inl (g, c, refl))) in
+      let a = landing_frame names new_names states first form named b b' p g.target f in
+      asked_has names new_names states first form named b b' p (land g.target) a.0 a.1
 
   -- what the handler finds on the stack is the same
-  same_caught : (g : Handler) → Contains b.handlers g → caught b' (moved_row (lead_of b first wide) (land_of b first wide) g) ≡ caught b g
+  same_caught : (g : Handler) → Contains b.handlers g → caught b' (moved_row (lead_of b first form) (land_of b first form) g) ≡ caught b g
   same_caught g c = by (nat_eq g.class 0) refl
     where
       by : (t : Bool) → nat_eq g.class 0 ≡ t
@@ -154,13 +155,13 @@ module _ (names new_names : Names) (states : List State) (first : ℕ) (wide : B
       by true e = refl
       by false e =
           let used = All-contains (λ h. h.class ≢ 0 → HasUse b.uses h.class IsClass) b.handlers g p.well.uses.by_handlers c (eqb-false g.class 0 e) in
-          ap (λ o. object (class_in o)) (same_use names new_names states first wide call b b' p g.class IsClass used)
+          ap (λ o. object (class_in o)) (same_use names new_names states first form named b b' p g.class IsClass used)
 
-  caught_stays : (g : Handler) → renamed (image_of b first wide) (caught b g) ≡ caught b g
+  caught_stays : (g : Handler) → renamed (image_of b first form) (caught b g) ≡ caught b g
   caught_stays g = by (nat_eq g.class 0)
     where
       by : (t : Bool)
-          → renamed (image_of b first wide) (if t then object (codes "java/lang/Throwable") else object (class_in (what_used b.uses g.class)))
+          → renamed (image_of b first form) (if t then object (codes "java/lang/Throwable") else object (class_in (what_used b.uses g.class)))
           ≡ (if t then object (codes "java/lang/Throwable") else object (class_in (what_used b.uses g.class)))
       by true = refl
       by false = refl
@@ -177,24 +178,24 @@ module _ (names new_names : Names) (states : List State) (first : ℕ) (wide : B
       let piece = piece_of (length b.code) q (omega arith) (omega (arith, begun)) (omega (arith, lt, l)) in
       let i = piece.owner in
       let low = piece.low in let high = piece.high in
-      let above : g.start ≤ i = ⊎_elim (λ below. let m = leads_grow names new_names states first wide call b b' p (suc i) g.start below in
+      let above : g.start ≤ i = ⊎_elim (λ below. let m = leads_grow names new_names states first form named b b' p (suc i) g.start below in
       absurd (omega (arith, m, high, begun))) (λ le. le) (cases_lt i g.start) in
-      let below : i < g.end = ⊎_elim (λ lt. lt) (λ le. let m = leads_grow names new_names states first wide call b b' p g.end i le in absurd (omega (arith, m, low, end))) (cases_lt i g.end) in
+      let below : i < g.end = ⊎_elim (λ lt. lt) (λ le. let m = leads_grow names new_names states first form named b b' p g.end i le in absurd (omega (arith, m, low, end))) (cases_lt i g.end) in
       let w = near_piece q i piece.within low high in
       let target = row.target in
-      let there = all_landed names new_names states first wide call b b' p g.target target in
+      let there = all_landed names new_names states first form named b b' p g.target target in
       let s : TypeState = record { locals = (S i).locals; stack = caught b g ∷ [] } in
-      let before : state_of names b i ≡ Some (S i) = state_b names new_names states first wide call b b' p i piece.within in
+      let before : state_of names b i ≡ Some (S i) = state_b names new_names states first form named b b' p i piece.within in
       let fits : FitState s (S g.target) =
-      there_fit (at_handler b g (state_of names b i)) (state_of names b g.target) s (S g.target) (ap (at_handler b g) before) (state_b names new_names states first wide call b b' p g.target target)
+      there_fit (at_handler b g (state_of names b i)) (state_of names b g.target) s (S g.target) (ap (at_handler b g) before) (state_b names new_names states first form named b b' p g.target target)
       (p.checked.handlers g i (record { row = o.1; start = above; end = below }) piece.within) in
-      let shifted_fits = fits_shift (image_of b first wide) b.arg_slots s (S g.target) fits in
+      let shifted_fits = fits_shift (image_of b first form) b.arg_slots s (S g.target) fits in
       let all : FitState (record { locals = w.0.before.locals; stack = caught b g ∷ [] }) (moved (S g.target)) = record {
         locals = all_fit_on w.0.before.locals (moved (S i)).locals (moved (S g.target)).locals w.1 shifted_fits.locals;
         stack = subst (λ (x : VerificationType). FitEach (x ∷ []) (moved (S g.target)).stack) (caught_stays g) shifted_fits.stack;
       } in
-      let mine : at_handler b' (moved_row (lead_of b first wide) (land_of b first wide) g) (N q) ≡ Some (record { locals = w.0.before.locals; stack = caught b g ∷ [] }) =
-      ap (at_handler b' (moved_row (lead_of b first wide) (land_of b first wide) g)) w.0.state_is
+      let mine : at_handler b' (moved_row (lead_of b first form) (land_of b first form) g) (N q) ≡ Some (record { locals = w.0.before.locals; stack = caught b g ∷ [] }) =
+      ap (at_handler b' (moved_row (lead_of b first form) (land_of b first form) g)) w.0.state_is
       ∙ ap (λ (x : VerificationType). Some (record { locals = w.0.before.locals; stack = x ∷ [] })) (same_caught g o.1) in
       subst (λ (x : Handler). FitsThere (at_handler b' x (N q)) (N x.target)) (sym e)
       (subst (λ o. FitsThere o (N (land g.target))) (sym mine) (fit_there (N (land g.target)) (record { locals = w.0.before.locals; stack = caught b g ∷ [] }) (moved (S g.target)) there all))
@@ -242,7 +243,7 @@ module _ (names new_names : Names) (states : List State) (first : ℕ) (wide : B
   pub twin_checked : Checked new_names b'
   twin_checked = record {
     none_missing = no_missing;
-    entry = fit_there (N 0) (entry_of b') (entry_of b') (state_0 names new_names states first wide call b b' p) (state_itself (entry_of b'));
+    entry = fit_there (N 0) (entry_of b') (entry_of b') (state_0 names new_names states first form named b b' p) (state_itself (entry_of b'));
     after = λ q lt. ap is_some (after_is_there q (sound q lt));
     branches = branch_fits;
     handlers = handled;
@@ -252,4 +253,4 @@ pub verified : (names new_names : List (List ℕ)) (states : List State) (owner 
     → AreStates names b states → NoneStraddles b
     → Twin names new_names states owner first b b' → Checked new_names b'
 verified names new_names states owner first b b' well checked are free t =
-    twin_checked names new_names states first t.wide t.call b b' (premises names new_names states owner first b b' well checked are free t)
+    twin_checked names new_names states first t.form t.places b b' (premises names new_names states owner first b b' well checked are free t)

@@ -24,8 +24,8 @@ use Rattle.jc_kinds.proofs.WalkLaws.{state_itself}
 use Rattle.jc_plan.specs.Entries.{is_multi_target, is_invocation_line}
 use Rattle.jc_plan.specs.Probed.{id_if, probes_before}
 use Rattle.jc_plan.specs.Plan.{lead_probe}
-use Rattle.jc_emit.specs.Sizes.{early_probe, late_probe, probe_size, wide_by}
-use Rattle.jc_emit.specs.Marks.{astore, prelude_size}
+use Rattle.jc_emit.specs.Sizes.{TwinForm, is_wide, early_probe, late_probe, probe_size, wide_by}
+use Rattle.jc_emit.specs.Marks.{TwinPlaces, astore, prelude_size}
 use Rattle.jc_emit.specs.TwinFrames.{state_at, state_behind, IsFrame}
 use Rattle.jc_emit.specs.Items.{Item, start, image, probe_store, insn_of, test_part, lead_part, early_part, lead_of, land_of, image_of, twin_items}
 use Rattle.jc_emit.proofs.PiecesLaws.{HasAt}
@@ -47,27 +47,27 @@ pub placed_flow : (insn : Insn) (f : ℕ → ℕ) → flow_of insn ≡ flows.Bra
 placed_flow insn f e =
     let j = test_is insn e in subst (λ x. flow_of (with_places f x) ≡ flows.Branches) (sym j.is) (subst (λ x. flow_of x ≡ flows.Branches) j.is e)
 
-module _ (names new_names : Names) (states : List State) (first : ℕ) (wide : Bool) (call : ℕ) (b b' : Body) (p : Premises names new_names states first wide call b b') where
+module _ (names new_names : Names) (states : List State) (first : ℕ) (form : TwinForm) (named : TwinPlaces) (b b' : Body) (p : Premises names new_names states first form named b b') where
   abbrev v : ℕ
   v = b.arg_slots
 
   abbrev items : List Item
-  items = twin_items b first wide
+  items = twin_items b first form
 
   abbrev q_of : ℕ → ℕ
-  q_of i = image_of b first wide i
+  q_of i = image_of b first form i
 
   abbrev land : ℕ → ℕ
-  land i = land_of b first wide i
+  land i = land_of b first form i
 
   abbrev lead : ℕ → ℕ
-  lead i = lead_of b first wide i
+  lead i = lead_of b first form i
 
   abbrev old : ℕ → Insn
   old i = sizes.insn_at b.code i
 
   abbrev moved : TypeState → TypeState
-  moved s = shifted (image_of b first wide) b.arg_slots s
+  moved s = shifted (image_of b first form) b.arg_slots s
 
   abbrev S : ℕ → TypeState
   S i = type_state names (state_at states i)
@@ -79,13 +79,13 @@ module _ (names new_names : Names) (states : List State) (first : ℕ) (wide : B
   F q = frame_at (frames_of new_names b') q
 
   abbrev After : (i : ℕ) → i < length b.code → TypeState
-  After i lt = A names new_names states first wide call b b' p i lt
+  After i lt = A names new_names states first form named b b' p i lt
 
   abbrev Asked : ℕ → State → Type 0
-  Asked q s = IsFrame b first states (image_of b first wide) (land_of b first wide) (lead_of b first wide) wide q s
+  Asked q s = IsFrame b first states (image_of b first form) (land_of b first form) (lead_of b first form) form q s
 
   abbrev state_of_b : (i : ℕ) → i < length b.code → state_of names b i ≡ Some (S i)
-  state_of_b i lt = state_b names new_names states first wide call b b' p i lt
+  state_of_b i lt = state_b names new_names states first form named b b' p i lt
 
   -- ---- the body's own checks
 
@@ -103,16 +103,16 @@ module _ (names new_names : Names) (states : List State) (first : ℕ) (wide : B
 
   pub fits_branch : (i j : ℕ) (lt : i < length b.code) → j < length b.code → LeadsTo b i j → FitState (After i lt) (S j)
   fits_branch i j lt within leads =
-      there_fit (after_at names b i) (state_of names b j) (After i lt) (S j) (after_at_b names new_names states first wide call b b' p i lt) (state_of_b j within) (p.checked.branches i j leads)
+      there_fit (after_at names b i) (state_of names b j) (After i lt) (S j) (after_at_b names new_names states first form named b b' p i lt) (state_of_b j within) (p.checked.branches i j leads)
 
   falls_from : (i : ℕ) → i < length b.code → FallsThrough (old i) → GoesOnFrom b i
-  falls_from i lt falls = record { insn = old i; stands = old_at names new_names states first wide call b b' p i lt; falls = falls }
+  falls_from i lt falls = record { insn = old i; stands = old_at names new_names states first form named b b' p i lt; falls = falls }
 
   -- ---- old frames of the twin
 
   pub old_asked : (f : FrameAt) → Contains b.frames f → Asked (land f.at) f.state
   old_asked f c =
-      narrow names new_names states first wide call b b' p (land f.at) f.state (inl (record { frame = f; listed = c; place = refl; state_is = refl }))
+      narrow names new_names states first form named b b' p (land f.at) f.state (inl (record { frame = f; listed = c; place = refl; state_is = refl }))
 
   -- where a frame of the body stands, one of the twin does
   pub landing_frame : (i : ℕ) → HasFrame b i → (s : State) × Asked (land i) s
@@ -127,13 +127,13 @@ module _ (names new_names : Names) (states : List State) (first : ℕ) (wide : B
       by (Some t) e =
           let f = frame_is names b.frames i t e in
           let a = landing_frame i (f.0, f.1, f.2) in
-          absurd (none-some _ (sym none ∙ asked_frame names new_names states first wide call b b' p (land i) a.0 a.1))
+          absurd (none-some _ (sym none ∙ asked_frame names new_names states first form named b b' p (land i) a.0 a.1))
 
   -- a frame in front of an image has the state before the instruction
   frame_front : (i q : ℕ) (t : TypeState) → lead i ≤ q → q ≤ q_of i → F q ≡ Some t → t ≡ moved (S i)
   frame_front i q t low high e =
-      let a = frame_asked names new_names states first wide call b b' p q t e in
-      a.2 ∙ ap moved (asked_front names new_names states first wide call b b' p i q a.0 low high a.1)
+      let a = frame_asked names new_names states first form named b b' p q t e in
+      a.2 ∙ ap moved (asked_front names new_names states first form named b b' p i q a.0 low high a.1)
 
   -- ---- where fall-throughs lead
 
@@ -148,7 +148,7 @@ module _ (names new_names : Names) (states : List State) (first : ℕ) (wide : B
 
   pub led_long : (j : ℕ) → j < length b.code → (l : Led j) → v ≤ length l.before.locals
   led_long j lt l =
-      let long = S_long names new_names states first wide call b b' p j lt in
+      let long = S_long names new_names states first form named b b' p j lt in
       let same = fit_length l.before.locals (S j).locals l.fits.locals in
       omega (arith, long, same)
 
@@ -158,7 +158,7 @@ module _ (names new_names : Names) (states : List State) (first : ℕ) (wide : B
     before = S j;
     state_is = is;
     fits = state_itself (S j);
-    low = S_low names new_names states first wide call b b' p j lt;
+    low = S_low names new_names states first form named b b' p j lt;
     same = λ none. refl;
     into = λ i within e falls. fits_branch i j within lt (inl (falls_from i within falls, e ∙ sym (add-one i)));
     begins = λ e.
@@ -169,20 +169,20 @@ module _ (names new_names : Names) (states : List State) (first : ℕ) (wide : B
   pub led_by_frame : (j : ℕ) (s : State) → j < length b.code → Asked (lead j) s → Led j
   led_by_frame j s lt a =
       led_by_state j lt
-      (frame_state_is new_names b' (lead j) (moved (type_state names s)) (asked_frame names new_names states first wide call b b' p (lead j) s a)
-      ∙ ap (λ t. Some (moved t)) (asked_front names new_names states first wide call b b' p j (lead j) s (omega arith) (omega arith) a))
+      (frame_state_is new_names b' (lead j) (moved (type_state names s)) (asked_frame names new_names states first form named b b' p (lead j) s a)
+      ∙ ap (λ t. Some (moved t)) (asked_front names new_names states first form named b b' p j (lead j) s (omega arith) (omega arith) a))
 
   -- by falling
   led_by_fall : (i q : ℕ) (x : Item) (lt : i < length b.code) → suc i < length b.code → FallsThrough (old i) → slice_get items q ≡ Some x
-      → FallsThrough (insn_of call v x) → suc q ≡ lead (suc i)
+      → FallsThrough (insn_of named v x) → suc q ≡ lead (suc i)
       → (s : TypeState) → N q ≡ Some s → after_of b' q s ≡ Some (moved (After i lt)) → Led (suc i)
   led_by_fall i q x lt within falls here item_falls place s before after = by (F (lead (suc i))) refl
     where
       next : frame_at (frames_of names b) (suc i) ≡ None → After i lt ≡ S (suc i)
       next none =
           same_Some (After i lt) (S (suc i))
-          (sym (next_state names b i (old i) (S i) (After i lt) none (old_at names new_names states first wide call b b' p i lt) falls
-          (state_of_b i lt) (after_b names new_names states first wide call b b' p i lt).1)
+          (sym (next_state names b i (old i) (S i) (After i lt) none (old_at names new_names states first form named b b' p i lt) falls
+          (state_of_b i lt) (after_b names new_names states first form named b b' p i lt).1)
           ∙ state_of_b (suc i) within)
 
       by : (o : Option TypeState) → F (lead (suc i)) ≡ o → Led (suc i)
@@ -193,9 +193,9 @@ module _ (names new_names : Names) (states : List State) (first : ℕ) (wide : B
         before = After i lt;
         state_is =
             ap N (sym place)
-            ∙ next_state new_names b' q (insn_of call v x) s (moved (After i lt)) (ap F place ∙ e) (stands names new_names states first wide call b b' p q x here) item_falls before after;
+            ∙ next_state new_names b' q (insn_of named v x) s (moved (After i lt)) (ap F place ∙ e) (stands names new_names states first form named b b' p q x here) item_falls before after;
         fits = fits_branch i (suc i) lt within (inl (falls_from i lt falls, sym (add-one i)));
-        low = A_low names new_names states first wide call b b' p i lt;
+        low = A_low names new_names states first form named b b' p i lt;
         same = next;
         into = λ k also same again.
             subst (λ t. FitState t (After i lt)) (after_one i k lt also (omega (arith, same))) (state_itself (After i lt));
@@ -205,7 +205,7 @@ module _ (names new_names : Names) (states : List State) (first : ℕ) (wide : B
           after_one : (i k : ℕ) (lt : i < length b.code) (also : k < length b.code) → i ≡ k → After i lt ≡ After k also
           after_one i k lt also e =
               same_Some (After i lt) (After k also)
-              (sym (after_b names new_names states first wide call b b' p i lt).1 ∙ ap (λ m. after_of b m (S m)) e ∙ (after_b names new_names states first wide call b b' p k also).1)
+              (sym (after_b names new_names states first form named b b' p i lt).1 ∙ ap (λ m. after_of b m (S m)) e ∙ (after_b names new_names states first form named b b' p k also).1)
 
   -- ---- where jumps land
 
@@ -219,7 +219,7 @@ module _ (names new_names : Names) (states : List State) (first : ℕ) (wide : B
       by None e = carried e ∙ ap (λ t. Some (moved t)) (l.same (no_old i e))
 
   pub landed : (i : ℕ) → i < length b.code → Led i → N (land i) ≡ Some (moved (S i))
-  landed i lt l = by (lead_probe b first i) refl (lead_at b first wide call i lt)
+  landed i lt l = by (lead_probe b first i) refl (lead_at b first form named i lt)
     where
       by : (o : Option ℕ) → lead_probe b first i ≡ o → HasAt items (lead i) (lead_part o i) → N (land i) ≡ Some (moved (S i))
       by None none h =
@@ -229,16 +229,16 @@ module _ (names new_names : Names) (states : List State) (first : ℕ) (wide : B
       by (Some id) some h =
           let size = ap probe_size some in
           let place : lead i + 1 + 1 + 1 + 1 ≡ land i = omega (arith, size) in
-          let r = probe_runs names new_names states first wide call b b' p (lead i) id i true l.before h l.state_is l.low (led_long i lt l) in
+          let r = probe_runs names new_names states first form named b b' p (lead i) id i true l.before h l.state_is l.low (led_long i lt l) in
           landed_by i lt l
           (λ e. ap N (sym place)
-          ∙ next_is names new_names states first wide call b b' p (lead i + 1 + 1 + 1) (probe_store id i true)
-          (with_one names new_names states first wide call b b' p l.before) (moved l.before) h.1.1.1.0 refl (ap F place ∙ e) r.state3 r.after3)
+          ∙ next_is names new_names states first form named b b' p (lead i + 1 + 1 + 1) (probe_store id i true)
+          (with_one names new_names states first form named b b' p l.before) (moved l.before) h.1.1.1.0 refl (ap F place ∙ e) r.state3 r.after3)
 
   -- ---- images
 
   pub imaged : (i : ℕ) → i < length b.code → N (land i) ≡ Some (moved (S i)) → N (q_of i) ≡ Some (moved (S i))
-  imaged i lt there = by (early_probe b first i) refl (early_at b first wide call i lt)
+  imaged i lt there = by (early_probe b first i) refl (early_at b first form named i lt)
     where
       by : (o : Option ℕ) → early_probe b first i ≡ o → HasAt items (land i) (early_part o i) → N (q_of i) ≡ Some (moved (S i))
       by None none h =
@@ -248,13 +248,13 @@ module _ (names new_names : Names) (states : List State) (first : ℕ) (wide : B
       by (Some id) some h =
           let size = ap probe_size some in
           let place : land i + 1 + 1 + 1 + 1 ≡ q_of i = omega (arith, size) in
-          let r = probe_runs names new_names states first wide call b b' p (land i) id i false (S i) h there
-          (S_low names new_names states first wide call b b' p i lt) (S_long names new_names states first wide call b b' p i lt) in
-          let found = early_image b first wide p.well.code i id (flow_of (old i)) some some (main_at b first wide call i lt) in
-          let none = no_frame names new_names states first wide call b b' p (q_of i) (image found.0 i (Some id)) found.1 (λ l. some_none id l.2) in
+          let r = probe_runs names new_names states first form named b b' p (land i) id i false (S i) h there
+          (S_low names new_names states first form named b b' p i lt) (S_long names new_names states first form named b b' p i lt) in
+          let found = early_image b first form p.well.code i id (flow_of (old i)) some some (main_at b first form named i lt) in
+          let none = no_frame names new_names states first form named b b' p (q_of i) (image found.0 i (Some id)) found.1 (λ l. some_none id l.2) in
           ap N (sym place)
-          ∙ next_is names new_names states first wide call b b' p (land i + 1 + 1 + 1) (probe_store id i false)
-          (with_one names new_names states first wide call b b' p (S i)) (moved (S i)) h.1.1.1.0 refl (ap F place ∙ none) r.state3 r.after3
+          ∙ next_is names new_names states first form named b b' p (land i + 1 + 1 + 1) (probe_store id i false)
+          (with_one names new_names states first form named b b' p (S i)) (moved (S i)) h.1.1.1.0 refl (ap F place ∙ none) r.state3 r.after3
         where
           some_none : (id : ℕ) → Some id ≡ None → ⊥
           some_none id e = cc
@@ -267,7 +267,7 @@ module _ (names new_names : Names) (states : List State) (first : ℕ) (wide : B
       let up = f.1 in
       let same : f.0 ≡ i = omega (arith, up) in
       let g = subst (GoesOnFrom b) same f.2 in
-      stops (subst FallsThrough (same_Some g.insn (old i) (sym g.stands ∙ old_at names new_names states first wide call b b' p i lt)) g.falls)
+      stops (subst FallsThrough (same_Some g.insn (old i) (sym g.stands ∙ old_at names new_names states first form named b b' p i lt)) g.falls)
 
   no_goes : (insn : Insn) (flow : Flow) → flow_of insn ≡ flow → (FallsThrough insn → ⊥) → goes_on flow ≡ false
   no_goes insn flows.GoesOn e stops = absurd (stops (inl e))
@@ -280,7 +280,7 @@ module _ (names new_names : Names) (states : List State) (first : ℕ) (wide : B
   no_lead : (i : ℕ) → i < length b.code → (FallsThrough (old i) → ⊥) → lead_probe b first (suc i) ≡ None
   no_lead i lt stops =
       ap (λ t. id_if (t && (is_multi_target b (suc i) || is_invocation_line b (suc i))) (first + probes_before b (record { at = suc i; number = 0 })))
-      (ap falls_at (old_at names new_names states first wide call b b' p i lt) ∙ no_goes (old i) (flow_of (old i)) refl stops)
+      (ap falls_at (old_at names new_names states first form named b b' p i lt) ∙ no_goes (old i) (flow_of (old i)) refl stops)
 
   -- it has a frame, and its first place is where that stands
   pub stopped_frame : (i : ℕ) → (lt : i < length b.code) → suc i < length b.code → (FallsThrough (old i) → ⊥)
@@ -296,20 +296,20 @@ module _ (names new_names : Names) (states : List State) (first : ℕ) (wide : B
   pub inverse_frame : (i id : ℕ) → i < length b.code → late_probe b first i ≡ Some id → Asked (lead (suc i)) (state_at states (suc i))
   inverse_frame i id lt some =
       subst (λ k. Asked (lead k) (state_at states k)) (add-one i)
-      (narrow names new_names states first wide call b b' p (lead (i + 1)) (state_at states (i + 1))
+      (narrow names new_names states first form named b b' p (lead (i + 1)) (state_at states (i + 1))
       (inr (inl (record { test = i; id = id; within = lt; probed = some; place = refl; state_is = refl }))))
 
   -- behind a conditional jump of the wide layout
-  pub wide_frame : (i : ℕ) → i < length b.code → flow_of (old i) ≡ flows.Branches → wide ≡ true
+  pub wide_frame : (i : ℕ) → i < length b.code → flow_of (old i) ≡ flows.Branches → is_wide form i ≡ true
       → Asked (q_of i + 2) (state_behind b states i (late_probe b first i))
   wide_frame i lt e w =
-      behind names new_names states first wide call b b' p (q_of i + 2) (state_behind b states i (late_probe b first i)) w (record { test = i; within = lt; tests = e; place = refl; state_is = refl })
+      behind names new_names states first form named b b' p (q_of i + 2) (state_behind b states i (late_probe b first i)) (record { test = i; within = lt; tests = e; place = refl; state_is = refl }) w
 
   pub next_led : (i : ℕ) (lt : i < length b.code) → suc i < length b.code → N (q_of i) ≡ Some (moved (S i)) → Led (suc i)
   next_led i lt within there = by (flow_of (old i)) refl
     where
       on : after_of b' (q_of i) (moved (S i)) ≡ Some (moved (After i lt))
-      on = image_after names new_names states first wide call b b' p i lt
+      on = image_after names new_names states first form named b b' p i lt
 
       stopped : (FallsThrough (old i) → ⊥) → Led (suc i)
       stopped stops = let a = stopped_frame i lt within stops in led_by_frame (suc i) a.0 within a.1
@@ -317,27 +317,27 @@ module _ (names new_names : Names) (states : List State) (first : ℕ) (wide : B
       never : (flow : Flow) → flow_of (old i) ≡ flow → (flow ≡ flows.GoesOn → ⊥) → (flow ≡ flows.Branches → ⊥) → FallsThrough (old i) → ⊥
       never flow e f g h = ⊎_elim (λ x. f (sym e ∙ x)) (λ x. g (sym e ∙ x)) h
 
-      plain : (w : Bool) → wide ≡ w → flow_of (old i) ≡ flows.Branches → late_probe b first i ≡ None
+      plain : (w : Bool) → is_wide form i ≡ w → flow_of (old i) ≡ flows.Branches → late_probe b first i ≡ None
           → HasAt items (q_of i) (test_part w (q_of i) (with_places land (old i)) i (jump_target (old i)) None) → Led (suc i)
       plain false w e none h =
-          let size = tests_size names new_names states first wide call b b' p i None e none in
+          let size = tests_size names new_names states first form named b b' p i None e none in
           let one = ap (wide_by flows.Branches) w in
           let place : suc (q_of i) ≡ lead (suc i) = omega (arith, size, one) in
           led_by_fall i (q_of i) (image (with_places land (old i)) i None) lt within (inr e) h.0 (inr (placed_flow (old i) land e)) place (moved (S i)) there on
       plain true w e none h =
-          let size = tests_size names new_names states first wide call b b' p i None e none in
+          let size = tests_size names new_names states first form named b b' p i None e none in
           let one = ap (wide_by flows.Branches) w in
           let place : q_of i + 2 ≡ lead (suc i) = omega (arith, size, one) in
           led_by_frame (suc i) (state_behind b states i (late_probe b first i)) within (subst (λ k. Asked k (state_behind b states i (late_probe b first i))) place (wide_frame i lt e w))
 
       tests : (o : Option ℕ) → late_probe b first i ≡ o → flow_of (old i) ≡ flows.Branches → Led (suc i)
-      tests None none e = plain wide refl e none (plain_test b first wide call i lt e none)
+      tests None none e = plain (is_wide form i) refl e none (plain_test b first form named i lt e none)
       tests (Some id) some e = led_by_frame (suc i) (state_at states (suc i)) within (inverse_frame i id lt some)
 
       by : (flow : Flow) → flow_of (old i) ≡ flow → Led (suc i)
       by flows.GoesOn e =
-          let h = main_by b first wide call i flows.GoesOn lt e in
-          let size = size_is b first wide i flows.GoesOn e in
+          let h = main_by b first form named i flows.GoesOn lt e in
+          let size = size_is b first form i flows.GoesOn e in
           let place : suc (q_of i) ≡ lead (suc i) = omega (arith, size) in
           led_by_fall i (q_of i) (image (with_slot v (old i)) i None) lt within (inl e) h.0 (inl (slot_flow v (old i) e)) place (moved (S i)) there on
       by flows.Branches e = tests (late_probe b first i) refl e
@@ -364,9 +364,9 @@ module _ (names new_names : Names) (states : List State) (first : ℕ) (wide : B
         before = entry_of b;
         state_is =
             ap N first_lead
-            ∙ next_state new_names b' 1 (astore v) (E_array names new_names states first wide call b b' p) (moved (entry_of b)) (ap F (sym first_lead) ∙ e)
-            (stands names new_names states first wide call b b' p 1 (start 1) (prelude_at b first wide).1.0) (inl refl)
-            (state_1 names new_names states first wide call b b' p) (after_1 names new_names states first wide call b b' p);
+            ∙ next_state new_names b' 1 (astore v) (E_array names new_names states first form named b b' p) (moved (entry_of b)) (ap F (sym first_lead) ∙ e)
+            (stands names new_names states first form named b b' p 1 (start 1) (prelude_at b first form).1.0) (inl refl)
+            (state_1 names new_names states first form named b b' p) (after_1 names new_names states first form named b b' p);
         fits = there_fit (Some (entry_of b)) (state_of names b 0) (entry_of b) (S 0) refl (state_of_b 0 some) p.checked.entry;
         low = omega arith;
         same = λ none. same_Some (entry_of b) (S 0) (sym (first_state names b none) ∙ state_of_b 0 some);

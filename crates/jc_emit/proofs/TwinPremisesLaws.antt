@@ -26,7 +26,8 @@ use Rattle.jc_bytes.proofs.BooleanLaws.{which_in, none_in}
 use Rattle.jc_methods.specs.FrameOrder.{RiseFrom}
 use Rattle.jc_plan.specs.Probed.{probe_of}
 use Rattle.jc_plan.specs.Plan.{lead_probe}
-use Rattle.jc_emit.specs.Sizes.{insn_at, early_probe, late_probe, arms_at}
+use Rattle.jc_emit.specs.Marks.{TwinPlaces}
+use Rattle.jc_emit.specs.Sizes.{TwinForm, is_wide, insn_at, early_probe, late_probe, arms_at}
 use Rattle.jc_emit.specs.TwinCode.{arm_place}
 use Rattle.jc_emit.specs.TwinTables.{AreMovedTables}
 use Rattle.jc_emit.specs.TwinFrames.{IsFrame, AreTwinFrames}
@@ -50,29 +51,29 @@ use Rattle.jc_methods.proofs.SlotsLaws.{no_slots}
 use Rattle.jc_kinds_after.specs.After as after
 use Rattle.jc_emit.specs.Marks as marks
 
-pub record Premises (names new_names : Names) (states : List State) (first : ℕ) (wide : Bool) (call : ℕ) (b b' : Body) : Type 0 where
+pub record Premises (names new_names : Names) (states : List State) (first : ℕ) (form : TwinForm) (named : TwinPlaces) (b b' : Body) : Type 0 where
   pub well : IsWellMadeOfAnySize b
   pub checked : Checked names b
   pub are : AreStates names b states
   pub free : NoneStraddles b
   pub method : IsSameMethod b b'
   pub owner : List ℕ
-  pub calls : what_used b'.uses call ≡ Some (probe_init owner)
+  pub calls : what_used b'.uses named.giver ≡ Some (probe_init owner)
   pub uses : KeepsUses b b'
-  pub code : b'.code ≡ map (insn_of call b.arg_slots) (twin_items b first wide)
-  pub tables : AreMovedTables b (lead_of b first wide) (land_of b first wide) b'.handlers b'.lines b'.vars b'.kind_vars
-  pub frames : AreTwinFrames names new_names b.arg_slots (image_of b first wide) (IsFrame b first states (image_of b first wide) (land_of b first wide) (lead_of b first wide) wide) b'.frames
+  pub code : b'.code ≡ map (insn_of named b.arg_slots) (twin_items b first form)
+  pub tables : AreMovedTables b (lead_of b first form) (land_of b first form) b'.handlers b'.lines b'.vars b'.kind_vars
+  pub frames : AreTwinFrames names new_names b.arg_slots (image_of b first form) (IsFrame b first states (image_of b first form) (land_of b first form) (lead_of b first form) form) b'.frames
   pub max_stack : b'.max_stack ≡ b.max_stack + 3
   pub max_locals : b'.max_locals ≡ b.max_locals + 1
 
 -- with the places of the function
 pub premises : (names new_names : Names) (states : List State) (owner : List ℕ) (first : ℕ) (b b' : Body) → IsWellMadeOfAnySize b → Checked names b
     → AreStates names b states → NoneStraddles b
-    → (t : Twin names new_names states owner first b b') → Premises names new_names states first t.wide t.call b b'
+    → (t : Twin names new_names states owner first b b') → Premises names new_names states first t.form t.places b b'
 premises names new_names states owner first b b' well checked are free t =
-    let images = images_known b first t.wide t.call b'.code t.marks well.code t.code in
-    let lands = lands_known b first t.wide t.call b'.code t.marks well.code t.code in
-    let leads = leads_known b first t.wide t.call b'.code t.marks well.code t.code in
+    let images = images_known b first t.form t.places b'.code t.marks well.code t.code in
+    let lands = lands_known b first t.form t.places b'.code t.marks well.code t.code in
+    let leads = leads_known b first t.form t.places b'.code t.marks well.code t.code in
     record {
       well = well;
       checked = checked;
@@ -82,16 +83,16 @@ premises names new_names states owner first b b' well checked are free t =
       owner = owner;
       calls = t.calls;
       uses = t.uses;
-      code = code_known b first t.wide t.call b'.code t.marks well.code t.code;
+      code = code_known b first t.form t.places b'.code t.marks well.code t.code;
       tables =
-          subst (λ f. AreMovedTables b f (land_of b first t.wide) b'.handlers b'.lines b'.vars b'.kind_vars) leads
+          subst (λ f. AreMovedTables b f (land_of b first t.form) b'.handlers b'.lines b'.vars b'.kind_vars) leads
           (subst (λ f. AreMovedTables b (marks.lead_place b first t.marks.own) f b'.handlers b'.lines b'.vars b'.kind_vars) lands t.tables);
       frames =
-          subst (λ f. AreTwinFrames names new_names b.arg_slots (image_of b first t.wide) (IsFrame b first states (image_of b first t.wide) (land_of b first t.wide) f t.wide) b'.frames) leads
-          (subst (λ f. AreTwinFrames names new_names b.arg_slots (image_of b first t.wide)
-          (IsFrame b first states (image_of b first t.wide) f (marks.lead_place b first t.marks.own) t.wide) b'.frames) lands
+          subst (λ f. AreTwinFrames names new_names b.arg_slots (image_of b first t.form) (IsFrame b first states (image_of b first t.form) (land_of b first t.form) f t.form) b'.frames) leads
+          (subst (λ f. AreTwinFrames names new_names b.arg_slots (image_of b first t.form)
+          (IsFrame b first states (image_of b first t.form) f (marks.lead_place b first t.marks.own) t.form) b'.frames) lands
           (subst (λ f. AreTwinFrames names new_names b.arg_slots f
-          (IsFrame b first states f (marks.land_place b first t.marks.own) (marks.lead_place b first t.marks.own) t.wide) b'.frames) images t.frames));
+          (IsFrame b first states f (marks.land_place b first t.marks.own) (marks.lead_place b first t.marks.own) t.form) b'.frames) images t.frames));
       max_stack = t.max_stack;
       max_locals = t.max_locals;
     }
@@ -137,36 +138,36 @@ frame_found names from (g ∷ frames) f r c =
         differ : nat_eq g.at f.at ≡ false → nat_eq g.at f.at ≡ true → ⊥
         differ off on = cc
 
-module _ (names new_names : Names) (states : List State) (first : ℕ) (wide : Bool) (call : ℕ) (b b' : Body) (p : Premises names new_names states first wide call b b') where
+module _ (names new_names : Names) (states : List State) (first : ℕ) (form : TwinForm) (named : TwinPlaces) (b b' : Body) (p : Premises names new_names states first form named b b') where
   abbrev pub v : ℕ
   v = b.arg_slots
 
   abbrev pub items : List Item
-  items = twin_items b first wide
+  items = twin_items b first form
 
   abbrev pub q_of : ℕ → ℕ
-  q_of i = image_of b first wide i
+  q_of i = image_of b first form i
 
   abbrev pub land : ℕ → ℕ
-  land i = land_of b first wide i
+  land i = land_of b first form i
 
   abbrev pub lead : ℕ → ℕ
-  lead i = lead_of b first wide i
+  lead i = lead_of b first form i
 
   abbrev pub old : ℕ → Insn
   old i = insn_at b.code i
 
   -- the shifted form of a state
   abbrev pub moved : TypeState → TypeState
-  moved s = shifted (image_of b first wide) b.arg_slots s
+  moved s = shifted (image_of b first form) b.arg_slots s
 
   -- ---- instructions of the twin
 
-  pub stands : (q : ℕ) (x : Item) → slice_get items q ≡ Some x → after.insn_at b' q ≡ Some (insn_of call v x)
-  stands q x h = ap (λ (l : List Insn). slice_get l q) p.code ∙ slice_get-map (insn_of call v) items q ∙ ap (option_map (insn_of call v)) h
+  pub stands : (q : ℕ) (x : Item) → slice_get items q ≡ Some x → after.insn_at b' q ≡ Some (insn_of named v x)
+  stands q x h = ap (λ (l : List Insn). slice_get l q) p.code ∙ slice_get-map (insn_of named v) items q ∙ ap (option_map (insn_of named v)) h
 
   pub code_long : length b'.code ≡ lead (length b.code)
-  code_long = ap (λ (l : List Insn). length l) p.code ∙ length-map items (insn_of call v) ∙ length_twin b first wide
+  code_long = ap (λ (l : List Insn). length l) p.code ∙ length-map items (insn_of named v) ∙ length_twin b first form
 
   pub old_is : (i : ℕ) (insn : Insn) → after.insn_at b i ≡ Some insn → (i < length b.code) × (old i ≡ insn)
   old_is i insn e = (slice_get_within b.code i insn e, get_or_from_slice_get b.code i insn (insns.Simple 0) e)
@@ -177,7 +178,7 @@ module _ (names new_names : Names) (states : List State) (first : ℕ) (wide : B
   -- ---- places
 
   pub leads_grow : (i j : ℕ) → i ≤ j → lead i ≤ lead j
-  leads_grow i j le = omega (arith, total_grows (segment_size b first wide) i j le)
+  leads_grow i j le = omega (arith, total_grows (segment_size b first form) i j le)
 
   image_below : (i j : ℕ) → i < j → q_of i < q_of j
   image_below i j lt = let g = leads_grow (suc i) j (omega arith) in omega (arith, g)
@@ -244,11 +245,11 @@ module _ (names new_names : Names) (states : List State) (first : ℕ) (wide : B
       (new, stands (q_of i) _ h.0, led (λ (x : ℕ). q_of i + 2) back)
 
   test_image : (i : ℕ) → i < length b.code → flow_of (old i) ≡ flows.Branches → (o : Option ℕ) → late_probe b first i ≡ o → Image i (old i)
-  test_image i lt e None none = plain_by wide i lt e (plain_test b first wide call i lt e none)
-  test_image i lt e (Some id) some = probed_by wide i lt e _ (probed_test b first wide call i id lt e some)
+  test_image i lt e None none = plain_by (is_wide form i) i lt e (plain_test b first form named i lt e none)
+  test_image i lt e (Some id) some = probed_by (is_wide form i) i lt e _ (probed_test b first form named i id lt e some)
 
   image_is : (i : ℕ) → i < length b.code → (flow : Flow) → flow_of (old i) ≡ flow
-      → HasAt items (q_of i) (image_part b first wide i (old i) flow) → Image i (old i)
+      → HasAt items (q_of i) (image_part b first form i (old i) flow) → Image i (old i)
   image_is i lt flows.GoesOn e h = (with_slot v (old i), stands (q_of i) _ h.0, led (λ x. x) (sym (places_same (with_slot v (old i)))))
   image_is i lt flows.Branches e h = test_image i lt e (late_probe b first i) refl
   image_is i lt flows.Jumps e h = plain_image i land (early_probe b first i) (goes_not (old i) flows.Jumps e (λ x. cc)) h.0
@@ -263,7 +264,7 @@ module _ (names new_names : Names) (states : List State) (first : ℕ) (wide : B
       (λ ge.
       let n = length b.code in
       let e : i ≡ n + (i - n) = omega (arith, ge) in
-      let at = ap q_of e ∙ image_past b first wide p.well.code (i - n) in
+      let at = ap q_of e ∙ image_past b first form p.well.code (i - n) in
       let long = code_long in
       slice_get_past b'.code (q_of i) (omega (arith, at, long)))
       (cases_lt i (length b.code))
@@ -277,7 +278,7 @@ module _ (names new_names : Names) (states : List State) (first : ℕ) (wide : B
       let o = old_is i insn e in
       same_use place (Suits (old i)) (p.well.uses.by_insns i (insns.Simple 0) o.0 place (ap pool_place o.1 ∙ at))
 
-  pub images : HasImages v (image_of b first wide) b b'
+  pub images : HasImages v (image_of b first form) b b'
   images = record {
     owner = p.method.owner;
     desc = p.method.desc;
@@ -285,7 +286,7 @@ module _ (names new_names : Names) (states : List State) (first : ℕ) (wide : B
     apart = images_apart;
     images = λ i insn e.
         let o = old_is i insn e in
-        subst (Image i) o.1 (image_is i o.0 (flow_of (old i)) refl (main_by b first wide call i (flow_of (old i)) o.0 refl));
+        subst (Image i) o.1 (image_is i o.0 (flow_of (old i)) refl (main_by b first form named i (flow_of (old i)) o.0 refl));
     past = image_past_end;
     uses = same_uses;
   }
@@ -293,7 +294,7 @@ module _ (names new_names : Names) (states : List State) (first : ℕ) (wide : B
   -- ---- frames of the twin
 
   abbrev pub Asked : ℕ → State → Type 0
-  Asked q s = IsFrame b first states (image_of b first wide) (land_of b first wide) (lead_of b first wide) wide q s
+  Asked q s = IsFrame b first states (image_of b first form) (land_of b first form) (lead_of b first form) form q s
 
   pub asked_frame : (q : ℕ) (s : State) → Asked q s → frame_at (frames_of new_names b') q ≡ Some (moved (type_state names s))
   asked_frame q s a =

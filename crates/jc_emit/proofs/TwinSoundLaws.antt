@@ -27,10 +27,11 @@ use Rattle.jc_plan.specs.Probed.{probe_of}
 use Rattle.jc_plan.specs.Plan.{lead_probe}
 use Rattle.jc_bytes.proofs.FirstSeenLaws.{first_seen_listed}
 use Rattle.jc_bytes.proofs.ListLaws.{each_in}
+use Rattle.jc_emit.specs.Marks.{TwinPlaces}
 use Rattle.jc_emit.proofs.PlacedLaws.{no_fall_goto, never, only, inverse_targets, placed_targets, no_targets, goto_stops, switch_stops}
 use Rattle.jc_methods.proofs.PlacedInsnLaws.{targets_placed}
 use Rattle.jc_emit.proofs.StateLaws.{slots-renamed}
-use Rattle.jc_emit.specs.Sizes.{early_probe, late_probe, arms_at, probe_size, hop_size, arm_sizes, wide_by}
+use Rattle.jc_emit.specs.Sizes.{TwinForm, is_wide, early_probe, late_probe, arms_at, probe_size, hop_size, arm_sizes, wide_by}
 use Rattle.jc_emit.specs.TwinCode.{to_of, here_or, arm_place}
 use Rattle.jc_emit.specs.TwinFrames.{state_at, left_by, state_behind}
 use Rattle.jc_emit.specs.Items.{Item, image, probe_array, probe_id, probe_one, probe_store, hop, insn_of, probe, lead_part, early_part, hop_part, arm_parts, test_part, tests_part, lead_of, land_of, image_of, image_part, segment, twin_items}
@@ -50,27 +51,27 @@ use Rattle.jc_methods.specs.declared.insn.Insn.TheVariants as insns
 use Rattle.jc_methods.specs.declared.insn.Flow.TheVariants as flows
 use Rattle.jc_emit.specs.Sizes as sizes
 
-module _ (names new_names : Names) (states : List State) (first : ℕ) (wide : Bool) (call : ℕ) (b b' : Body) (p : Premises names new_names states first wide call b b') where
+module _ (names new_names : Names) (states : List State) (first : ℕ) (form : TwinForm) (named : TwinPlaces) (b b' : Body) (p : Premises names new_names states first form named b b') where
   abbrev v : ℕ
   v = b.arg_slots
 
   abbrev items : List Item
-  items = twin_items b first wide
+  items = twin_items b first form
 
   abbrev q_of : ℕ → ℕ
-  q_of i = image_of b first wide i
+  q_of i = image_of b first form i
 
   abbrev land : ℕ → ℕ
-  land i = land_of b first wide i
+  land i = land_of b first form i
 
   abbrev lead : ℕ → ℕ
-  lead i = lead_of b first wide i
+  lead i = lead_of b first form i
 
   abbrev old : ℕ → Insn
   old i = sizes.insn_at b.code i
 
   abbrev moved : TypeState → TypeState
-  moved s = shifted (image_of b first wide) b.arg_slots s
+  moved s = shifted (image_of b first form) b.arg_slots s
 
   abbrev S : ℕ → TypeState
   S i = type_state names (state_at states i)
@@ -82,7 +83,7 @@ module _ (names new_names : Names) (states : List State) (first : ℕ) (wide : B
   F q = frame_at (frames_of new_names b') q
 
   abbrev After : (i : ℕ) → i < length b.code → TypeState
-  After i lt = A names new_names states first wide call b b' p i lt
+  After i lt = A names new_names states first form named b b' p i lt
 
   -- ---- what is shown of each place
 
@@ -108,19 +109,19 @@ module _ (names new_names : Names) (states : List State) (first : ℕ) (wide : B
   same_fits o s e = fit_there o s s e (state_itself s)
 
   -- one that goes on
-  going : (i q : ℕ) (x : Item) (s t : TypeState) → slice_get items q ≡ Some x → flow_of (insn_of call v x) ≡ flows.GoesOn → N q ≡ Some s
+  going : (i q : ℕ) (x : Item) (s t : TypeState) → slice_get items q ≡ Some x → flow_of (insn_of named v x) ≡ flows.GoesOn → N q ≡ Some s
       → after_of b' q s ≡ Some t → FitsThere (Some t) (N (q + 1)) → Near i s → Fine i q x
   going i q x s t here flow before after next near = (
     record {
-      insn = insn_of call v x;
-      stands = stands names new_names states first wide call b b' p q x here;
+      insn = insn_of named v x;
+      stands = stands names new_names states first form named b b' p q x here;
       before = s;
       state_is = before;
       after = t;
       after_is = after;
       next = λ falls. next;
       stops = λ halts. absurd (halts (inl flow));
-      jumps = λ r c. absurd (none_in r (subst (λ l. Contains l r) (no_targets (insn_of call v x) (inl flow)) c));
+      jumps = λ r c. absurd (none_in r (subst (λ l. Contains l r) (no_targets (insn_of named v x) (inl flow)) c));
     },
     near,
   )
@@ -129,10 +130,10 @@ module _ (names new_names : Names) (states : List State) (first : ℕ) (wide : B
       → slots X.stack ≤ b.max_stack → v ≤ length X.locals → Near i (moved X)
       → FitsThere (Some (moved X)) (N (q + 1 + 1 + 1 + 1)) → Each (Fine i) q (probe id at late)
   probe_fine i q id at late X h before low long near last =
-      let r = probe_runs names new_names states first wide call b b' p q id at late X h before low long in
-      let X1 = with_array names new_names states first wide call b b' p X in
-      let X2 = with_id names new_names states first wide call b b' p X in
-      let X3 = with_one names new_names states first wide call b b' p X in (
+      let r = probe_runs names new_names states first form named b b' p q id at late X h before low long in
+      let X1 = with_array names new_names states first form named b b' p X in
+      let X2 = with_id names new_names states first form named b b' p X in
+      let X3 = with_one names new_names states first form named b b' p X in (
         going i q (probe_array id at late) (moved X) X1 h.0 refl before r.after0 (same_fits (N (q + 1)) X1 r.state1) near,
         (
           going i (q + 1) (probe_id id at late) X1 X2 h.1.0 (push_is id b'.uses (returns_of b')).1 r.state1 r.after1 (same_fits (N (q + 1 + 1)) X2 r.state2) near,
@@ -148,8 +149,8 @@ module _ (names new_names : Names) (states : List State) (first : ℕ) (wide : B
       → after_of b' q (moved X) ≡ Some (moved X)
   unfolding forms_at table
   goto_after q to at due X here low =
-      let most = p.max_stack in let same = slots-renamed (image_of b first wide) X.stack in
-      goes names new_names states first wide call b b' p q (hop to at due) (moved X) (moved X) here
+      let most = p.max_stack in let same = slots-renamed (image_of b first form) X.stack in
+      goes names new_names states first form named b b' p q (hop to at due) (moved X) (moved X) here
       (moves_nothing (ground_of b' q) (moved X).locals (moved X).stack (omega (arith, most, same, low)))
 
   hop_fine : (i q to at : ℕ) (due : Option ℕ) (X : TypeState) → slice_get items q ≡ Some (hop to at due) → N q ≡ Some (moved X)
@@ -158,7 +159,7 @@ module _ (names new_names : Names) (states : List State) (first : ℕ) (wide : B
   hop_fine i q to at due X here before low near there stop = (
     record {
       insn = goto to;
-      stands = stands names new_names states first wide call b b' p q (hop to at due) here;
+      stands = stands names new_names states first form named b b' p q (hop to at due) here;
       before = moved X;
       state_is = before;
       after = moved X;
@@ -171,17 +172,17 @@ module _ (names new_names : Names) (states : List State) (first : ℕ) (wide : B
   )
 
   -- a probe and the goto behind it
-  hop_part_fine : (i q id to : ℕ) (X : TypeState) → HasAt items q (hop_part (land_of b first wide) (Some id) to) → N q ≡ Some (moved X)
+  hop_part_fine : (i q id to : ℕ) (X : TypeState) → HasAt items q (hop_part (land_of b first form) (Some id) to) → N q ≡ Some (moved X)
       → slots X.stack ≤ b.max_stack → v ≤ length X.locals → Near i (moved X)
       → HasFrame b' (land to) × FitsThere (Some (moved X)) (N (land to)) → (q + 5 < length b'.code → HasFrame b' (q + 5))
-      → Each (Fine i) q (hop_part (land_of b first wide) (Some id) to)
+      → Each (Fine i) q (hop_part (land_of b first form) (Some id) to)
   hop_part_fine i q id to X h before low long near there stop =
       let front = has_front items q (probe id to true) (hop (land to) to None ∷ []) h in
-      let r = probe_runs names new_names states first wide call b b' p q id to true X front before low long in
+      let r = probe_runs names new_names states first form named b b' p q id to true X front before low long in
       let here = h.1.1.1.1.0 in
-      let none = no_frame names new_names states first wide call b b' p (q + 1 + 1 + 1 + 1) (hop (land to) to None) here (λ l. l.3) in
-      let at_hop = next_is names new_names states first wide call b b' p (q + 1 + 1 + 1) (probe_store id to true)
-      (with_one names new_names states first wide call b b' p X) (moved X) h.1.1.1.0 refl none r.state3 r.after3 in
+      let none = no_frame names new_names states first form named b b' p (q + 1 + 1 + 1 + 1) (hop (land to) to None) here (λ l. l.3) in
+      let at_hop = next_is names new_names states first form named b b' p (q + 1 + 1 + 1) (probe_store id to true)
+      (with_one names new_names states first form named b b' p X) (moved X) h.1.1.1.0 refl none r.state3 r.after3 in
       let five : q + 5 ≡ q + 1 + 1 + 1 + 1 + 1 = omega arith in
       let four : q + 1 + 1 + 1 + 1 ≡ q + 4 = omega arith in
       each_append (Fine i) q (probe id to true) (hop (land to) to None ∷ [])
@@ -197,31 +198,33 @@ module _ (names new_names : Names) (states : List State) (first : ℕ) (wide : B
       → HasFrame b' (land t) × FitsThere (Some (moved (After i lt))) (N (land t))
   target_jump i t lt c =
       let within = each_in (λ to. to < length b.code) (targets_of (old i)) t (p.well.code.places i (insns.Simple 0) lt) c in
-      let jumps : JumpsTo b i t = record { insn = old i; stands = old_at names new_names states first wide call b b' p i lt; target = c } in
-      let frame = framed names new_names states first wide call b b' p t within (inl (i, jumps)) in
-      let a = landing_frame names new_names states first wide call b b' p t frame in (
-        asked_has names new_names states first wide call b b' p (land t) a.0 a.1,
-        fit_there (N (land t)) (moved (After i lt)) (moved (S t)) (all_landed names new_names states first wide call b b' p t within)
-            (fits_shift (image_of b first wide) v (After i lt) (S t) (fits_branch names new_names states first wide call b b' p i t lt within (inr jumps))),
+      let jumps : JumpsTo b i t = record { insn = old i; stands = old_at names new_names states first form named b b' p i lt; target = c } in
+      let frame = framed names new_names states first form named b b' p t within (inl (i, jumps)) in
+      let a = landing_frame names new_names states first form named b b' p t frame in (
+        asked_has names new_names states first form named b b' p (land t) a.0 a.1,
+        fit_there (N (land t)) (moved (After i lt)) (moved (S t)) (all_landed names new_names states first form named b b' p t within)
+            (fits_shift (image_of b first form) v (After i lt) (S t) (fits_branch names new_names states first form named b b' p i t lt within (inr jumps))),
       )
 
   within_next : (i : ℕ) → i < length b.code → FallsThrough (old i) → suc i < length b.code
-  within_next i lt falls = let w = next_within b first wide p.well.code i lt falls in omega (arith, w)
+  within_next i lt falls = let w = next_within b first form p.well.code i lt falls in omega (arith, w)
 
   lead_target : (i : ℕ) (lt : i < length b.code) → FallsThrough (old i) → FitsThere (Some (moved (After i lt))) (N (lead (suc i)))
   lead_target i lt falls =
-      let l = all_led names new_names states first wide call b b' p (suc i) (within_next i lt falls) in
-      fit_there (N (lead (suc i))) (moved (After i lt)) (moved l.before) l.state_is (fits_shift (image_of b first wide) v (After i lt) l.before (l.into i lt refl falls))
+      let l = all_led names new_names states first form named b b' p (suc i) (within_next i lt falls) in
+      fit_there (N (lead (suc i))) (moved (After i lt)) (moved l.before) l.state_is (fits_shift (image_of b first form) v (After i lt) l.before (l.into i lt refl falls))
 
   within_code : (i : ℕ) → lead (suc i) < length b'.code → suc i < length b.code
   within_code i short =
-      let long = code_long names new_names states first wide call b b' p in
-      ⊎_elim (λ lt. lt) (λ ge. let g = leads_grow names new_names states first wide call b b' p (length b.code) (suc i) ge in absurd (omega (arith, g, short, long))) (cases_lt (suc i) (length b.code))
+      let long = code_long names new_names states first form named b b' p in
+      ⊎_elim (λ lt. lt)
+      (λ ge. let g = leads_grow names new_names states first form named b b' p (length b.code) (suc i) ge in absurd (omega (arith, g, short, long)))
+      (cases_lt (suc i) (length b.code))
 
   stopped : (i : ℕ) (lt : i < length b.code) → (FallsThrough (old i) → ⊥) → lead (suc i) < length b'.code → HasFrame b' (lead (suc i))
   stopped i lt halts short =
-      let a = stopped_frame names new_names states first wide call b b' p i lt (within_code i short) halts in
-      asked_has names new_names states first wide call b b' p (lead (suc i)) a.0 a.1
+      let a = stopped_frame names new_names states first form named b b' p i lt (within_code i short) halts in
+      asked_has names new_names states first form named b b' p (lead (suc i)) a.0 a.1
 
   -- ---- the state that a conditional jump or a switch leaves
 
@@ -229,7 +232,7 @@ module _ (names new_names : Names) (states : List State) (first : ℕ) (wide : B
       → After i lt ≡ type_state names (left_by (old i) (state_at states i))
   left i lt e =
       left_is names (ground_of b i) b.uses (returns_of b) (old i) (state_at states i) (After i lt) (p.well.code.well_formed i (insns.Simple 0) lt) e
-      (sym (after_is b i (S i) (old i) (old_at names new_names states first wide call b b' p i lt)) ∙ (after_b names new_names states first wide call b b' p i lt).1)
+      (sym (after_is b i (S i) (old i) (old_at names new_names states first form named b b' p i lt)) ∙ (after_b names new_names states first form named b b' p i lt).1)
 
   left_near : (i : ℕ) (lt : i < length b.code) → (flow_of (old i) ≡ flows.Branches) ⊎ (flow_of (old i) ≡ flows.Switches)
       → Near i (moved (After i lt))
@@ -237,7 +240,7 @@ module _ (names new_names : Names) (states : List State) (first : ℕ) (wide : B
 
   left_long : (i : ℕ) (lt : i < length b.code) → (flow_of (old i) ≡ flows.Branches) ⊎ (flow_of (old i) ≡ flows.Switches)
       → v ≤ length (After i lt).locals
-  left_long i lt e = subst (λ s. v ≤ length s.locals) (sym (left i lt e)) (S_long names new_names states first wide call b b' p i lt)
+  left_long i lt e = subst (λ s. v ≤ length s.locals) (sym (left i lt e)) (S_long names new_names states first form named b b' p i lt)
 
   -- ---- images
 
@@ -250,11 +253,11 @@ module _ (names new_names : Names) (states : List State) (first : ℕ) (wide : B
   leading i lt new early here next stop jumps = (
     record {
       insn = new;
-      stands = stands names new_names states first wide call b b' p (q_of i) (image new i early) here;
+      stands = stands names new_names states first form named b b' p (q_of i) (image new i early) here;
       before = moved (S i);
-      state_is = all_imaged names new_names states first wide call b b' p i lt;
+      state_is = all_imaged names new_names states first form named b b' p i lt;
       after = moved (After i lt);
-      after_is = image_after names new_names states first wide call b b' p i lt;
+      after_is = image_after names new_names states first form named b b' p i lt;
       next = next;
       stops = stop;
       jumps = jumps;
@@ -286,20 +289,20 @@ module _ (names new_names : Names) (states : List State) (first : ℕ) (wide : B
       let up = add-one (q_of i) in
       ap N up
       ∙ next_state new_names b' (q_of i) new (moved (S i)) (moved (After i lt)) (ap F (sym up) ∙ none)
-      (stands names new_names states first wide call b b' p (q_of i) (image new i None) here) (inr flow)
-      (all_imaged names new_names states first wide call b b' p i lt) (image_after names new_names states first wide call b b' p i lt)
+      (stands names new_names states first form named b b' p (q_of i) (image new i None) here) (inr flow)
+      (all_imaged names new_names states first form named b b' p i lt) (image_after names new_names states first form named b b' p i lt)
 
   -- no frame stands behind a conditional jump of the narrow layout
-  none_behind : (i : ℕ) → flow_of (old i) ≡ flows.Branches → wide ≡ false → q_of i + 1 < lead (suc i) → F (q_of i + 1) ≡ None
+  none_behind : (i : ℕ) → flow_of (old i) ≡ flows.Branches → is_wide form i ≡ false → q_of i + 1 < lead (suc i) → F (q_of i + 1) ≡ None
   none_behind i e w high = by (F (q_of i + 1)) refl
     where
       by : (o : Option TypeState) → F (q_of i + 1) ≡ o → o ≡ None
       by None h = refl
       by (Some t) h =
-          let a = frame_asked names new_names states first wide call b b' p (q_of i + 1) t h in
+          let a = frame_asked names new_names states first form named b b' p (q_of i + 1) t h in
           ⊎_elim (λ front. let le = front.0 in absurd (omega (arith, le)))
           (λ back. ⊎_elim (λ s. absurd (no_switch (sym e ∙ s))) (λ x. absurd (differ (sym w ∙ x))) back.1)
-          (asked_piece names new_names states first wide call b b' p i (q_of i + 1) a.0 (omega arith) high a.1)
+          (asked_piece names new_names states first form named b b' p i (q_of i + 1) a.0 (omega arith) high a.1)
         where
           no_switch : flows.Branches ≡ flows.Switches → ⊥
           no_switch x = cc
@@ -315,65 +318,65 @@ module _ (names new_names : Names) (states : List State) (first : ℕ) (wide : B
   to_next : (i id : ℕ) (lt : i < length b.code) → flow_of (old i) ≡ flows.Branches → late_probe b first i ≡ Some id
       → HasFrame b' (lead (suc i)) × FitsThere (Some (moved (After i lt))) (N (lead (suc i)))
   to_next i id lt e some = (
-    asked_has names new_names states first wide call b b' p (lead (suc i)) (state_at states (suc i)) (inverse_frame names new_names states first wide call b b' p i id lt some),
+    asked_has names new_names states first form named b b' p (lead (suc i)) (state_at states (suc i)) (inverse_frame names new_names states first form named b b' p i id lt some),
     lead_target i lt (inr e),
   )
 
   -- behind the goto of the wide layout
-  to_behind : (i : ℕ) (lt : i < length b.code) → flow_of (old i) ≡ flows.Branches → wide ≡ true → HasFrame b' (q_of i + 2)
+  to_behind : (i : ℕ) (lt : i < length b.code) → flow_of (old i) ≡ flows.Branches → is_wide form i ≡ true → HasFrame b' (q_of i + 2)
   to_behind i lt e w =
-      asked_has names new_names states first wide call b b' p (q_of i + 2) (state_behind b states i (late_probe b first i)) (wide_frame names new_names states first wide call b b' p i lt e w)
+      asked_has names new_names states first form named b b' p (q_of i + 2) (state_behind b states i (late_probe b first i)) (wide_frame names new_names states first form named b b' p i lt e w)
 
-  state_left : (i id : ℕ) (lt : i < length b.code) → flow_of (old i) ≡ flows.Branches → wide ≡ true → late_probe b first i ≡ Some id
+  state_left : (i id : ℕ) (lt : i < length b.code) → flow_of (old i) ≡ flows.Branches → is_wide form i ≡ true → late_probe b first i ≡ Some id
       → N (q_of i + 2) ≡ Some (moved (After i lt))
   state_left i id lt e w some =
       frame_state_is new_names b' (q_of i + 2) (moved (type_state names (state_behind b states i (late_probe b first i))))
-      (asked_frame names new_names states first wide call b b' p (q_of i + 2) (state_behind b states i (late_probe b first i)) (wide_frame names new_names states first wide call b b' p i lt e w))
+      (asked_frame names new_names states first form named b b' p (q_of i + 2) (state_behind b states i (late_probe b first i)) (wide_frame names new_names states first form named b b' p i lt e w))
       ∙ ap (λ o. Some (moved (type_state names (state_behind b states i o)))) some
       ∙ ap (λ s. Some (moved s)) (sym (left i lt (inl e)))
 
-  plain_fine : (w : Bool) (i : ℕ) (lt : i < length b.code) → wide ≡ w → (e : flow_of (old i) ≡ flows.Branches) → late_probe b first i ≡ None
-      → HasAt items (q_of i) (test_part w (q_of i) (with_places (land_of b first wide) (old i)) i (jump_target (old i)) None)
-      → Each (Fine i) (q_of i) (test_part w (q_of i) (with_places (land_of b first wide) (old i)) i (jump_target (old i)) None)
+  plain_fine : (w : Bool) (i : ℕ) (lt : i < length b.code) → is_wide form i ≡ w → (e : flow_of (old i) ≡ flows.Branches) → late_probe b first i ≡ None
+      → HasAt items (q_of i) (test_part w (q_of i) (with_places (land_of b first form) (old i)) i (jump_target (old i)) None)
+      → Each (Fine i) (q_of i) (test_part w (q_of i) (with_places (land_of b first form) (old i)) i (jump_target (old i)) None)
   plain_fine false i lt w e none h =
-      let size = tests_size names new_names states first wide call b b' p i None e none in
+      let size = tests_size names new_names states first form named b b' p i None e none in
       let one = ap (wide_by flows.Branches) w in
       let place : lead (suc i) ≡ q_of i + 1 = omega (arith, size, one) in (
-        testing i lt (with_places (land_of b first wide) (old i)) (land (jump_target (old i))) h.0 (placed_flow (old i) (land_of b first wide) e) (placed_targets (old i) (land_of b first wide) e)
+        testing i lt (with_places (land_of b first form) (old i)) (land (jump_target (old i))) h.0 (placed_flow (old i) (land_of b first form) e) (placed_targets (old i) (land_of b first form) e)
             (subst (λ k. FitsThere (Some (moved (After i lt))) (N k)) place (lead_target i lt (inr e))) (to_target i lt e),
         tt,
       )
   plain_fine true i lt w e none h =
-      let size = tests_size names new_names states first wide call b b' p i None e none in
+      let size = tests_size names new_names states first form named b b' p i None e none in
       let one = ap (wide_by flows.Branches) w in
       let place : lead (suc i) ≡ q_of i + 2 = omega (arith, size, one) in
-      let new = inverse_jump (q_of i + 2) (with_places (land_of b first wide) (old i)) in
-      let placed = placed_flow (old i) (land_of b first wide) e in
+      let new = inverse_jump (q_of i + 2) (with_places (land_of b first form) (old i)) in
+      let placed = placed_flow (old i) (land_of b first form) e in
       let j = test_is (old i) e in
       let flow : flow_of new ≡ flows.Branches =
-      subst (λ o. flow_of (inverse_jump (q_of i + 2) (with_places (land_of b first wide) o)) ≡ flows.Branches) (sym j.is)
+      subst (λ o. flow_of (inverse_jump (q_of i + 2) (with_places (land_of b first form) o)) ≡ flows.Branches) (sym j.is)
       (subst (λ o. flow_of (inverse_jump (q_of i + 2) o) ≡ flows.Branches) j.is (inverse_flow i (q_of i + 2) lt e)) in
-      let to = jump_target (with_places (land_of b first wide) (old i)) in
-      let to_is : to ≡ land (jump_target (old i)) = placed_target (old i) (land_of b first wide) e in
+      let to = jump_target (with_places (land_of b first form) (old i)) in
+      let to_is : to ≡ land (jump_target (old i)) = placed_target (old i) (land_of b first form) e in
       let hop_here = h.1.0 in
-      let none_here = no_frame names new_names states first wide call b b' p (q_of i + 1) (hop to (jump_target (old i)) None) hop_here (λ l. l.3) in
+      let none_here = no_frame names new_names states first form named b b' p (q_of i + 1) (hop to (jump_target (old i)) None) hop_here (λ l. l.3) in
       let at_hop = behind_image i lt new h.0 flow none_here in
       let two : q_of i + 1 + 1 ≡ q_of i + 2 = omega arith in (
-        testing i lt new (q_of i + 2) h.0 flow (inverse_targets (with_places (land_of b first wide) (old i)) (q_of i + 2) placed) (same_fits (N (q_of i + 1)) (moved (After i lt)) at_hop)
+        testing i lt new (q_of i + 2) h.0 flow (inverse_targets (with_places (land_of b first form) (old i)) (q_of i + 2) placed) (same_fits (N (q_of i + 1)) (moved (After i lt)) at_hop)
             (to_behind i lt e w, subst (λ k. FitsThere (Some (moved (After i lt))) (N k)) place (lead_target i lt (inr e))),
         (
-          hop_fine i (q_of i + 1) to (jump_target (old i)) None (After i lt) hop_here at_hop (A_low names new_names states first wide call b b' p i lt) (left_near i lt (inl e))
+          hop_fine i (q_of i + 1) to (jump_target (old i)) None (After i lt) hop_here at_hop (A_low names new_names states first form named b b' p i lt) (left_near i lt (inl e))
               (subst (λ k. HasFrame b' k × FitsThere (Some (moved (After i lt))) (N k)) (sym to_is) (to_target i lt e)) (λ short. subst (HasFrame b') (sym two) (to_behind i lt e w)),
           tt,
         ),
       )
 
-  probed_fine : (w : Bool) (i id : ℕ) (lt : i < length b.code) → wide ≡ w → (e : flow_of (old i) ≡ flows.Branches)
+  probed_fine : (w : Bool) (i id : ℕ) (lt : i < length b.code) → is_wide form i ≡ w → (e : flow_of (old i) ≡ flows.Branches)
       → late_probe b first i ≡ Some id
-      → HasAt items (q_of i) (test_part w (q_of i) (inverse_jump (lead (i + 1)) (old i)) i (i + 1) (lead_probe b first (i + 1)) ++ hop_part (land_of b first wide) (Some id) (jump_target (old i)))
-      → Each (Fine i) (q_of i) (test_part w (q_of i) (inverse_jump (lead (i + 1)) (old i)) i (i + 1) (lead_probe b first (i + 1)) ++ hop_part (land_of b first wide) (Some id) (jump_target (old i)))
+      → HasAt items (q_of i) (test_part w (q_of i) (inverse_jump (lead (i + 1)) (old i)) i (i + 1) (lead_probe b first (i + 1)) ++ hop_part (land_of b first form) (Some id) (jump_target (old i)))
+      → Each (Fine i) (q_of i) (test_part w (q_of i) (inverse_jump (lead (i + 1)) (old i)) i (i + 1) (lead_probe b first (i + 1)) ++ hop_part (land_of b first form) (Some id) (jump_target (old i)))
   probed_fine false i id lt w e some h =
-      let size = tests_size names new_names states first wide call b b' p i (Some id) e some in
+      let size = tests_size names new_names states first form named b b' p i (Some id) e some in
       let one = ap (wide_by flows.Branches) w in
       let up : lead (suc i) ≡ lead (i + 1) = ap lead (sym (add-one i)) in
       let new = inverse_jump (lead (i + 1)) (old i) in
@@ -383,12 +386,12 @@ module _ (names new_names : Names) (states : List State) (first : ℕ) (wide : B
       let next = to_next i id lt e some in (
         testing i lt new (lead (i + 1)) h.0 flow (inverse_targets (old i) (lead (i + 1)) e) (same_fits (N (q_of i + 1)) (moved (After i lt)) at_probe)
             (subst (λ k. HasFrame b' k × FitsThere (Some (moved (After i lt))) (N k)) up next),
-        hop_part_fine i (q_of i + 1) id (jump_target (old i)) (After i lt) h.1 at_probe (A_low names new_names states first wide call b b' p i lt)
+        hop_part_fine i (q_of i + 1) id (jump_target (old i)) (After i lt) h.1 at_probe (A_low names new_names states first form named b b' p i lt)
             (left_long i lt (inl e)) (left_near i lt (inl e)) (to_target i lt e)
             (λ short. subst (HasFrame b') end next.0),
       )
   probed_fine true i id lt w e some h =
-      let size = tests_size names new_names states first wide call b b' p i (Some id) e some in
+      let size = tests_size names new_names states first form named b b' p i (Some id) e some in
       let one = ap (wide_by flows.Branches) w in
       let up : lead (suc i) ≡ lead (i + 1) = ap lead (sym (add-one i)) in
       let inner = inverse_jump (lead (i + 1)) (old i) in
@@ -403,7 +406,7 @@ module _ (names new_names : Names) (states : List State) (first : ℕ) (wide : B
       let to = jump_target inner in
       let to_is : to ≡ lead (i + 1) = inverted_target (old i) (lead (i + 1)) e in
       let hop_here = h.1.0 in
-      let none_here = no_frame names new_names states first wide call b b' p (q_of i + 1) (hop to (i + 1) (lead_probe b first (i + 1))) hop_here (λ l. l.3) in
+      let none_here = no_frame names new_names states first form named b b' p (q_of i + 1) (hop to (i + 1) (lead_probe b first (i + 1))) hop_here (λ l. l.3) in
       let at_hop = behind_image i lt new h.0 flow none_here in
       let two : q_of i + 2 ≡ q_of i + 1 + 1 = omega arith in
       let end : lead (suc i) ≡ q_of i + 1 + 1 + 5 = omega (arith, size, one) in
@@ -412,45 +415,45 @@ module _ (names new_names : Names) (states : List State) (first : ℕ) (wide : B
         testing i lt new (q_of i + 2) h.0 flow (inverse_targets inner (q_of i + 2) inner_flow) (same_fits (N (q_of i + 1)) (moved (After i lt)) at_hop)
             (to_behind i lt e w, same_fits (N (q_of i + 2)) (moved (After i lt)) (state_left i id lt e w some)),
         (
-          hop_fine i (q_of i + 1) to (i + 1) (lead_probe b first (i + 1)) (After i lt) hop_here at_hop (A_low names new_names states first wide call b b' p i lt) (left_near i lt (inl e))
+          hop_fine i (q_of i + 1) to (i + 1) (lead_probe b first (i + 1)) (After i lt) hop_here at_hop (A_low names new_names states first form named b b' p i lt) (left_near i lt (inl e))
               (subst (λ k. HasFrame b' k × FitsThere (Some (moved (After i lt))) (N k)) (up ∙ sym to_is) next) (λ short. subst (HasFrame b') two (to_behind i lt e w)),
           hop_part_fine i (q_of i + 1 + 1) id (jump_target (old i)) (After i lt) h.1.1 at_probe
-              (A_low names new_names states first wide call b b' p i lt) (left_long i lt (inl e)) (left_near i lt (inl e)) (to_target i lt e)
+              (A_low names new_names states first form named b b' p i lt) (left_long i lt (inl e)) (left_near i lt (inl e)) (to_target i lt e)
               (λ short. subst (HasFrame b') end next.0),
         ),
       )
 
   tests_fine : (i : ℕ) (lt : i < length b.code) → flow_of (old i) ≡ flows.Branches → (o : Option ℕ) → late_probe b first i ≡ o
-      → HasAt items (q_of i) (tests_part b first wide i (old i) o) → Each (Fine i) (q_of i) (tests_part b first wide i (old i) o)
-  tests_fine i lt e None none h = plain_fine wide i lt refl e none h
-  tests_fine i lt e (Some id) some h = probed_fine wide i id lt refl e some h
+      → HasAt items (q_of i) (tests_part b first form i (old i) o) → Each (Fine i) (q_of i) (tests_part b first form i (old i) o)
+  tests_fine i lt e None none h = plain_fine (is_wide form i) i lt refl e none h
+  tests_fine i lt e (Some id) some h = probed_fine (is_wide form i) i id lt refl e some h
 
   -- ---- switches
 
   abbrev whole : ℕ → ℕ → ℕ
-  whole i to = arm_place (probe_of b first) (land_of b first wide) (q_of i + 1) (arms_at b.code i) to
+  whole i to = arm_place (probe_of b first) (land_of b first form) (q_of i + 1) (arms_at b.code i) to
 
   arm_asked : (i : ℕ) (lt : i < length b.code) (x : Branch) (id : ℕ) → Contains (arms_at b.code i) x → probe_of b first x ≡ Some id
       → HasFrame b' (whole i (to_of x)) × (N (whole i (to_of x)) ≡ Some (moved (After i lt)))
   arm_asked i lt x id c some =
       let s = left_by (old i) (state_at states i) in
-      let a = narrow names new_names states first wide call b b' p (whole i (to_of x)) s
+      let a = narrow names new_names states first form named b b' p (whole i (to_of x)) s
       (inr (inr (record { switch = i; branch = x; id = id; within = lt; listed = c; probed = some; place = refl; state_is = refl }))) in (
-        asked_has names new_names states first wide call b b' p (whole i (to_of x)) s a,
-        frame_state_is new_names b' (whole i (to_of x)) (moved (type_state names s)) (asked_frame names new_names states first wide call b b' p (whole i (to_of x)) s a)
-            ∙ ap (λ t. Some (moved t)) (sym (left i lt (inr (arms_switch names new_names states first wide call b b' p i x c)))),
+        asked_has names new_names states first form named b b' p (whole i (to_of x)) s a,
+        frame_state_is new_names b' (whole i (to_of x)) (moved (type_state names s)) (asked_frame names new_names states first form named b b' p (whole i (to_of x)) s a)
+            ∙ ap (λ t. Some (moved t)) (sym (left i lt (inr (arms_switch names new_names states first form named b b' p i x c)))),
       )
 
   -- where a switch leads for a target: to where jumps to it land, or to the arm place of a probed branch
   arm_case : (here t : ℕ) (xs : List Branch)
-      → (arm_place (probe_of b first) (land_of b first wide) here xs t ≡ land t) ⊎ ((x : Branch) × (id : ℕ) × Contains xs x × (probe_of b first x ≡ Some id) × (to_of x ≡ t))
+      → (arm_place (probe_of b first) (land_of b first form) here xs t ≡ land t) ⊎ ((x : Branch) × (id : ℕ) × Contains xs x × (probe_of b first x ≡ Some id) × (to_of x ≡ t))
   arm_case here t [] = inl refl
   arm_case here t (x ∷ xs) = by (arm_case (here + hop_size (probe_of b first x)) t xs) (nat_eq (to_of x) t) refl (probe_of b first x) refl
     where
-      by : (arm_place (probe_of b first) (land_of b first wide) (here + hop_size (probe_of b first x)) xs t ≡ land t)
+      by : (arm_place (probe_of b first) (land_of b first form) (here + hop_size (probe_of b first x)) xs t ≡ land t)
           ⊎ ((y : Branch) × (id : ℕ) × Contains xs y × (probe_of b first y ≡ Some id) × (to_of y ≡ t))
           → (c : Bool) → nat_eq (to_of x) t ≡ c → (o : Option ℕ) → probe_of b first x ≡ o
-          → ((if c then here_or (probe_of b first x) here (land t) else arm_place (probe_of b first) (land_of b first wide) (here + hop_size (probe_of b first x)) xs t) ≡ land t)
+          → ((if c then here_or (probe_of b first x) here (land t) else arm_place (probe_of b first) (land_of b first form) (here + hop_size (probe_of b first x)) xs t) ≡ land t)
           ⊎ ((y : Branch) × (id : ℕ) × Contains (x ∷ xs) y × (probe_of b first y ≡ Some id) × (to_of y ≡ t))
       by more true e None none = inl (ap (λ o. here_or o here (land t)) none)
       by more true e (Some id) some = inr (x, id, first_in x xs, some, eqb-true (to_of x) t e)
@@ -467,7 +470,7 @@ module _ (names new_names : Names) (states : List State) (first : ℕ) (wide : B
 
   -- a frame stands where the arms, or what is left of them, begin
   arms_frame : (i : ℕ) (lt : i < length b.code) → flow_of (old i) ≡ flows.Switches → (here : ℕ) (xs : List Branch) → Arms i xs
-      → Agrees (probe_of b first) (land_of b first wide) (whole i) here xs
+      → Agrees (probe_of b first) (land_of b first form) (whole i) here xs
       → ((y : Branch) → Contains xs y → Contains (arms_at b.code i) y) → here + arm_sizes (probe_of b first) xs ≡ lead (suc i)
       → here < length b'.code → HasFrame b' here
   arms_frame i lt e here [] arms a listed end short =
@@ -475,7 +478,7 @@ module _ (names new_names : Names) (states : List State) (first : ℕ) (wide : B
       subst (HasFrame b') (sym place) (stopped i lt (never (old i) flows.Switches e (λ x. cc) (λ x. cc)) (subst (λ k. k < length b'.code) place short))
   arms_frame i lt e here (x ∷ xs) arms a listed end short =
       by (λ at. arms_frame i lt e (here + hop_size (probe_of b first x)) xs arms.3
-      (agrees_rest (probe_of b first) (land_of b first wide) (whole i) here x xs arms.0 a) (λ y d. listed y (later_in x xs y d)) (omega (arith, end)) at)
+      (agrees_rest (probe_of b first) (land_of b first form) (whole i) here x xs arms.0 a) (λ y d. listed y (later_in x xs y d)) (omega (arith, end)) at)
       (probe_of b first x) refl
     where
       by : (here + hop_size (probe_of b first x) < length b'.code → HasFrame b' (here + hop_size (probe_of b first x))) → (o : Option ℕ)
@@ -485,7 +488,7 @@ module _ (names new_names : Names) (states : List State) (first : ℕ) (wide : B
           let place : here + hop_size (probe_of b first x) ≡ here = omega (arith, size) in
           subst (HasFrame b') place (more (subst (λ k. k < length b'.code) (sym place) short))
       by more (Some id) some =
-          subst (HasFrame b') (agrees_first (probe_of b first) (land_of b first wide) (whole i) here id x xs a some) (arm_asked i lt x id (listed x (first_in x xs)) some).0
+          subst (HasFrame b') (agrees_first (probe_of b first) (land_of b first form) (whole i) here id x xs a some) (arm_asked i lt x id (listed x (first_in x xs)) some).0
 
   -- an arm leads to a target of the switch
   arm_target : (i : ℕ) (x : Branch) → flow_of (old i) ≡ flows.Switches → Contains (arms_at b.code i) x
@@ -493,37 +496,37 @@ module _ (names new_names : Names) (states : List State) (first : ℕ) (wide : B
   arm_target i x e c =
       first_seen_listed (targets_of (old i)) (to_of x)
       (arm_listed i 0 (first_seen (targets_of (old i))) x
-      (subst (λ f. Contains (branches_by f i (targets_of (old i))) x) e (subst (λ l. Contains l x) (arms_are names new_names states first wide call b b' p i e) c)))
+      (subst (λ f. Contains (branches_by f i (targets_of (old i))) x) e (subst (λ l. Contains l x) (arms_are names new_names states first form named b b' p i e) c)))
 
   arms_fine : (i : ℕ) (lt : i < length b.code) → flow_of (old i) ≡ flows.Switches → (here : ℕ) (xs : List Branch) → Arms i xs
-      → Agrees (probe_of b first) (land_of b first wide) (whole i) here xs
+      → Agrees (probe_of b first) (land_of b first form) (whole i) here xs
       → ((y : Branch) → Contains xs y → Contains (arms_at b.code i) y) → here + arm_sizes (probe_of b first) xs ≡ lead (suc i)
-      → HasAt items here (arm_parts (land_of b first wide) (probe_of b first) xs)
-      → Each (Fine i) here (arm_parts (land_of b first wide) (probe_of b first) xs)
+      → HasAt items here (arm_parts (land_of b first form) (probe_of b first) xs)
+      → Each (Fine i) here (arm_parts (land_of b first form) (probe_of b first) xs)
   arms_fine i lt e here [] arms a listed end h = tt
   arms_fine i lt e here (x ∷ xs) arms a listed end h =
-      let o = hop_part (land_of b first wide) (probe_of b first x) (to_of x) in
-      let long = length-hop (land_of b first wide) (probe_of b first x) (to_of x) in
-      let rest = agrees_rest (probe_of b first) (land_of b first wide) (whole i) here x xs arms.0 a in
+      let o = hop_part (land_of b first form) (probe_of b first x) (to_of x) in
+      let long = length-hop (land_of b first form) (probe_of b first x) (to_of x) in
+      let rest = agrees_rest (probe_of b first) (land_of b first form) (whole i) here x xs arms.0 a in
       let later : (y : Branch) → Contains xs y → Contains (arms_at b.code i) y = λ y d. listed y (later_in x xs y d) in
       let end' : here + hop_size (probe_of b first x) + arm_sizes (probe_of b first) xs ≡ lead (suc i) = omega (arith, end) in
-      each_append (Fine i) here o (arm_parts (land_of b first wide) (probe_of b first) xs)
+      each_append (Fine i) here o (arm_parts (land_of b first form) (probe_of b first) xs)
       (part (λ at. arms_frame i lt e (here + hop_size (probe_of b first x)) xs arms.3 rest later end' at) (probe_of b first x) refl (has_front items here o _ h))
-      (subst (λ k. Each (Fine i) (here + k) (arm_parts (land_of b first wide) (probe_of b first) xs)) (sym long)
+      (subst (λ k. Each (Fine i) (here + k) (arm_parts (land_of b first form) (probe_of b first) xs)) (sym long)
       (arms_fine i lt e (here + hop_size (probe_of b first x)) xs arms.3 rest later end'
-      (subst (λ k. HasAt items (here + k) (arm_parts (land_of b first wide) (probe_of b first) xs)) long (has_back items here o _ h))))
+      (subst (λ k. HasAt items (here + k) (arm_parts (land_of b first form) (probe_of b first) xs)) long (has_back items here o _ h))))
     where
       part : (here + hop_size (probe_of b first x) < length b'.code → HasFrame b' (here + hop_size (probe_of b first x))) → (o : Option ℕ)
-          → probe_of b first x ≡ o → HasAt items here (hop_part (land_of b first wide) o (to_of x))
-          → Each (Fine i) here (hop_part (land_of b first wide) o (to_of x))
+          → probe_of b first x ≡ o → HasAt items here (hop_part (land_of b first form) o (to_of x))
+          → Each (Fine i) here (hop_part (land_of b first form) o (to_of x))
       part stop None none h = tt
       part stop (Some id) some h =
           let c = listed x (first_in x xs) in
           let asked = arm_asked i lt x id c some in
-          let at_arm = ap N (sym (agrees_first (probe_of b first) (land_of b first wide) (whole i) here id x xs a some)) ∙ asked.1 in
+          let at_arm = ap N (sym (agrees_first (probe_of b first) (land_of b first form) (whole i) here id x xs a some)) ∙ asked.1 in
           let size = ap hop_size some in
           let five : here + hop_size (probe_of b first x) ≡ here + 5 = omega (arith, size) in
-          hop_part_fine i here id (to_of x) (After i lt) h at_arm (A_low names new_names states first wide call b b' p i lt) (left_long i lt (inr e))
+          hop_part_fine i here id (to_of x) (After i lt) h at_arm (A_low names new_names states first form named b b' p i lt) (left_long i lt (inr e))
           (left_near i lt (inr e)) (target_jump i (to_of x) lt (arm_target i x e c))
           (subst (λ k. k < length b'.code → HasFrame b' k) five stop)
 
@@ -543,9 +546,9 @@ module _ (names new_names : Names) (states : List State) (first : ℕ) (wide : B
       (λ r c. absurd (none_in r (subst (λ l. Contains l r) (no_targets (old i) (inr (⊎_elim (λ x. inl (e ∙ x)) (λ x. inr (e ∙ x)) which))) c)))
 
   main_fine : (i : ℕ) (flow : Flow) (lt : i < length b.code) → flow_of (old i) ≡ flow
-      → HasAt items (q_of i) (image_part b first wide i (old i) flow) → Each (Fine i) (q_of i) (image_part b first wide i (old i) flow)
+      → HasAt items (q_of i) (image_part b first form i (old i) flow) → Each (Fine i) (q_of i) (image_part b first form i (old i) flow)
   main_fine i flows.GoesOn lt e h =
-      let size = size_is b first wide i flows.GoesOn e in
+      let size = size_is b first form i flows.GoesOn e in
       let place : lead (suc i) ≡ q_of i + 1 = omega (arith, size) in
       let flow = slot_flow v (old i) e in (
         leading i lt (with_slot v (old i)) None h.0 (λ falls. subst (λ k. FitsThere (Some (moved (After i lt))) (N k)) place (lead_target i lt (inl e))) (λ halts. absurd (halts (inl flow)))
@@ -554,17 +557,17 @@ module _ (names new_names : Names) (states : List State) (first : ℕ) (wide : B
       )
   main_fine i flows.Branches lt e h = tests_fine i lt e (late_probe b first i) refl h
   main_fine i flows.Jumps lt e h =
-      let size = size_is b first wide i flows.Jumps e in
-      let new = with_places (land_of b first wide) (old i) in
-      let stops : FallsThrough new → ⊥ = goto_stops (old i) (land_of b first wide) e in (
+      let size = size_is b first form i flows.Jumps e in
+      let new = with_places (land_of b first form) (old i) in
+      let stops : FallsThrough new → ⊥ = goto_stops (old i) (land_of b first form) e in (
         leading i lt new (early_probe b first i) h.0 (λ falls. absurd (stops falls)) (λ halts short. alone i lt flows.Jumps e (λ x. cc) (λ x. cc) (omega (arith, size)) short)
             (λ r c.
-            let m = of_map (land_of b first wide) (targets_of (old i)) r (subst (λ l. Contains l r) (targets_placed (land_of b first wide) (old i)) c) in
+            let m = of_map (land_of b first form) (targets_of (old i)) r (subst (λ l. Contains l r) (targets_placed (land_of b first form) (old i)) c) in
             subst (λ k. HasFrame b' k × FitsThere (Some (moved (After i lt))) (N k)) (sym m.2) (target_jump i m.0 lt m.1)),
         tt,
       )
   main_fine i flows.Switches lt e h =
-      let size = size_switches b first wide i e in
+      let size = size_switches b first form i e in
       let new = with_places (whole i) (old i) in
       let stops : FallsThrough new → ⊥ = switch_stops (old i) (whole i) e in
       let end : q_of i + 1 + arm_sizes (probe_of b first) (arms_at b.code i) ≡ lead (suc i) = omega (arith, size) in (
@@ -576,43 +579,43 @@ module _ (names new_names : Names) (states : List State) (first : ℕ) (wide : B
         arms_fine i lt e (q_of i + 1) (arms_at b.code i) (arms_by_list b i) (λ y d. refl) (λ y d. d) end h.1,
       )
   main_fine i flows.Returns lt e h =
-      let size = size_is b first wide i flows.Returns e in (exit_fine i lt flows.Returns e (inl refl) (λ x. cc) (λ x. cc) (omega (arith, size)) h.0, tt)
+      let size = size_is b first form i flows.Returns e in (exit_fine i lt flows.Returns e (inl refl) (λ x. cc) (λ x. cc) (omega (arith, size)) h.0, tt)
   main_fine i flows.Throws lt e h =
-      let size = size_is b first wide i flows.Throws e in (exit_fine i lt flows.Throws e (inr refl) (λ x. cc) (λ x. cc) (omega (arith, size)) h.0, tt)
+      let size = size_is b first form i flows.Throws e in (exit_fine i lt flows.Throws e (inr refl) (λ x. cc) (λ x. cc) (omega (arith, size)) h.0, tt)
 
   -- ---- probes in front of images
 
   lead_fine : (i : ℕ) (lt : i < length b.code) → Each (Fine i) (lead i) (lead_part (lead_probe b first i) i)
-  lead_fine i lt = by (lead_probe b first i) refl (lead_at b first wide call i lt)
+  lead_fine i lt = by (lead_probe b first i) refl (lead_at b first form named i lt)
     where
       by : (o : Option ℕ) → lead_probe b first i ≡ o → HasAt items (lead i) (lead_part o i) → Each (Fine i) (lead i) (lead_part o i)
       by None none h = tt
       by (Some id) some h =
-          let l = all_led names new_names states first wide call b b' p i lt in
+          let l = all_led names new_names states first form named b b' p i lt in
           let size = ap probe_size some in
           let place : lead i + 1 + 1 + 1 + 1 ≡ land i = omega (arith, size) in
-          let fits = fits_shift (image_of b first wide) v l.before (S i) l.fits in
-          probe_fine i (lead i) id i true l.before h l.state_is l.low (led_long names new_names states first wide call b b' p i lt l) fits.locals
+          let fits = fits_shift (image_of b first form) v l.before (S i) l.fits in
+          probe_fine i (lead i) id i true l.before h l.state_is l.low (led_long names new_names states first form named b b' p i lt l) fits.locals
           (subst (λ k. FitsThere (Some (moved l.before)) (N k)) (sym place)
-          (fit_there (N (land i)) (moved l.before) (moved (S i)) (all_landed names new_names states first wide call b b' p i lt) fits))
+          (fit_there (N (land i)) (moved l.before) (moved (S i)) (all_landed names new_names states first form named b b' p i lt) fits))
 
   early_fine : (i : ℕ) (lt : i < length b.code) → Each (Fine i) (land i) (early_part (early_probe b first i) i)
-  early_fine i lt = by (early_probe b first i) refl (early_at b first wide call i lt)
+  early_fine i lt = by (early_probe b first i) refl (early_at b first form named i lt)
     where
       by : (o : Option ℕ) → early_probe b first i ≡ o → HasAt items (land i) (early_part o i) → Each (Fine i) (land i) (early_part o i)
       by None none h = tt
       by (Some id) some h =
           let size = ap probe_size some in
           let place : land i + 1 + 1 + 1 + 1 ≡ q_of i = omega (arith, size) in
-          probe_fine i (land i) id i false (S i) h (all_landed names new_names states first wide call b b' p i lt)
-          (S_low names new_names states first wide call b b' p i lt) (S_long names new_names states first wide call b b' p i lt)
+          probe_fine i (land i) id i false (S i) h (all_landed names new_names states first form named b b' p i lt)
+          (S_low names new_names states first form named b b' p i lt) (S_long names new_names states first form named b b' p i lt)
           (fits_same (moved (S i)).locals)
-          (subst (λ k. FitsThere (Some (moved (S i))) (N k)) (sym place) (same_fits (N (q_of i)) (moved (S i)) (all_imaged names new_names states first wide call b b' p i lt)))
+          (subst (λ k. FitsThere (Some (moved (S i))) (N k)) (sym place) (same_fits (N (q_of i)) (moved (S i)) (all_imaged names new_names states first form named b b' p i lt)))
 
-  pub segment_fine : (i : ℕ) (lt : i < length b.code) → Each (Fine i) (lead i) (segment b first wide i)
+  pub segment_fine : (i : ℕ) (lt : i < length b.code) → Each (Fine i) (lead i) (segment b first form i)
   segment_fine i lt =
       each_append (Fine i) (lead i) (lead_part (lead_probe b first i) i) _ (lead_fine i lt)
-      (subst (λ k. Each (Fine i) (lead i + k) (early_part (early_probe b first i) i ++ image_part b first wide i (old i) (flow_of (old i)))) (sym (length-lead (lead_probe b first i) i))
+      (subst (λ k. Each (Fine i) (lead i + k) (early_part (early_probe b first i) i ++ image_part b first form i (old i) (flow_of (old i)))) (sym (length-lead (lead_probe b first i) i))
       (each_append (Fine i) (land i) (early_part (early_probe b first i) i) _ (early_fine i lt)
-      (subst (λ k. Each (Fine i) (land i + k) (image_part b first wide i (old i) (flow_of (old i)))) (sym (length-early (early_probe b first i) i))
-      (main_fine i (flow_of (old i)) lt refl (main_at b first wide call i lt)))))
+      (subst (λ k. Each (Fine i) (land i + k) (image_part b first form i (old i) (flow_of (old i)))) (sym (length-early (early_probe b first i) i))
+      (main_fine i (flow_of (old i)) lt refl (main_at b first form named i lt)))))

@@ -20,7 +20,7 @@ use Rattle.jc_methods.specs.VerificationTypes.{Names, VerificationType, top, int
 use Rattle.jc_methods.specs.EntryState.{entry_of, entry_seen}
 use Rattle.jc_kinds_after.specs.Wants.{accepts}
 use Rattle.jc_kinds_after.specs.Step.{kind, moves, apply, put_local, with_stack, limited}
-use Rattle.jc_kinds_after.specs.Table.{form, one, table, forms_at}
+use Rattle.jc_kinds_after.specs.Table.{form as one_form, one, table, forms_at}
 use Rattle.jc_kinds_after.specs.After.{insn_at, ground_of, returns_of, step_of, member_step, after_of}
 use Rattle.jc_kinds.specs.States.{frames_of, frame_at, or_else, state_of, after_at}
 use Rattle.jc_kinds.specs.Fits.{Fits, IsNullOrObject, FitEach, FitState, FitsThere}
@@ -29,8 +29,9 @@ use Rattle.jc_kinds.specs.StateShift.{IsStraddled}
 use Rattle.jc_methods.proofs.FlowLaws.{falls_decided}
 use Rattle.jc_kinds.proofs.StateShiftLaws.{state_fine, states_shift, frame_is, frame_state}
 use Rattle.jc_kinds.proofs.EntryShiftLaws.{entry_shifts}
+use Rattle.jc_emit.specs.Sizes.{TwinForm}
 use Rattle.jc_emit.proofs.StateLaws.{slots-renamed}
-use Rattle.jc_emit.specs.Marks.{push, invokestatic}
+use Rattle.jc_emit.specs.Marks.{TwinPlaces, push, invokestatic}
 use Rattle.jc_emit.specs.TwinFrames.{state_at}
 use Rattle.jc_emit.specs.Items.{Item, start, probe_array, probe_id, probe_one, probe_store, insn_of, extra_of, probe, lead_of, land_of, image_of, twin_items}
 use Rattle.jc_emit.proofs.PiecesLaws.{HasAt}
@@ -142,27 +143,27 @@ push_is n = by (nat_le n 5) refl (nat_le n 127)
     by true e c = let le = leb-true n 5 e in all_from IsPush 0 6 n small_pushes (omega arith) (omega (arith, le))
     by false e c = wide c
 
-module _ (names new_names : Names) (states : List State) (first : ℕ) (wide : Bool) (call : ℕ) (b b' : Body) (p : Premises names new_names states first wide call b b') where
+module _ (names new_names : Names) (states : List State) (first : ℕ) (form : TwinForm) (named : TwinPlaces) (b b' : Body) (p : Premises names new_names states first form named b b') where
   abbrev v : ℕ
   v = b.arg_slots
 
   abbrev items : List Item
-  items = twin_items b first wide
+  items = twin_items b first form
 
   abbrev q_of : ℕ → ℕ
-  q_of i = image_of b first wide i
+  q_of i = image_of b first form i
 
   abbrev land : ℕ → ℕ
-  land i = land_of b first wide i
+  land i = land_of b first form i
 
   abbrev lead : ℕ → ℕ
-  lead i = lead_of b first wide i
+  lead i = lead_of b first form i
 
   abbrev old : ℕ → Insn
   old i = sizes.insn_at b.code i
 
   abbrev moved : TypeState → TypeState
-  moved s = shifted (image_of b first wide) b.arg_slots s
+  moved s = shifted (image_of b first form) b.arg_slots s
 
   abbrev S : ℕ → TypeState
   S i = type_state names (state_at states i)
@@ -182,19 +183,19 @@ module _ (names new_names : Names) (states : List State) (first : ℕ) (wide : B
   pub after_b : (i : ℕ) → i < length b.code → (t : TypeState) × (after_of b i (S i) ≡ Some t)
   after_b i lt =
       let t = is_some_value (after_at names b i) (p.checked.after i lt) in
-      (t.0, sym (ap (option_and_then (after_of b i)) (state_b names new_names states first wide call b b' p i lt)) ∙ t.1)
+      (t.0, sym (ap (option_and_then (after_of b i)) (state_b names new_names states first form named b b' p i lt)) ∙ t.1)
 
   -- the state after it
   abbrev pub A : (i : ℕ) → i < length b.code → TypeState
   A i lt = (after_b i lt).0
 
   pub after_at_b : (i : ℕ) (lt : i < length b.code) → after_at names b i ≡ Some (A i lt)
-  after_at_b i lt = after_there names b i (S i) (A i lt) (state_b names new_names states first wide call b b' p i lt) (after_b i lt).1
+  after_at_b i lt = after_there names b i (S i) (A i lt) (state_b names new_names states first form named b b' p i lt) (after_b i lt).1
 
   pub image_after : (i : ℕ) (lt : i < length b.code) → after_of b' (q_of i) (moved (S i)) ≡ Some (moved (A i lt))
   image_after i lt =
-      states_shift names (image_of b first wide) b b' p.well free (images names new_names states first wide call b b' p) i (S i) (A i lt)
-      (state_b names new_names states first wide call b b' p i lt) (after_b i lt).1
+      states_shift names (image_of b first form) b b' p.well free (images names new_names states first form named b b' p) i (S i) (A i lt)
+      (state_b names new_names states first form named b b' p i lt) (after_b i lt).1
 
   -- ---- bounds
 
@@ -243,30 +244,30 @@ module _ (names new_names : Names) (states : List State) (first : ℕ) (wide : B
       or_low (suc i) _ s (λ t is. then_low i (state_of names b i) (falls_at (insn_at b i)) t (λ u q. state_low i u q) is) e
 
   pub S_low : (i : ℕ) → i < length b.code → slots (S i).stack ≤ b.max_stack
-  S_low i lt = state_low i (S i) (state_b names new_names states first wide call b b' p i lt)
+  S_low i lt = state_low i (S i) (state_b names new_names states first form named b b' p i lt)
 
   pub A_low : (i : ℕ) (lt : i < length b.code) → slots (A i lt).stack ≤ b.max_stack
   A_low i lt = after_low i (S i) (A i lt) (S_low i lt) (after_b i lt).1
 
   pub S_long : (i : ℕ) → i < length b.code → v ≤ length (S i).locals
   S_long i lt =
-      let f = state_fine names b p.well free i (S i) (state_b names new_names states first wide call b b' p i lt) in
+      let f = state_fine names b p.well free i (S i) (state_b names new_names states first form named b b' p i lt) in
       let count = f.0 in let fit = p.well.arguments_fit in omega (arith, count, fit)
 
   -- ---- one instruction of the twin
 
   abbrev Step : ℕ → Item → TypeState → TypeState → Type 0
-  Step q x s t = apply (ground_of b' q) (step_of b'.uses (returns_of b') (insn_of call v x)) s ≡ Some t
+  Step q x s t = apply (ground_of b' q) (step_of b'.uses (returns_of b') (insn_of named v x)) s ≡ Some t
 
   pub goes : (q : ℕ) (x : Item) (s t : TypeState) → slice_get items q ≡ Some x → Step q x s t → after_of b' q s ≡ Some t
-  goes q x s t here step = after_is b' q s (insn_of call v x) (stands names new_names states first wide call b b' p q x here) ∙ step
+  goes q x s t here step = after_is b' q s (insn_of named v x) (stands names new_names states first form named b b' p q x here) ∙ step
 
-  pub next_is : (q : ℕ) (x : Item) (s t : TypeState) → slice_get items q ≡ Some x → flow_of (insn_of call v x) ≡ flows.GoesOn → F (q + 1) ≡ None
+  pub next_is : (q : ℕ) (x : Item) (s t : TypeState) → slice_get items q ≡ Some x → flow_of (insn_of named v x) ≡ flows.GoesOn → F (q + 1) ≡ None
       → N q ≡ Some s → after_of b' q s ≡ Some t → N (q + 1) ≡ Some t
   next_is q x s t here flow none before after =
       let up = add-one q in
       ap N up
-      ∙ next_state new_names b' q (insn_of call v x) s t (ap F (sym up) ∙ none) (stands names new_names states first wide call b b' p q x here) (inl flow) before after
+      ∙ next_state new_names b' q (insn_of named v x) s t (ap F (sym up) ∙ none) (stands names new_names states first form named b b' p q x here) (inl flow) before after
 
   -- ---- a probe
 
@@ -289,7 +290,7 @@ module _ (names new_names : Names) (states : List State) (first : ℕ) (wide : B
     pub after3 : after_of b' (q + 1 + 1 + 1) (with_one X) ≡ Some (moved X)
 
   moved_low : (X : TypeState) → slots X.stack ≤ b.max_stack → slots (moved X).stack ≤ b.max_stack
-  moved_low X low = let same = slots-renamed (image_of b first wide) X.stack in omega (arith, same, low)
+  moved_low X low = let same = slots-renamed (image_of b first form) X.stack in omega (arith, same, low)
 
   array_low : (X : TypeState) → slots X.stack ≤ b.max_stack → slots (with_array X).stack ≤ b.max_stack + 1
   array_low X low = let n = slots-append (moved X).stack (probes ∷ []) in let m = moved_low X low in omega (arith, n, m)
@@ -300,8 +301,8 @@ module _ (names new_names : Names) (states : List State) (first : ℕ) (wide : B
   array_step : (q id at : ℕ) (late : Bool) (X : TypeState) → slots X.stack ≤ b.max_stack → v ≤ length X.locals
       → Step q (probe_array id at late) (moved X) (with_array X)
   array_step q id at late X low long =
-      let most = p.max_stack in let m = array_low X low in let n = length-map X.locals (renamed (image_of b first wide)) in
-      let here : get_or (moved X).locals v top ≡ probes = get_or-insert_at (map (renamed (image_of b first wide)) X.locals) v probes top (omega (arith, long, n)) in
+      let most = p.max_stack in let m = array_low X low in let n = length-map X.locals (renamed (image_of b first form)) in
+      let here : get_or (moved X).locals v top ≡ probes = get_or-insert_at (map (renamed (image_of b first form)) X.locals) v probes top (omega (arith, long, n)) in
       ap (λ (h : VerificationType). if accepts wants.Anything h then with_stack (moved X) (limited b'.max_stack ((moved X).stack ++ h ∷ [])) else None) here
       ∙ ap (with_stack (moved X)) (limited_is b'.max_stack (with_array X).stack (omega (arith, most, m)))
 
@@ -327,14 +328,14 @@ module _ (names new_names : Names) (states : List State) (first : ℕ) (wide : B
       let end = append-nil xs in
       let size = ap slots end in
       ap (λ l. apply (ground_of b' q) (moves (one (wants.Reference ∷ wants.Int ∷ wants.Int ∷ []) [])) (state (moved X).locals l)) split
-      ∙ moves_one (ground_of b' q) (form (wants.Reference ∷ wants.Int ∷ wants.Int ∷ []) []) (moved X).locals xs (probes ∷ int ∷ int ∷ []) refl refl (omega (arith, most, m, size))
+      ∙ moves_one (ground_of b' q) (one_form (wants.Reference ∷ wants.Int ∷ wants.Int ∷ []) []) (moved X).locals xs (probes ∷ int ∷ int ∷ []) refl refl (omega (arith, most, m, size))
       ∙ ap (λ l. Some (state (moved X).locals l)) end
 
   pub probe_runs : (q id at : ℕ) (late : Bool) (X : TypeState) → HasAt items q (probe id at late) → N q ≡ Some (moved X)
       → slots X.stack ≤ b.max_stack → v ≤ length X.locals → Runs q X
   probe_runs q id at late X h before low long =
       let none : (k : ℕ) (x : Item) → slice_get items k ≡ Some x → (extra_of x ≡ 0 → ⊥) → F k ≡ None =
-      λ k x here more. no_frame names new_names states first wide call b b' p k x here (λ l. more l.1) in
+      λ k x here more. no_frame names new_names states first form named b b' p k x here (λ l. more l.1) in
       let a0 = goes q (probe_array id at late) (moved X) (with_array X) h.0 (array_step q id at late X low long) in
       let s1 = next_is q (probe_array id at late) (moved X) (with_array X) h.0 refl (none (q + 1) (probe_id id at late) h.1.0 (λ e. cc)) before a0 in
       let a1 = goes (q + 1) (probe_id id at late) (with_array X) (with_id X) h.1.0 (id_step (q + 1) id at late X low) in
@@ -364,7 +365,7 @@ module _ (names new_names : Names) (states : List State) (first : ℕ) (wide : B
   entry_same k = entry_seen (p.method.owner k) (p.method.name k) (p.method.desc k) (p.method.flags k) (p.max_locals k)
 
   no_frame_first : F 0 ≡ None
-  no_frame_first = no_frame names new_names states first wide call b b' p 0 (start 0) (prelude_at b first wide).0 (λ l. l.0)
+  no_frame_first = no_frame names new_names states first form named b b' p 0 (start 0) (prelude_at b first form).0 (λ l. l.0)
 
   pub state_0 : N 0 ≡ Some E
   state_0 = first_state new_names b' no_frame_first
@@ -377,18 +378,18 @@ module _ (names new_names : Names) (states : List State) (first : ℕ) (wide : B
       ∙ moves_gives (ground_of b' 0) probes E.locals [] (omega (arith, most))
 
   pub after_0 : after_of b' 0 E ≡ Some E_array
-  after_0 = goes 0 (start 0) E E_array (prelude_at b first wide).0 call_step
+  after_0 = goes 0 (start 0) E E_array (prelude_at b first form).0 call_step
 
   pub state_1 : N 1 ≡ Some E_array
   state_1 =
-      next_state new_names b' 0 (invokestatic call) E E_array (no_frame names new_names states first wide call b b' p 1 (start 1) (prelude_at b first wide).1.0 (λ l. l.0))
-      (stands names new_names states first wide call b b' p 0 (start 0) (prelude_at b first wide).0) (inl refl) state_0 after_0
+      next_state new_names b' 0 (invokestatic named.giver) E E_array (no_frame names new_names states first form named b b' p 1 (start 1) (prelude_at b first form).1.0 (λ l. l.0))
+      (stands names new_names states first form named b b' p 0 (start 0) (prelude_at b first form).0) (inl refl) state_0 after_0
 
   store_array : Step 1 (start 1) E_array (moved (entry_of b))
   store_array =
-      let shifts = entry_shifts (image_of b first wide) b p.well in
+      let shifts = entry_shifts (image_of b first form) b p.well in
       ap (with_stack (record E_array { locals = put_local v probes E_array.locals })) (limited_is b'.max_stack [] (omega arith))
       ∙ ap (λ (l : List VerificationType). Some (state l [])) (ap (λ (e : TypeState). put_local v probes e.locals) entry_same ∙ shifts)
 
   pub after_1 : after_of b' 1 E_array ≡ Some (moved (entry_of b))
-  after_1 = goes 1 (start 1) E_array (moved (entry_of b)) (prelude_at b first wide).1.0 store_array
+  after_1 = goes 1 (start 1) E_array (moved (entry_of b)) (prelude_at b first form).1.0 store_array

@@ -18,8 +18,8 @@ use Rattle.jc_plan.specs.Plan.{lead_probe}
 use Rattle.jc_methods.specs.FrameOrder.{RiseFrom}
 use Rattle.jc_kinds_after.specs.Shift.{shifted}
 use Rattle.jc_emit.specs.Shift.{probe_array_class}
-use Rattle.jc_emit.specs.Sizes.{insn_at, late_probe, arms_by, arms_at, probe_size, hop_size, arm_sizes, behind_size}
-use Rattle.jc_emit.specs.Marks.{image_place, land_place, lead_place}
+use Rattle.jc_emit.specs.Sizes.{narrow, insn_at, late_probe, arms_by, arms_at, probe_size, hop_size, arm_sizes, behind_size}
+use Rattle.jc_emit.specs.Marks.{unplaced, image_place, land_place, lead_place}
 use Rattle.jc_emit.specs.TwinTables.{AreMovedTables, moved_row, moved_line, moved_var}
 use Rattle.jc_emit.specs.TwinFrames.{state_at, left_by, state_behind, IsFrameBehind, IsFrame, AreTwinFrames}
 use Rattle.jc_emit.specs.Items.{own_of, segment_size, lead_of, land_of, image_of, twin_items}
@@ -38,13 +38,13 @@ use Rattle.jc_bytes.proofs.BooleanLaws.{none_in}
 module _ (b : Body) (first : ℕ) (states : List State) (array : ℕ) (names : List (List ℕ)) (is_code : IsCode b.code) (are_frames : AreFramesFrom 0 b.code b.max_locals b.max_stack b.frames)
     (fit : (f : FrameAt) → Contains b.frames f → state_at states f.at ≡ f.state) (named : slice_index_or names array ([]) ≡ probe_array_class) where
   abbrev q_of : ℕ → ℕ
-  q_of i = image_of b first false i
+  q_of i = image_of b first narrow i
 
   abbrev land : ℕ → ℕ
-  land i = land_of b first false i
+  land i = land_of b first narrow i
 
   abbrev lead : ℕ → ℕ
-  lead i = lead_of b first false i
+  lead i = lead_of b first narrow i
 
   abbrev frames : List FrameAt
   frames = pieces (frames_at b first states array) (length b.code)
@@ -76,7 +76,7 @@ module _ (b : Body) (first : ℕ) (states : List State) (array : ℕ) (names : L
   further_tests i (Some id) flows.Throws h = cc
 
   lead_grows : (i j : ℕ) → i ≤ j → lead i ≤ lead j
-  lead_grows i j le = omega (arith, total_grows (segment_size b first false) i j le)
+  lead_grows i j le = omega (arith, total_grows (segment_size b first narrow) i j le)
 
   wide_rise : RiseFrom 0 (pieces wide (length b.code))
   wide_rise =
@@ -86,8 +86,8 @@ module _ (b : Body) (first : ℕ) (states : List State) (array : ℕ) (names : L
 
   -- ---- no frame of the narrow layout stands there
 
-  pub behind_is : (i : ℕ) → flow_of (insn_at b.code i) ≡ flows.Branches → behind_size b first false i ≡ hop_size (late_probe b first i)
-  behind_is i e = size_tests b first false i e ∙ omega arith
+  pub behind_is : (i : ℕ) → flow_of (insn_at b.code i) ≡ flows.Branches → behind_size b first narrow i ≡ hop_size (late_probe b first i)
+  behind_is i e = size_tests b first narrow i e ∙ omega arith
 
   abbrev lead_part_at : ℕ → List FrameAt
   lead_part_at i =
@@ -181,10 +181,10 @@ module _ (b : Body) (first : ℕ) (states : List State) (array : ℕ) (names : L
   -- ---- what is asked for
 
   abbrev Behind : ℕ → State → Type 0
-  Behind q s = IsFrameBehind b first states (image_of b first false) (land_of b first false) (lead_of b first false) 1 q s
+  Behind q s = IsFrameBehind b first states (image_of b first narrow) (land_of b first narrow) (lead_of b first narrow) 1 q s
 
   abbrev IsSeenAs : FrameAt → State → Type 0
-  IsSeenAs f s = type_state names f.state ≡ shifted (image_of b first false) b.arg_slots (type_state names s)
+  IsSeenAs f s = type_state names f.state ≡ shifted (image_of b first narrow) b.arg_slots (type_state names s)
 
   pub each_behind : (f : FrameAt) → Contains (pieces wide (length b.code)) f
       → (s : State) × (Behind f.at s × (HasFrameAt f.at frames → ⊥)) × IsSeenAs f s
@@ -208,7 +208,7 @@ module _ (b : Body) (first : ℕ) (states : List State) (array : ℕ) (names : L
       (false_from_ne_true (has_frame b first states array (i + 1) && is_none (lead_probe b first (i + 1)))
       (λ t.
       let both = and_parts (has_frame b first states array (i + 1)) (is_none (lead_probe b first (i + 1))) t in
-      let next = next_within b first false is_code i lt (inr e) in
+      let next = next_within b first narrow is_code i lt (inr e) in
       let here = landing b first states array names is_code are_frames fit named (i + 1) next
       (or_left (has_frame b first states array (i + 1)) (has_inverse b first states array (i + 1) && is_none (lead_probe b first (i + 1))) both.0) in
       let up = ap lead (add-one i) in
@@ -228,52 +228,52 @@ module _ (b : Body) (first : ℕ) (states : List State) (array : ℕ) (names : L
         of_piece wide (length b.code) i (wide_frame i) h.within (listed_if (further i) (wide_frame i) t'),
         sym h.place,
         seen_is b first states array names is_code are_frames fit named (state_behind b states i (late_probe b first i))
-            ∙ ap (λ z. shifted (image_of b first false) b.arg_slots (type_state names z)) (sym h.state_is),
+            ∙ ap (λ z. shifted (image_of b first narrow) b.arg_slots (type_state names z)) (sym h.state_is),
       )
 
 -- ---- the whole
 
 abbrev own_list : Body → ℕ → List Bool
-own_list b first = map own_of (twin_items b first false)
+own_list b first = map own_of (twin_items b first narrow)
 
 module _ (b : Body) (first : ℕ) (states : List State) (array : ℕ) (names : List (List ℕ)) (well : IsWellMadeOfAnySize b)
     (fit : (f : FrameAt) → Contains b.frames f → state_at states f.at ≡ f.state) (named : slice_index_or names array ([]) ≡ probe_array_class) where
   abbrev e : Emitted
   e = emission b first states array
 
-  images : image_of b first false ≡ image_place (own_list b first)
-  images = sym (images_are b first false well.code)
+  images : image_of b first narrow ≡ image_place (own_list b first)
+  images = sym (images_are b first narrow well.code)
 
-  lands : land_of b first false ≡ land_place b first (own_list b first)
-  lands = sym (lands_are b first false well.code)
+  lands : land_of b first narrow ≡ land_place b first (own_list b first)
+  lands = sym (lands_are b first narrow well.code)
 
-  leads : lead_of b first false ≡ lead_place b first (own_list b first)
-  leads = sym (leads_are b first false well.code)
+  leads : lead_of b first narrow ≡ lead_place b first (own_list b first)
+  leads = sym (leads_are b first narrow well.code)
 
   -- what holds of the function's places holds of those that the own instructions tell
-  pub at_own : (P : (image land lead : ℕ → ℕ) → Type 0) → P (image_of b first false) (land_of b first false) (lead_of b first false)
+  pub at_own : (P : (image land lead : ℕ → ℕ) → Type 0) → P (image_of b first narrow) (land_of b first narrow) (lead_of b first narrow)
       → P (image_place (own_list b first)) (land_place b first (own_list b first)) (lead_place b first (own_list b first))
   at_own P h =
       subst (λ f. P (image_place (own_list b first)) (land_place b first (own_list b first)) f) leads
-      (subst (λ f. P (image_place (own_list b first)) f (lead_of b first false)) lands
-      (subst (λ f. P f (land_of b first false) (lead_of b first false)) images h))
+      (subst (λ f. P (image_place (own_list b first)) f (lead_of b first narrow)) lands
+      (subst (λ f. P f (land_of b first narrow) (lead_of b first narrow)) images h))
 
   at_function : (P : (image land lead : ℕ → ℕ) → Type 0)
       → P (image_place (own_list b first)) (land_place b first (own_list b first)) (lead_place b first (own_list b first))
-      → P (image_of b first false) (land_of b first false) (lead_of b first false)
+      → P (image_of b first narrow) (land_of b first narrow) (lead_of b first narrow)
   at_function P h =
-      subst (λ f. P (image_of b first false) (land_of b first false) f) (sym leads)
-      (subst (λ f. P (image_of b first false) f (lead_place b first (own_list b first))) (sym lands)
+      subst (λ f. P (image_of b first narrow) (land_of b first narrow) f) (sym leads)
+      (subst (λ f. P (image_of b first narrow) f (lead_place b first (own_list b first))) (sym lands)
       (subst (λ f. P f (land_place b first (own_list b first)) (lead_place b first (own_list b first))) (sym images) h))
 
   -- the tables that the function gives are moved to these places
   abbrev AreTablesAt : (lead land : ℕ → ℕ) → Type 0
   AreTablesAt lead land =
       AreMovedTables b lead land
-      (map (moved_row (lead_of b first false) (land_of b first false)) b.handlers)
-      (map (moved_line (land_of b first false)) b.lines)
-      (map (moved_var b.arg_slots (land_of b first false)) b.vars)
-      (map (moved_var b.arg_slots (land_of b first false)) b.kind_vars)
+      (map (moved_row (lead_of b first narrow) (land_of b first narrow)) b.handlers)
+      (map (moved_line (land_of b first narrow)) b.lines)
+      (map (moved_var b.arg_slots (land_of b first narrow)) b.vars)
+      (map (moved_var b.arg_slots (land_of b first narrow)) b.kind_vars)
 
   pub tables : AreTablesAt (lead_place b first (own_list b first)) (land_place b first (own_list b first))
   tables =
@@ -283,10 +283,10 @@ module _ (b : Body) (first : ℕ) (states : List State) (array : ℕ) (names : L
   pub emitted : IsEmitted names names states first b (emission b first states array)
   unfolding emission
   emitted = record {
-    code = code_told b first false 0 well.code;
+    code = code_told b first narrow unplaced well.code;
     tables = tables;
     frames =
-        at_own (λ image land lead. AreTwinFrames names names b.arg_slots image (IsFrame b first states image land lead false) (pieces (frames_at b first states array) (length b.code)))
+        at_own (λ image land lead. AreTwinFrames names names b.arg_slots image (IsFrame b first states image land lead narrow) (pieces (frames_at b first states array) (length b.code)))
         (layout_told b first states array names well.code well.frames fit named);
     wide_frames =
         at_own (λ image land lead. AreTwinFrames names names b.arg_slots image (IsFurtherFrame b first states (emission b first states array))

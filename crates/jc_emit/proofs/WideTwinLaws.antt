@@ -16,12 +16,13 @@ use Rattle.jc_plan.specs.Probed.{probe_of}
 use Rattle.jc_plan.specs.Plan.{lead_probe}
 use Rattle.jc_kinds_after.specs.Shift.{renamed, shifted}
 use Rattle.jc_kinds_after.proofs.ShiftLaws.{map-insert}
+use Rattle.jc_emit.specs.Marks.{unplaced}
 use Rattle.jc_emit.specs.Shift.{probe_array_class}
-use Rattle.jc_emit.specs.Sizes.{insn_at, late_probe, early_probe, arms_by, arms_at, probe_size, hop_size}
+use Rattle.jc_emit.specs.Sizes.{narrow, widest, layout_form, insn_at, late_probe, early_probe, arms_by, arms_at, probe_size, hop_size}
 use Rattle.jc_emit.specs.TwinCode.{to_of, arm_place}
 use Rattle.jc_emit.specs.TwinFrames.{state_at, state_behind, IsNarrowFrame, IsFrame, AreTwinFrames}
 use Rattle.jc_emit.specs.Items.{image_part, insn_of, lead_of, land_of, image_of, twin_items}
-use Rattle.jc_emit.specs.Emission.{has_frame, has_inverse, is_further, frames_at, wide_frames_at, emission, widened_state, widened_frame, HasFrameStates, IsArrayNumber, AreFramesInLayout, AreWidened}
+use Rattle.jc_emit.specs.Emission.{has_frame, has_inverse, is_further, frames_at, wide_frames_at, emission, widened_state, widened_frame, HasFrameStates, IsArrayNumber, AreFramesInForm, AreWidened}
 use Rattle.jc_emit.proofs.BuiltLaws.{sized}
 use Rattle.jc_emit.proofs.EndsLaws.{image_past}
 use Rattle.jc_emit.proofs.LocalLaws.{next_within}
@@ -73,62 +74,62 @@ module _ (b : Body) (first : ℕ) (states : List State) (array : ℕ) (names : L
   n = length b.code
 
   abbrev P : ℕ → ℕ
-  P q = W b first 0 is_code q
+  P q = W b first unplaced is_code q
 
-  abbrev narrow : List FrameAt
-  narrow = pieces (frames_at b first states array) n
+  abbrev narrow_frames : List FrameAt
+  narrow_frames = pieces (frames_at b first states array) n
 
   abbrev further : List FrameAt
   further = pieces (wide_frames_at b first states array) n
 
-  image_is : (i : ℕ) → P (image_of b first false i) ≡ image_of b first true i
+  image_is : (i : ℕ) → P (image_of b first narrow i) ≡ image_of b first widest i
   image_is i =
       ⊎_elim
       (λ below.
-      let place : image_of b first false i ≡ lead_of b first false i + (probe_size (lead_probe b first i) + (probe_size (early_probe b first i) + 0)) = omega arith in
+      let place : image_of b first narrow i ≡ lead_of b first narrow i + (probe_size (lead_probe b first i) + (probe_size (early_probe b first i) + 0)) = omega arith in
       ap P place
-      ∙ inside b first 0 is_code i (probe_size (lead_probe b first i) + (probe_size (early_probe b first i) + 0)) below (omega (arith, sized b first false i))
-      ∙ ap (λ x. lead_of b first true i + x) (within_main b first 0 is_code i 0)
-      ∙ omega (arith, first_place (map (insn_of 0 b.arg_slots) (image_part b first false i (insn_at b.code i) (flow_of (insn_at b.code i))))))
+      ∙ inside b first unplaced is_code i (probe_size (lead_probe b first i) + (probe_size (early_probe b first i) + 0)) below (omega (arith, sized b first narrow i))
+      ∙ ap (λ x. lead_of b first widest i + x) (within_main b first unplaced is_code i 0)
+      ∙ omega (arith, first_place (map (insn_of unplaced b.arg_slots) (image_part b first narrow i (insn_at b.code i) (flow_of (insn_at b.code i))))))
       (λ above.
       let e : i ≡ n + (i - n) = omega arith in
-      ap (λ j. P (image_of b first false j)) e
-      ∙ ap P (image_past b first false is_code (i - n))
-      ∙ behind_end b first 0 is_code (i - n)
-      ∙ sym (image_past b first true is_code (i - n))
-      ∙ ap (image_of b first true) (sym e))
+      ap (λ j. P (image_of b first narrow j)) e
+      ∙ ap P (image_past b first narrow is_code (i - n))
+      ∙ behind_end b first unplaced is_code (i - n)
+      ∙ sym (image_past b first widest is_code (i - n))
+      ∙ ap (image_of b first widest) (sym e))
       (cases_lt i n)
 
-  images_are : (λ i. P (image_of b first false i)) ≡ image_of b first true
+  images_are : (λ i. P (image_of b first narrow i)) ≡ image_of b first widest
   images_are = λ k i. image_is i k
 
   -- behind a conditional jump
   behind_is_two : (i : ℕ) → i < n → flow_of (insn_at b.code i) ≡ flows.Branches
-      → P (image_of b first false i + 1) ≡ image_of b first true i + 2
+      → P (image_of b first narrow i + 1) ≡ image_of b first widest i + 2
   behind_is_two i lt e =
-      let place : image_of b first false i + 1 ≡ lead_of b first false i + (probe_size (lead_probe b first i) + (probe_size (early_probe b first i) + 1)) = omega arith in
+      let place : image_of b first narrow i + 1 ≡ lead_of b first narrow i + (probe_size (lead_probe b first i) + (probe_size (early_probe b first i) + 1)) = omega arith in
       ap P place
-      ∙ inside b first 0 is_code i (probe_size (lead_probe b first i) + (probe_size (early_probe b first i) + 1)) lt (omega (arith, sized b first false i))
-      ∙ ap (λ x. lead_of b first true i + x) (within_main b first 0 is_code i 1)
-      ∙ omega (arith, main_test b first 0 is_code i lt e)
+      ∙ inside b first unplaced is_code i (probe_size (lead_probe b first i) + (probe_size (early_probe b first i) + 1)) lt (omega (arith, sized b first narrow i))
+      ∙ ap (λ x. lead_of b first widest i + x) (within_main b first unplaced is_code i 1)
+      ∙ omega (arith, main_test b first unplaced is_code i lt e)
 
   abbrev Narrow : ℕ → State → Type 0
-  Narrow q s = IsNarrowFrame b first states (image_of b first false) (land_of b first false) (lead_of b first false) q s
+  Narrow q s = IsNarrowFrame b first states (image_of b first narrow) (land_of b first narrow) (lead_of b first narrow) q s
 
   abbrev Wide : ℕ → State → Type 0
-  Wide q s = IsFrame b first states (image_of b first true) (land_of b first true) (lead_of b first true) true q s
+  Wide q s = IsFrame b first states (image_of b first widest) (land_of b first widest) (lead_of b first widest) widest q s
 
   -- the arm place of a target of the switch, in either layout
   abbrev arm_in : Bool → (i to : ℕ) → ℕ
-  arm_in wide i to = arm_place (probe_of b first) (land_of b first wide) (image_of b first wide i + 1) (arms_at b.code i) to
+  arm_in wide i to = arm_place (probe_of b first) (land_of b first (layout_form wide)) (image_of b first (layout_form wide) i + 1) (arms_at b.code i) to
 
   arm_is : (i : ℕ) → i < n → flow_of (insn_at b.code i) ≡ flows.Switches → (to : ℕ) → P (arm_in false i to) ≡ arm_in true i to
   arm_is i lt e to =
-      let z : image_of b first false i + 1 ≡ image_of b first false i + 1 + 0 = omega arith in
-      let y : image_of b first true i + 1 + 0 ≡ image_of b first true i + 1 = omega arith in
-      ap (λ h. P (arm_place (probe_of b first) (land_of b first false) h (arms_at b.code i) to)) z
-      ∙ arm_places b first 0 is_code i lt e 0 (arms_at b.code i) (omega arith) to
-      ∙ ap (λ h. arm_place (probe_of b first) (land_of b first true) h (arms_at b.code i) to) y
+      let z : image_of b first narrow i + 1 ≡ image_of b first narrow i + 1 + 0 = omega arith in
+      let y : image_of b first widest i + 1 + 0 ≡ image_of b first widest i + 1 = omega arith in
+      ap (λ h. P (arm_place (probe_of b first) (land_of b first narrow) h (arms_at b.code i) to)) z
+      ∙ arm_places b first unplaced is_code i lt e 0 (arms_at b.code i) (omega arith) to
+      ∙ ap (λ h. arm_place (probe_of b first) (land_of b first widest) h (arms_at b.code i) to) y
 
   -- what has arms is a switch
   arms_switch : (i : ℕ) (x : Branch) → Contains (arms_at b.code i) x → flow_of (insn_at b.code i) ≡ flows.Switches
@@ -144,9 +145,9 @@ module _ (b : Body) (first : ℕ) (states : List State) (array : ℕ) (names : L
 
   to_wide : (q : ℕ) (s : State) → Narrow q s → Wide (P q) s
   to_wide q s (inl o) =
-      inl (inl (record { frame = o.frame; listed = o.listed; place = ap P o.place ∙ land_is b first 0 is_code o.frame.at; state_is = o.state_is }))
+      inl (inl (record { frame = o.frame; listed = o.listed; place = ap P o.place ∙ land_is b first unplaced is_code o.frame.at; state_is = o.state_is }))
   to_wide q s (inr (inl o)) =
-      inl (inr (inl (record { test = o.test; id = o.id; within = o.within; probed = o.probed; place = ap P o.place ∙ lead_is b first 0 is_code (o.test + 1); state_is = o.state_is })))
+      inl (inr (inl (record { test = o.test; id = o.id; within = o.within; probed = o.probed; place = ap P o.place ∙ lead_is b first unplaced is_code (o.test + 1); state_is = o.state_is })))
   to_wide q s (inr (inr o)) =
       inl (inr (inr (record {
         switch = o.switch;
@@ -165,18 +166,18 @@ module _ (b : Body) (first : ℕ) (states : List State) (array : ℕ) (names : L
     asked : Narrow place s
     is : P place ≡ q
 
-  to_narrow : (q : ℕ) (s : State) → IsNarrowFrame b first states (image_of b first true) (land_of b first true) (lead_of b first true) q s
+  to_narrow : (q : ℕ) (s : State) → IsNarrowFrame b first states (image_of b first widest) (land_of b first widest) (lead_of b first widest) q s
       → FromNarrow q s
   to_narrow q s (inl o) =
       record {
-        place = land_of b first false o.frame.at;
+        place = land_of b first narrow o.frame.at;
         asked = inl (record { frame = o.frame; listed = o.listed; place = refl; state_is = o.state_is });
-        is = land_is b first 0 is_code o.frame.at ∙ sym o.place;
+        is = land_is b first unplaced is_code o.frame.at ∙ sym o.place;
       }
   to_narrow q s (inr (inl o)) = record {
-    place = lead_of b first false (o.test + 1);
+    place = lead_of b first narrow (o.test + 1);
     asked = inr (inl (record { test = o.test; id = o.id; within = o.within; probed = o.probed; place = refl; state_is = o.state_is }));
-    is = lead_is b first 0 is_code (o.test + 1) ∙ sym o.place;
+    is = lead_is b first unplaced is_code (o.test + 1) ∙ sym o.place;
   }
   to_narrow q s (inr (inr o)) = record {
     place = arm_in false o.switch (to_of o.branch);
@@ -185,18 +186,18 @@ module _ (b : Body) (first : ℕ) (states : List State) (array : ℕ) (names : L
   }
 
   abbrev Shifted : State → State → Type 0
-  Shifted state s = type_state names (widened_state P state) ≡ shifted (image_of b first true) b.arg_slots (type_state names s)
+  Shifted state s = type_state names (widened_state P state) ≡ shifted (image_of b first widest) b.arg_slots (type_state names s)
 
-  shift : (state s : State) → type_state names state ≡ shifted (image_of b first false) b.arg_slots (type_state names s) → Shifted state s
-  shift state s h = seen_widened names b.arg_slots P (image_of b first false) (image_of b first true) state s images_are h
+  shift : (state s : State) → type_state names state ≡ shifted (image_of b first narrow) b.arg_slots (type_state names s) → Shifted state s
+  shift state s h = seen_widened names b.arg_slots P (image_of b first narrow) (image_of b first widest) state s images_are h
 
-  module _ (frames : List FrameAt) (each_from : (f : FrameAt) → Contains frames f → (g : FrameAt) × (Contains narrow g ⊎ Contains further g) × (f ≡ widened_frame P g))
-      (every_to : (g : FrameAt) → Contains narrow g ⊎ Contains further g → Contains frames (widened_frame P g)) where
-    abbrev told : AreTwinFrames names names b.arg_slots (image_of b first false) Narrow narrow
+  module _ (frames : List FrameAt) (each_from : (f : FrameAt) → Contains frames f → (g : FrameAt) × (Contains narrow_frames g ⊎ Contains further g) × (f ≡ widened_frame P g))
+      (every_to : (g : FrameAt) → Contains narrow_frames g ⊎ Contains further g → Contains frames (widened_frame P g)) where
+    abbrev told : AreTwinFrames names names b.arg_slots (image_of b first narrow) Narrow narrow_frames
     told = frames_told b first states array names is_code are_frames fit named
 
     abbrev IsGood : FrameAt → Type 0
-    IsGood f = (s : State) × Wide f.at s × (type_state names f.state ≡ shifted (image_of b first true) b.arg_slots (type_state names s))
+    IsGood f = (s : State) × Wide f.at s × (type_state names f.state ≡ shifted (image_of b first widest) b.arg_slots (type_state names s))
 
     wide_each : (f : FrameAt) → Contains frames f → IsGood f
     wide_each f c =
@@ -227,24 +228,24 @@ module _ (b : Body) (first : ℕ) (states : List State) (array : ℕ) (names : L
 
     abbrev IsThere : ℕ → State → Type 0
     IsThere q s =
-        (f : FrameAt) × Contains frames f × (f.at ≡ q) × (type_state names f.state ≡ shifted (image_of b first true) b.arg_slots (type_state names s))
+        (f : FrameAt) × Contains frames f × (f.at ≡ q) × (type_state names f.state ≡ shifted (image_of b first widest) b.arg_slots (type_state names s))
 
-    carried : (q : ℕ) (s : State) (g : FrameAt) → Contains narrow g ⊎ Contains further g → P g.at ≡ q
-        → type_state names g.state ≡ shifted (image_of b first false) b.arg_slots (type_state names s) → IsThere q s
+    carried : (q : ℕ) (s : State) (g : FrameAt) → Contains narrow_frames g ⊎ Contains further g → P g.at ≡ q
+        → type_state names g.state ≡ shifted (image_of b first narrow) b.arg_slots (type_state names s) → IsThere q s
     carried q s g c e h = (widened_frame P g, every_to g c, e, shift g.state s h)
 
     behind_there : (i : ℕ) → i < n → flow_of (insn_at b.code i) ≡ flows.Branches → (o : Option ℕ) → late_probe b first i ≡ o
-        → IsThere (image_of b first true i + 2) (state_behind b states i o)
+        → IsThere (image_of b first widest i + 2) (state_behind b states i o)
     behind_there i lt e o late =
         ⊎_elim
         (λ more.
         let t : is_further b first states array i (late_probe b first i) (flow_of (insn_at b.code i)) ≡ true = ap₂ (is_further b first states array i) late e ∙ more in
         let g = wide_frame b first states array names is_code are_frames fit named i in
-        carried (image_of b first true i + 2) (state_behind b states i o) g
+        carried (image_of b first widest i + 2) (state_behind b states i o) g
         (inr (of_piece (wide_frames_at b first states array) n i g lt (listed_if (is_further b first states array i (late_probe b first i) (flow_of (insn_at b.code i))) g t)))
         (behind_is_two i lt e)
         (seen_is b first states array names is_code are_frames fit named (state_behind b states i (late_probe b first i))
-        ∙ ap (λ p. shifted (image_of b first false) b.arg_slots (type_state names (state_behind b states i p))) late))
+        ∙ ap (λ p. shifted (image_of b first narrow) b.arg_slots (type_state names (state_behind b states i p))) late))
         (λ plain. stands o late plain)
         (cases_Bool (is_further b first states array i o flows.Branches))
       where
@@ -252,19 +253,19 @@ module _ (b : Body) (first : ℕ) (states : List State) (array : ℕ) (names : L
         true_false h = cc
 
         stands : (o : Option ℕ) → late_probe b first i ≡ o → is_further b first states array i o flows.Branches ≡ false
-            → IsThere (image_of b first true i + 2) (state_behind b states i o)
+            → IsThere (image_of b first widest i + 2) (state_behind b states i o)
         stands (Some id) late h = absurd (true_false h)
         stands None late h =
             let both = and_parts (has_frame b first states array (i + 1)) (is_none (lead_probe b first (i + 1)))
             (not-false (has_frame b first states array (i + 1) && is_none (lead_probe b first (i + 1))) h) in
-            let next = next_within b first false is_code i lt (inr e) in
+            let next = next_within b first narrow is_code i lt (inr e) in
             let here = landing b first states array names is_code are_frames fit named (i + 1) next
             (or_left (has_frame b first states array (i + 1)) (has_inverse b first states array (i + 1) && is_none (lead_probe b first (i + 1))) both.0) in
-            let up = ap (lead_of b first false) (add-one i) in
+            let up = ap (lead_of b first narrow) (add-one i) in
             let size = behind_is b first states array names is_code are_frames fit named i e ∙ ap hop_size late in
             let lead_size = ap probe_size (none_is (lead_probe b first (i + 1)) both.1) in
-            let place : land_of b first false (i + 1) ≡ image_of b first false i + 1 = omega (arith, up, size, lead_size) in
-            carried (image_of b first true i + 2) (state_at states (i + 1)) here.0 (inl here.1) (ap P (here.2 ∙ place) ∙ behind_is_two i lt e) here.3
+            let place : land_of b first narrow (i + 1) ≡ image_of b first narrow i + 1 = omega (arith, up, size, lead_size) in
+            carried (image_of b first widest i + 2) (state_at states (i + 1)) here.0 (inl here.1) (ap P (here.2 ∙ place) ∙ behind_is_two i lt e) here.3
 
     wide_every : (q : ℕ) (s : State) → Wide q s → IsThere q s
     wide_every q s (inl o) =
@@ -276,12 +277,12 @@ module _ (b : Body) (first : ℕ) (states : List State) (array : ℕ) (names : L
         let there = behind_there o.test o.within o.tests (late_probe b first o.test) refl in
         subst (λ z. IsThere q z) (sym o.state_is) (subst (λ k. IsThere k (state_behind b states o.test (late_probe b first o.test))) (sym o.place) there)
 
-    pub wide_told : RiseFrom 0 frames → AreTwinFrames names names b.arg_slots (image_of b first true) Wide frames
+    pub wide_told : RiseFrom 0 frames → AreTwinFrames names names b.arg_slots (image_of b first widest) Wide frames
     wide_told rising = record { rising = rising; each = wide_each; every = wide_every }
 
 module _ (b : Body) (first : ℕ) (states : List State) (array : ℕ) (names : Names) where
   pub widened_frames : IsWellMadeOfAnySize b → HasFrameStates b states → IsArrayNumber names array
-      → (frames : List FrameAt) → AreWidened (emission b first states array) frames → AreFramesInLayout names states first b true frames
+      → (frames : List FrameAt) → AreWidened (emission b first states array) frames → AreFramesInForm names states first b widest frames
   unfolding emission twin_items
   widened_frames well fit named frames w =
       wide_told b first states array names well.code well.frames fit named frames w.each w.every w.rising

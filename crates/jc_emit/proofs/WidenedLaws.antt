@@ -14,8 +14,8 @@ use Rattle.jc_plan.specs.Probed.{probe_of}
 use Rattle.jc_plan.specs.Plan.{lead_probe}
 use Rattle.jc_kinds_after.specs.Shift.{with_slot}
 use Rattle.jc_emit.proofs.PlacedLaws.{flow_push, places_push, flow_shifted, places_on, places_out}
-use Rattle.jc_emit.specs.Sizes.{insn_at, early_probe, late_probe, arms_at, probe_size, hop_size, arm_sizes, behind_size}
-use Rattle.jc_emit.specs.Marks.{aload, iconst_1, bastore, push}
+use Rattle.jc_emit.specs.Sizes.{narrow, widest, insn_at, early_probe, late_probe, arms_at, probe_size, hop_size, arm_sizes, behind_size}
+use Rattle.jc_emit.specs.Marks.{TwinPlaces, aload, iconst_1, bastore, push}
 use Rattle.jc_methods.specs.Widened.{goto, inverted, widths_by, wide_place, widened_by, widened_from, widened}
 use Rattle.jc_emit.specs.TwinCode.{to_of, here_or, arm_place}
 use Rattle.jc_emit.specs.Items.{Item, insn_of, prelude, probe, lead_part, early_part, hop_part, arm_parts, segment_size, lead_of, land_of, image_of, tests_part, image_part, segment, twin_items}
@@ -89,18 +89,18 @@ widened_plain P r insn flow e apart = ap (widened_by P r insn) e ∙ by flow apa
     by flows.Returns h = refl
     by flows.Throws h = refl
 
-module _ (b : Body) (first : ℕ) (call : ℕ) (is_code : IsCode b.code) where
+module _ (b : Body) (first : ℕ) (named : TwinPlaces) (is_code : IsCode b.code) where
   abbrev n : ℕ
   n = length b.code
 
   abbrev code_of : List Item → List Insn
-  code_of items = map (insn_of call b.arg_slots) items
+  code_of items = map (insn_of named b.arg_slots) items
 
   abbrev old : ℕ → Insn
   old i = insn_at b.code i
 
   code_both : (xs ys : List Item) → code_of (xs ++ ys) ≡ code_of xs ++ code_of ys
-  code_both xs ys = map-append (insn_of call b.arg_slots) xs ys
+  code_both xs ys = map-append (insn_of named b.arg_slots) xs ys
 
   -- ---- what takes one place each
 
@@ -128,28 +128,28 @@ module _ (b : Body) (first : ℕ) (call : ℕ) (is_code : IsCode b.code) where
   -- ---- places
 
   abbrev lead_n : ℕ → ℕ
-  lead_n i = lead_of b first false i
+  lead_n i = lead_of b first narrow i
 
   abbrev lead_w : ℕ → ℕ
-  lead_w i = lead_of b first true i
+  lead_w i = lead_of b first widest i
 
   abbrev land_n : ℕ → ℕ
-  land_n i = land_of b first false i
+  land_n i = land_of b first narrow i
 
   abbrev land_w : ℕ → ℕ
-  land_w i = land_of b first true i
+  land_w i = land_of b first widest i
 
   abbrev main_n : ℕ → Flow → List Item
-  main_n i flow = image_part b first false i (old i) flow
+  main_n i flow = image_part b first narrow i (old i) flow
 
   abbrev main_w : ℕ → Flow → List Item
-  main_w i flow = image_part b first true i (old i) flow
+  main_w i flow = image_part b first widest i (old i) flow
 
   abbrev seg_n : ℕ → List Item
-  seg_n i = segment b first false i
+  seg_n i = segment b first narrow i
 
   abbrev seg_w : ℕ → List Item
-  seg_w i = segment b first true i
+  seg_w i = segment b first widest i
 
   -- the inverse of a conditional jump is one
   inverse_flow : (i t : ℕ) → i < n → flow_of (old i) ≡ flows.Branches → flow_of (inverted t (old i)) ≡ flows.Branches
@@ -160,32 +160,32 @@ module _ (b : Body) (first : ℕ) (call : ℕ) (is_code : IsCode b.code) where
       subst (λ x. flow_of (inverted t x) ≡ flows.Branches) (sym j.is) (inverse_tests_too j.op j.to t formed tests)
 
   tests_width : (i : ℕ) → i < n → flow_of (old i) ≡ flows.Branches → (o : Option ℕ)
-      → widths (code_of (tests_part b first false i (old i) o)) ≡ 1 + (1 + hop_size o + 0)
-  tests_width i lt e None = ap (λ f. widths_by f + 0) (flow_placed (land_of b first false) (old i) ∙ e)
+      → widths (code_of (tests_part b first narrow i (old i) o)) ≡ 1 + (1 + hop_size o + 0)
+  tests_width i lt e None = ap (λ f. widths_by f + 0) (flow_placed (land_of b first narrow) (old i) ∙ e)
   tests_width i lt e (Some id) =
-      ap (λ f. widths_by f + widths (code_of (hop_part (land_of b first false) (Some id) (jump_target (old i))))) (inverse_flow i (lead_n (i + 1)) lt e)
-      ∙ ap (λ k. 2 + k) (ones_widths (code_of (hop_part (land_of b first false) (Some id) (jump_target (old i)))) (hop_ones (land_of b first false) (Some id) (jump_target (old i))))
+      ap (λ f. widths_by f + widths (code_of (hop_part (land_of b first narrow) (Some id) (jump_target (old i))))) (inverse_flow i (lead_n (i + 1)) lt e)
+      ∙ ap (λ k. 2 + k) (ones_widths (code_of (hop_part (land_of b first narrow) (Some id) (jump_target (old i)))) (hop_ones (land_of b first narrow) (Some id) (jump_target (old i))))
 
   arms_width : (land : ℕ → ℕ) (xs : List Branch)
       → widths (code_of (arm_parts land (probe_of b first) xs)) ≡ arm_sizes (probe_of b first) xs
   arms_width land xs =
       ones_widths (code_of (arm_parts land (probe_of b first) xs)) (arms_ones land xs)
-      ∙ length-map (arm_parts land (probe_of b first) xs) (insn_of call b.arg_slots)
+      ∙ length-map (arm_parts land (probe_of b first) xs) (insn_of named b.arg_slots)
       ∙ length-arms land (probe_of b first) xs
 
-  main_width : (i : ℕ) (flow : Flow) → i < n → flow_of (old i) ≡ flow → widths (code_of (main_n i flow)) ≡ 1 + behind_size b first true i
+  main_width : (i : ℕ) (flow : Flow) → i < n → flow_of (old i) ≡ flow → widths (code_of (main_n i flow)) ≡ 1 + behind_size b first widest i
   main_width i flows.GoesOn lt e =
-      ap (λ f. widths_by f + 0) (flow_shifted b.arg_slots (old i) ∙ e) ∙ ap (λ k. 1 + k) (sym (size_is b first true i flows.GoesOn e))
-  main_width i flows.Branches lt e = tests_width i lt e (late_probe b first i) ∙ ap (λ k. 1 + k) (sym (size_tests b first true i e))
+      ap (λ f. widths_by f + 0) (flow_shifted b.arg_slots (old i) ∙ e) ∙ ap (λ k. 1 + k) (sym (size_is b first widest i flows.GoesOn e))
+  main_width i flows.Branches lt e = tests_width i lt e (late_probe b first i) ∙ ap (λ k. 1 + k) (sym (size_tests b first widest i e))
   main_width i flows.Jumps lt e =
-      ap (λ f. widths_by f + 0) (flow_placed (land_of b first false) (old i) ∙ e)
-      ∙ ap (λ k. 1 + k) (sym (size_is b first true i flows.Jumps e))
+      ap (λ f. widths_by f + 0) (flow_placed (land_of b first narrow) (old i) ∙ e)
+      ∙ ap (λ k. 1 + k) (sym (size_is b first widest i flows.Jumps e))
   main_width i flows.Switches lt e =
-      let first_one : widths_by (flow_of (with_places (arm_place (probe_of b first) (land_of b first false) (image_of b first false i + 1) (arms_at b.code i)) (old i))) ≡ 1 =
-      ap (λ f. widths_by f) (flow_placed (arm_place (probe_of b first) (land_of b first false) (image_of b first false i + 1) (arms_at b.code i)) (old i) ∙ e) in
-      omega (arith, first_one, arms_width (land_of b first false) (arms_at b.code i), size_switches b first true i e)
-  main_width i flows.Returns lt e = ap (λ f. widths_by f + 0) e ∙ ap (λ k. 1 + k) (sym (size_is b first true i flows.Returns e))
-  main_width i flows.Throws lt e = ap (λ f. widths_by f + 0) e ∙ ap (λ k. 1 + k) (sym (size_is b first true i flows.Throws e))
+      let first_one : widths_by (flow_of (with_places (arm_place (probe_of b first) (land_of b first narrow) (image_of b first narrow i + 1) (arms_at b.code i)) (old i))) ≡ 1 =
+      ap (λ f. widths_by f) (flow_placed (arm_place (probe_of b first) (land_of b first narrow) (image_of b first narrow i + 1) (arms_at b.code i)) (old i) ∙ e) in
+      omega (arith, first_one, arms_width (land_of b first narrow) (arms_at b.code i), size_switches b first widest i e)
+  main_width i flows.Returns lt e = ap (λ f. widths_by f + 0) e ∙ ap (λ k. 1 + k) (sym (size_is b first widest i flows.Returns e))
+  main_width i flows.Throws lt e = ap (λ f. widths_by f + 0) e ∙ ap (λ k. 1 + k) (sym (size_is b first widest i flows.Throws e))
 
   widths_both : (xs ys : List Insn) → widths (xs ++ ys) ≡ widths xs + widths ys
   widths_both [] ys = omega arith
@@ -197,16 +197,16 @@ module _ (b : Body) (first : ℕ) (call : ℕ) (is_code : IsCode b.code) where
   lead_width : (i : ℕ) → widths (code_of (lead_part (lead_probe b first i) i)) ≡ probe_size (lead_probe b first i)
   lead_width i =
       ones_widths _ (lead_ones (lead_probe b first i) i)
-      ∙ length-map (lead_part (lead_probe b first i) i) (insn_of call b.arg_slots)
+      ∙ length-map (lead_part (lead_probe b first i) i) (insn_of named b.arg_slots)
       ∙ length-lead (lead_probe b first i) i
 
   early_width : (i : ℕ) → widths (code_of (early_part (early_probe b first i) i)) ≡ probe_size (early_probe b first i)
   early_width i =
       ones_widths _ (early_ones (early_probe b first i) i)
-      ∙ length-map (early_part (early_probe b first i) i) (insn_of call b.arg_slots)
+      ∙ length-map (early_part (early_probe b first i) i) (insn_of named b.arg_slots)
       ∙ length-early (early_probe b first i) i
 
-  segment_width : (i : ℕ) → i < n → widths (code_of (seg_n i)) ≡ segment_size b first true i
+  segment_width : (i : ℕ) → i < n → widths (code_of (seg_n i)) ≡ segment_size b first widest i
   segment_width i lt =
       omega (
         arith,
@@ -228,8 +228,8 @@ module _ (b : Body) (first : ℕ) (call : ℕ) (is_code : IsCode b.code) where
 
   built_long : (k : ℕ) → length (code_of (built k)) ≡ lead_n k
   built_long k =
-      length-map (built k) (insn_of call b.arg_slots)
-      ∙ omega (arith, length-pieces ([]) seg_n (segment_size b first false) (sized b first false) k)
+      length-map (built k) (insn_of named b.arg_slots)
+      ∙ omega (arith, length-pieces ([]) seg_n (segment_size b first narrow) (sized b first narrow) k)
 
   pieces_split : (k : ℕ) → k ≤ n → (rest : List Item) × (built n ≡ built k ++ rest)
   pieces_split k le = by n k le
@@ -260,7 +260,7 @@ module _ (b : Body) (first : ℕ) (call : ℕ) (is_code : IsCode b.code) where
       ∙ ap (λ q. wide_place (code_of (built i) ++ (code_of (seg_n i) ++ code_of split.0)) (q + k)) (sym (built_long i))
       ∙ place_behind (code_of (built i)) (code_of (seg_n i) ++ code_of split.0) k
       ∙ ap₂ (λ a c. a + c) (built_width i (omega arith))
-      (place_in_front (code_of (seg_n i)) (code_of split.0) k (omega (arith, le, length-map (seg_n i) (insn_of call b.arg_slots))))
+      (place_in_front (code_of (seg_n i)) (code_of split.0) k (omega (arith, le, length-map (seg_n i) (insn_of named b.arg_slots))))
 
   pub behind_end : (k : ℕ) → W (lead_n n + k) ≡ lead_w n + k
   behind_end k =
@@ -274,7 +274,7 @@ module _ (b : Body) (first : ℕ) (call : ℕ) (is_code : IsCode b.code) where
   within_lead i =
       let rest = early_part (early_probe b first i) i ++ main_n i (flow_of (old i)) in
       let long : probe_size (lead_probe b first i) ≡ length (code_of (lead_part (lead_probe b first i) i)) =
-      sym (length-map (lead_part (lead_probe b first i) i) (insn_of call b.arg_slots) ∙ length-lead (lead_probe b first i) i) in
+      sym (length-map (lead_part (lead_probe b first i) i) (insn_of named b.arg_slots) ∙ length-lead (lead_probe b first i) i) in
       ap (λ l. wide_place l (probe_size (lead_probe b first i))) (code_both (lead_part (lead_probe b first i) i) rest)
       ∙ place_in_front (code_of (lead_part (lead_probe b first i) i)) (code_of rest) (probe_size (lead_probe b first i)) (omega (arith, long))
       ∙ ones_place (code_of (lead_part (lead_probe b first i) i)) (probe_size (lead_probe b first i)) (lead_ones (lead_probe b first i) i)
@@ -290,8 +290,8 @@ module _ (b : Body) (first : ℕ) (call : ℕ) (is_code : IsCode b.code) where
       let a = lead_part (lead_probe b first i) i in
       let c = early_part (early_probe b first i) i in
       let d = main_n i (flow_of (old i)) in
-      let long_a : probe_size (lead_probe b first i) ≡ length (code_of a) = sym (length-map a (insn_of call b.arg_slots) ∙ length-lead (lead_probe b first i) i) in
-      let long_c : probe_size (early_probe b first i) ≡ length (code_of c) = sym (length-map c (insn_of call b.arg_slots) ∙ length-early (early_probe b first i) i) in
+      let long_a : probe_size (lead_probe b first i) ≡ length (code_of a) = sym (length-map a (insn_of named b.arg_slots) ∙ length-lead (lead_probe b first i) i) in
+      let long_c : probe_size (early_probe b first i) ≡ length (code_of c) = sym (length-map c (insn_of named b.arg_slots) ∙ length-early (early_probe b first i) i) in
       ap (λ l. wide_place l (probe_size (lead_probe b first i) + (probe_size (early_probe b first i) + k))) (code_both a (c ++ d) ∙ ap (λ l. code_of a ++ l) (code_both c d))
       ∙ ap₂ (λ x y. wide_place (code_of a ++ (code_of c ++ code_of d)) (x + (y + k))) long_a long_c
       ∙ place_behind (code_of a) (code_of c ++ code_of d) (length (code_of c) + k)
@@ -304,50 +304,50 @@ module _ (b : Body) (first : ℕ) (call : ℕ) (is_code : IsCode b.code) where
       (λ above.
       let e : i ≡ n + (i - n) = omega arith in
       ap (λ j. W (lead_n j)) e
-      ∙ ap W (lead_past b first false is_code (i - n))
+      ∙ ap W (lead_past b first narrow is_code (i - n))
       ∙ behind_end (i - n)
-      ∙ sym (lead_past b first true is_code (i - n))
+      ∙ sym (lead_past b first widest is_code (i - n))
       ∙ ap lead_w (sym e))
       (cases_lt i n)
 
   pub land_is : (i : ℕ) → W (land_n i) ≡ land_w i
   land_is i =
       ⊎_elim
-      (λ below. inside i (probe_size (lead_probe b first i)) below (omega (arith, sized b first false i)) ∙ ap (λ k. lead_w i + k) (within_lead i))
+      (λ below. inside i (probe_size (lead_probe b first i)) below (omega (arith, sized b first narrow i)) ∙ ap (λ k. lead_w i + k) (within_lead i))
       (λ above.
       let e : i ≡ n + (i - n) = omega arith in
-      let none : probe_size (lead_probe b first i) ≡ 0 = ap (λ j. probe_size (lead_probe b first j)) e ∙ ap probe_size (lead_none b first false is_code (i - n)) in
-      let narrow : land_n i ≡ lead_n i = omega (arith, none) in
+      let none : probe_size (lead_probe b first i) ≡ 0 = ap (λ j. probe_size (lead_probe b first j)) e ∙ ap probe_size (lead_none b first narrow is_code (i - n)) in
+      let front : land_n i ≡ lead_n i = omega (arith, none) in
       let wide : lead_w i ≡ land_w i = omega (arith, none) in
-      ap W narrow ∙ lead_is i ∙ wide)
+      ap W front ∙ lead_is i ∙ wide)
       (cases_lt i n)
 
-  lands_are : (λ to. W (land_n to)) ≡ land_of b first true
+  lands_are : (λ to. W (land_n to)) ≡ land_of b first widest
   lands_are = λ k i. land_is i k
 
   -- behind the image of a switch
   arm_at : (i k : ℕ) → i < n → flow_of (old i) ≡ flows.Switches → k ≤ arm_sizes (probe_of b first) (arms_at b.code i)
-      → W (image_of b first false i + 1 + k) ≡ image_of b first true i + 1 + k
+      → W (image_of b first narrow i + 1 + k) ≡ image_of b first widest i + 1 + k
   arm_at i k lt e le =
-      let size = size_switches b first false i e in
-      let place : image_of b first false i + 1 + k ≡ lead_n i + (probe_size (lead_probe b first i) + (probe_size (early_probe b first i) + suc k)) = omega arith in
+      let size = size_switches b first narrow i e in
+      let place : image_of b first narrow i + 1 + k ≡ lead_n i + (probe_size (lead_probe b first i) + (probe_size (early_probe b first i) + suc k)) = omega arith in
       let main : wide_place (code_of (main_n i (flow_of (old i)))) (suc k) ≡ suc k =
       ap (λ f. wide_place (code_of (main_n i f)) (suc k)) e
       ∙ omega (
         arith,
-        ap (λ f. widths_by f) (flow_placed (arm_place (probe_of b first) (land_of b first false) (image_of b first false i + 1) (arms_at b.code i)) (old i) ∙ e),
-        ones_place (code_of (arm_parts (land_of b first false) (probe_of b first) (arms_at b.code i))) k (arms_ones (land_of b first false) (arms_at b.code i)),
+        ap (λ f. widths_by f) (flow_placed (arm_place (probe_of b first) (land_of b first narrow) (image_of b first narrow i + 1) (arms_at b.code i)) (old i) ∙ e),
+        ones_place (code_of (arm_parts (land_of b first narrow) (probe_of b first) (arms_at b.code i))) k (arms_ones (land_of b first narrow) (arms_at b.code i)),
       ) in
       ap W place
-      ∙ inside i (probe_size (lead_probe b first i) + (probe_size (early_probe b first i) + suc k)) lt (omega (arith, sized b first false i, size, le))
+      ∙ inside i (probe_size (lead_probe b first i) + (probe_size (early_probe b first i) + suc k)) lt (omega (arith, sized b first narrow i, size, le))
       ∙ ap (λ x. lead_w i + x) (within_main i (suc k))
       ∙ omega (arith, main)
 
   abbrev narrow_rest : List Branch → ℕ → ℕ → ℕ
-  narrow_rest xs to h = W (arm_place (probe_of b first) (land_of b first false) h xs to)
+  narrow_rest xs to h = W (arm_place (probe_of b first) (land_of b first narrow) h xs to)
 
   abbrev wide_rest : List Branch → ℕ → ℕ → ℕ
-  wide_rest xs to h = arm_place (probe_of b first) (land_of b first true) h xs to
+  wide_rest xs to h = arm_place (probe_of b first) (land_of b first widest) h xs to
 
   -- the arm places that are counted from q of the narrow code are those that are counted from r of the wide code
   abbrev AreArmsAlike : List Branch → (to q r : ℕ) → Type 0
@@ -355,10 +355,10 @@ module _ (b : Body) (first : ℕ) (call : ℕ) (is_code : IsCode b.code) where
 
   -- a place so far behind the image of a switch
   abbrev behind_n : (i far : ℕ) → ℕ
-  behind_n i far = image_of b first false i + 1 + far
+  behind_n i far = image_of b first narrow i + 1 + far
 
   abbrev behind_w : (i far : ℕ) → ℕ
-  behind_w i far = image_of b first true i + 1 + far
+  behind_w i far = image_of b first widest i + 1 + far
 
   either_is : (t : Bool) (a c a' c' : ℕ) → W a ≡ a' → W c ≡ c' → W (cond t a c) ≡ cond t a' c'
   either_is true a c a' c' e f = e
@@ -372,7 +372,7 @@ module _ (b : Body) (first : ℕ) (call : ℕ) (is_code : IsCode b.code) where
       let size = hop_size (probe_of b first x) in
       either_is (nat_eq (to_of x) to)
       (here_or (probe_of b first x) (behind_n i k) (land_n to))
-      (arm_place (probe_of b first) (land_of b first false) (behind_n i k + size) xs to)
+      (arm_place (probe_of b first) (land_of b first narrow) (behind_n i k + size) xs to)
       (here_or (probe_of b first x) (behind_w i k) (land_w to))
       (wide_rest xs to (behind_w i k + size))
       (one (probe_of b first x))
@@ -385,9 +385,9 @@ module _ (b : Body) (first : ℕ) (call : ℕ) (is_code : IsCode b.code) where
       later : (size : ℕ) → AreArmsAlike xs to (behind_n i (k + size)) (behind_w i (k + size))
           → AreArmsAlike xs to (behind_n i k + size) (behind_w i k + size)
       later size more =
-          let narrow : behind_n i k + size ≡ behind_n i (k + size) = omega arith in
+          let both : behind_n i k + size ≡ behind_n i (k + size) = omega arith in
           let wide : behind_w i (k + size) ≡ behind_w i k + size = omega arith in
-          ap (narrow_rest xs to) narrow ∙ more ∙ ap (wide_rest xs to) wide
+          ap (narrow_rest xs to) both ∙ more ∙ ap (wide_rest xs to) wide
 
   -- ---- each part
 
@@ -401,21 +401,21 @@ module _ (b : Body) (first : ℕ) (call : ℕ) (is_code : IsCode b.code) where
   probe_widened r id at late = ap (λ l. aload b.arg_slots ∷ (l ++ iconst_1 ∷ bastore ∷ [])) (push_widened W (r + 1) id)
 
   hop_widened : (r to : ℕ) (o : Option ℕ)
-      → widened_from W r (code_of (hop_part (land_of b first false) o to)) ≡ code_of (hop_part (land_of b first true) o to)
+      → widened_from W r (code_of (hop_part (land_of b first narrow) o to)) ≡ code_of (hop_part (land_of b first widest) o to)
   hop_widened r to None = refl
   hop_widened r to (Some id) =
       ap₂ (λ l t. aload b.arg_slots ∷ (l ++ iconst_1 ∷ bastore ∷ goto t ∷ [])) (push_widened W (r + 1) id) (land_is to)
 
   arms_widened : (r : ℕ) (xs : List Branch)
-      → widened_from W r (code_of (arm_parts (land_of b first false) (probe_of b first) xs)) ≡ code_of (arm_parts (land_of b first true) (probe_of b first) xs)
+      → widened_from W r (code_of (arm_parts (land_of b first narrow) (probe_of b first) xs)) ≡ code_of (arm_parts (land_of b first widest) (probe_of b first) xs)
   arms_widened r [] = refl
   arms_widened r (x ∷ xs) =
-      let front = hop_part (land_of b first false) (probe_of b first x) (to_of x) in
-      let rest = arm_parts (land_of b first false) (probe_of b first) xs in
+      let front = hop_part (land_of b first narrow) (probe_of b first x) (to_of x) in
+      let rest = arm_parts (land_of b first narrow) (probe_of b first) xs in
       ap (widened_from W r) (code_both front rest)
       ∙ widened_both W r (code_of front) (code_of rest)
       ∙ ap₂ (λ a c. a ++ c) (hop_widened r (to_of x) (probe_of b first x)) (arms_widened (r + widths (code_of front)) xs)
-      ∙ sym (code_both (hop_part (land_of b first true) (probe_of b first x) (to_of x)) (arm_parts (land_of b first true) (probe_of b first) xs))
+      ∙ sym (code_both (hop_part (land_of b first widest) (probe_of b first x) (to_of x)) (arm_parts (land_of b first widest) (probe_of b first) xs))
 
   lead_widened : (r i : ℕ) (o : Option ℕ) → widened_from W r (code_of (lead_part o i)) ≡ code_of (lead_part o i)
   lead_widened r i None = refl
@@ -430,9 +430,9 @@ module _ (b : Body) (first : ℕ) (call : ℕ) (is_code : IsCode b.code) where
   same_test x t f g e = let j = test_is x e in subst (λ y. inverted t (with_places f y) ≡ inverted t (with_places g y)) (sym j.is) refl
 
   target_widened : (x : Insn) → flow_of x ≡ flows.Branches
-      → W (jump_target (with_places (land_of b first false) x)) ≡ jump_target (with_places (land_of b first true) x)
+      → W (jump_target (with_places (land_of b first narrow) x)) ≡ jump_target (with_places (land_of b first widest) x)
   target_widened x e =
-      let j = test_is x e in subst (λ y. W (jump_target (with_places (land_of b first false) y)) ≡ jump_target (with_places (land_of b first true) y)) (sym j.is) (land_is j.to)
+      let j = test_is x e in subst (λ y. W (jump_target (with_places (land_of b first narrow) y)) ≡ jump_target (with_places (land_of b first widest) y)) (sym j.is) (land_is j.to)
 
   same_inverse : (x : Insn) (t l k : ℕ) → flow_of x ≡ flows.Branches → inverted t (inverted l x) ≡ inverted t (inverted k x)
   same_inverse x t l k e = let j = test_is x e in subst (λ y. inverted t (inverted l y) ≡ inverted t (inverted k y)) (sym j.is) refl
@@ -443,16 +443,16 @@ module _ (b : Body) (first : ℕ) (call : ℕ) (is_code : IsCode b.code) where
       let j = test_is x e in subst (λ y. W (jump_target (inverted (lead_n i) y)) ≡ jump_target (inverted (lead_w i) y)) (sym j.is) (lead_is i)
 
   tests_widened : (i : ℕ) → i < n → flow_of (old i) ≡ flows.Branches → (o : Option ℕ)
-      → widened_from W (image_of b first true i) (code_of (tests_part b first false i (old i) o)) ≡ code_of (tests_part b first true i (old i) o)
+      → widened_from W (image_of b first widest i) (code_of (tests_part b first narrow i (old i) o)) ≡ code_of (tests_part b first widest i (old i) o)
   tests_widened i lt e None =
-      let x = with_places (land_of b first false) (old i) in
-      let r = image_of b first true i in
-      ap (λ f. widened_by W r x f ++ []) (flow_placed (land_of b first false) (old i) ∙ e)
-      ∙ ap₂ (λ a t. a ∷ goto t ∷ []) (same_test (old i) (r + 2) (land_of b first false) (land_of b first true) e) (target_widened (old i) e)
+      let x = with_places (land_of b first narrow) (old i) in
+      let r = image_of b first widest i in
+      ap (λ f. widened_by W r x f ++ []) (flow_placed (land_of b first narrow) (old i) ∙ e)
+      ∙ ap₂ (λ a t. a ∷ goto t ∷ []) (same_test (old i) (r + 2) (land_of b first narrow) (land_of b first widest) e) (target_widened (old i) e)
   tests_widened i lt e (Some id) =
       let x = inverted (lead_n (i + 1)) (old i) in
-      let r = image_of b first true i in
-      let rest = code_of (hop_part (land_of b first false) (Some id) (jump_target (old i))) in
+      let r = image_of b first widest i in
+      let rest = code_of (hop_part (land_of b first narrow) (Some id) (jump_target (old i))) in
       ap (λ f. widened_by W r x f ++ widened_from W (r + widths_by f) rest) (inverse_flow i (lead_n (i + 1)) lt e)
       ∙ ap₂ (λ a c. a ++ c)
       (ap₂ (λ y t. y ∷ goto t ∷ []) (same_inverse (old i) (r + 2) (lead_n (i + 1)) (lead_w (i + 1)) e) (inverse_widened (old i) (i + 1) e))
@@ -471,46 +471,46 @@ module _ (b : Body) (first : ℕ) (call : ℕ) (is_code : IsCode b.code) where
   throws_apart e = cc
 
   abbrev narrow_arm : ℕ → ℕ → ℕ
-  narrow_arm i to = W (arm_place (probe_of b first) (land_of b first false) (image_of b first false i + 1) (arms_at b.code i) to)
+  narrow_arm i to = W (arm_place (probe_of b first) (land_of b first narrow) (image_of b first narrow i + 1) (arms_at b.code i) to)
 
   abbrev wide_arm : ℕ → ℕ → ℕ
-  wide_arm i to = arm_place (probe_of b first) (land_of b first true) (image_of b first true i + 1) (arms_at b.code i) to
+  wide_arm i to = arm_place (probe_of b first) (land_of b first widest) (image_of b first widest i + 1) (arms_at b.code i) to
 
   arms_are : (i : ℕ) → i < n → flow_of (old i) ≡ flows.Switches → narrow_arm i ≡ wide_arm i
   arms_are i lt e =
-      let z : image_of b first false i + 1 ≡ image_of b first false i + 1 + 0 = omega arith in
-      let y : image_of b first true i + 1 + 0 ≡ image_of b first true i + 1 = omega arith in
+      let z : image_of b first narrow i + 1 ≡ image_of b first narrow i + 1 + 0 = omega arith in
+      let y : image_of b first widest i + 1 + 0 ≡ image_of b first widest i + 1 = omega arith in
       λ k to.
-      (ap (λ h. W (arm_place (probe_of b first) (land_of b first false) h (arms_at b.code i) to)) z
+      (ap (λ h. W (arm_place (probe_of b first) (land_of b first narrow) h (arms_at b.code i) to)) z
       ∙ arm_places i lt e 0 (arms_at b.code i) (omega arith) to
-      ∙ ap (λ h. arm_place (probe_of b first) (land_of b first true) h (arms_at b.code i) to) y) k
+      ∙ ap (λ h. arm_place (probe_of b first) (land_of b first widest) h (arms_at b.code i) to) y) k
 
   main_widened : (i : ℕ) (flow : Flow) → i < n → flow_of (old i) ≡ flow
-      → widened_from W (image_of b first true i) (code_of (main_n i flow)) ≡ code_of (main_w i flow)
+      → widened_from W (image_of b first widest i) (code_of (main_n i flow)) ≡ code_of (main_w i flow)
   main_widened i flows.GoesOn lt e =
       let x = with_slot b.arg_slots (old i) in
       let on = flow_shifted b.arg_slots (old i) ∙ e in
-      ap (λ l. l ++ []) (widened_plain W (image_of b first true i) x flows.GoesOn on not_tests_on) ∙ ap (λ y. y ∷ []) (places_on W x on)
+      ap (λ l. l ++ []) (widened_plain W (image_of b first widest i) x flows.GoesOn on not_tests_on) ∙ ap (λ y. y ∷ []) (places_on W x on)
   main_widened i flows.Branches lt e = tests_widened i lt e (late_probe b first i)
   main_widened i flows.Jumps lt e =
-      let x = with_places (land_of b first false) (old i) in
-      ap (λ l. l ++ []) (widened_plain W (image_of b first true i) x flows.Jumps (flow_placed (land_of b first false) (old i) ∙ e) jumps_apart)
-      ∙ ap (λ y. y ∷ []) (places_twice W (land_of b first false) (old i) ∙ ap (λ f. with_places f (old i)) lands_are)
+      let x = with_places (land_of b first narrow) (old i) in
+      ap (λ l. l ++ []) (widened_plain W (image_of b first widest i) x flows.Jumps (flow_placed (land_of b first narrow) (old i) ∙ e) jumps_apart)
+      ∙ ap (λ y. y ∷ []) (places_twice W (land_of b first narrow) (old i) ∙ ap (λ f. with_places f (old i)) lands_are)
   main_widened i flows.Switches lt e =
       let arms = arms_at b.code i in
-      let narrow = arm_place (probe_of b first) (land_of b first false) (image_of b first false i + 1) arms in
-      let wide = arm_place (probe_of b first) (land_of b first true) (image_of b first true i + 1) arms in
-      let x = with_places narrow (old i) in
-      let rest = code_of (arm_parts (land_of b first false) (probe_of b first) arms) in
+      let places = arm_place (probe_of b first) (land_of b first narrow) (image_of b first narrow i + 1) arms in
+      let wide = arm_place (probe_of b first) (land_of b first widest) (image_of b first widest i + 1) arms in
+      let x = with_places places (old i) in
+      let rest = code_of (arm_parts (land_of b first narrow) (probe_of b first) arms) in
       ap₂ (λ l c. l ++ c)
-      (widened_plain W (image_of b first true i) x flows.Switches (flow_placed narrow (old i) ∙ e) switches_apart
-      ∙ ap (λ y. y ∷ []) (places_twice W narrow (old i) ∙ ap (λ f. with_places f (old i)) (arms_are i lt e)))
-      (arms_widened (image_of b first true i + widths_by (flow_of x)) arms)
+      (widened_plain W (image_of b first widest i) x flows.Switches (flow_placed places (old i) ∙ e) switches_apart
+      ∙ ap (λ y. y ∷ []) (places_twice W places (old i) ∙ ap (λ f. with_places f (old i)) (arms_are i lt e)))
+      (arms_widened (image_of b first widest i + widths_by (flow_of x)) arms)
   main_widened i flows.Returns lt e =
-      ap (λ l. l ++ []) (widened_plain W (image_of b first true i) (old i) flows.Returns e returns_apart)
+      ap (λ l. l ++ []) (widened_plain W (image_of b first widest i) (old i) flows.Returns e returns_apart)
       ∙ ap (λ y. y ∷ []) (places_out W (old i) (inl e))
   main_widened i flows.Throws lt e =
-      ap (λ l. l ++ []) (widened_plain W (image_of b first true i) (old i) flows.Throws e throws_apart)
+      ap (λ l. l ++ []) (widened_plain W (image_of b first widest i) (old i) flows.Throws e throws_apart)
       ∙ ap (λ y. y ∷ []) (places_out W (old i) (inr e))
 
   segment_widened : (i : ℕ) → i < n → widened_from W (lead_w i) (code_of (seg_n i)) ≡ code_of (seg_w i)
@@ -519,7 +519,7 @@ module _ (b : Body) (first : ℕ) (call : ℕ) (is_code : IsCode b.code) where
       let c = early_part (early_probe b first i) i in
       let d = main_n i (flow_of (old i)) in
       let d' = main_w i (flow_of (old i)) in
-      let place : lead_w i + widths (code_of a) + widths (code_of c) ≡ image_of b first true i = omega (arith, lead_width i, early_width i) in
+      let place : lead_w i + widths (code_of a) + widths (code_of c) ≡ image_of b first widest i = omega (arith, lead_width i, early_width i) in
       ap (widened_from W (lead_w i)) (code_both a (c ++ d) ∙ ap (λ l. code_of a ++ l) (code_both c d))
       ∙ widened_both W (lead_w i) (code_of a) (code_of c ++ code_of d)
       ∙ ap₂ (λ x y. x ++ y) (lead_widened (lead_w i) i (lead_probe b first i))
@@ -541,15 +541,15 @@ module _ (b : Body) (first : ℕ) (call : ℕ) (is_code : IsCode b.code) where
 
   -- behind the conditional jump itself
   tests_one : (i : ℕ) → i < n → flow_of (old i) ≡ flows.Branches → (o : Option ℕ)
-      → wide_place (code_of (tests_part b first false i (old i) o)) 1 ≡ 2
-  tests_one i lt e None = ap (λ f. widths_by f + 0) (flow_placed (land_of b first false) (old i) ∙ e)
+      → wide_place (code_of (tests_part b first narrow i (old i) o)) 1 ≡ 2
+  tests_one i lt e None = ap (λ f. widths_by f + 0) (flow_placed (land_of b first narrow) (old i) ∙ e)
   tests_one i lt e (Some id) =
-      ap (λ f. widths_by f + wide_place (code_of (hop_part (land_of b first false) (Some id) (jump_target (old i)))) 0) (inverse_flow i (lead_n (i + 1)) lt e)
+      ap (λ f. widths_by f + wide_place (code_of (hop_part (land_of b first narrow) (Some id) (jump_target (old i)))) 0) (inverse_flow i (lead_n (i + 1)) lt e)
 
   pub main_test : (i : ℕ) → i < n → flow_of (old i) ≡ flows.Branches → wide_place (code_of (main_n i (flow_of (old i)))) 1 ≡ 2
   main_test i lt e = ap (λ f. wide_place (code_of (main_n i f)) 1) e ∙ tests_one i lt e (late_probe b first i)
 
-pub widened_is : (b : Body) (first call : ℕ) → IsCode b.code
-    → widened (map (insn_of call b.arg_slots) (twin_items b first false)) ≡ map (insn_of call b.arg_slots) (twin_items b first true)
+pub widened_is : (b : Body) (first : ℕ) (named : TwinPlaces) → IsCode b.code
+    → widened (map (insn_of named b.arg_slots) (twin_items b first narrow)) ≡ map (insn_of named b.arg_slots) (twin_items b first widest)
 unfolding twin_items widened
-widened_is b first call is_code = built_widened b first call is_code (length b.code) (omega arith)
+widened_is b first named is_code = built_widened b first named is_code (length b.code) (omega arith)

@@ -2,6 +2,7 @@
 use Rattle.std.proofs.Common.{◌≡◌, ℕ, ◌+◌, List, [], ◌++◌, map, sym, ap, ◌∙◌, subst, add-one, append_assoc, append-nil}
 use Rattle.std.proofs.lemmas.List.{map-append}
 use Rattle.jc_bytes.specs.PlainLists.{pieces}
+use Rattle.jc_emit.specs.Marks.{unplaced}
 use Rattle.jc_emit.specs.Items.{Item, insn_of, at_of, own_of, extra_of}
 use Rattle.jc_emit.specs.Writing.{Grows}
 use Rattle.jc_emit.specs.Written.{Shows}
@@ -13,7 +14,7 @@ join f a b c p q e d =
 
 pub grows_append : (v : ℕ) (a b c : Written) (p q : List Item) → Grows v a b p → Grows v b c q → Grows v a c (p ++ q)
 grows_append v a b c p q g h = record {
-  code = join (insn_of 0 v) a.code.items b.code.items c.code.items p q g.code h.code;
+  code = join (insn_of unplaced v) a.code.items b.code.items c.code.items p q g.code h.code;
   at = join at_of a.at.items b.at.items c.at.items p q g.at h.at;
   own = join own_of a.own.items b.own.items c.own.items p q g.own h.own;
   extra = join extra_of a.extra.items b.extra.items c.extra.items p q g.extra h.extra;
@@ -34,7 +35,7 @@ grows_piece v a b c g n so_far more =
 
 pub shows_more : (v : ℕ) (p q : List Item) (a b : Written) → Shows v p a → Grows v a b q → Shows v (p ++ q) b
 shows_more v p q a b s g = record {
-  code = join (insn_of 0 v) ([]) a.code.items b.code.items p q s.code g.code;
+  code = join (insn_of unplaced v) ([]) a.code.items b.code.items p q s.code g.code;
   at = join at_of ([]) a.at.items b.at.items p q s.at g.at;
   own = join own_of ([]) a.own.items b.own.items p q s.own g.own;
   extra = join extra_of ([]) a.extra.items b.extra.items p q s.extra g.extra;

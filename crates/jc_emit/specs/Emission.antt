@@ -14,8 +14,9 @@ use Rattle.jc_methods.specs.declared.emitted.Emitted.{Emitted}
 use Rattle.jc_plan.specs.declared.branch.Branch.{Branch}
 use Rattle.jc_plan.specs.Probed.{probe_of}
 use Rattle.jc_plan.specs.Plan.{lead_probe}
+use Rattle.jc_emit.specs.Marks.{unplaced}
 use Rattle.jc_emit.specs.Shift.{probe_array_class, shifted_state, image_kind}
-use Rattle.jc_emit.specs.Sizes.{insn_at, late_probe, arms_at, hop_size}
+use Rattle.jc_emit.specs.Sizes.{TwinForm, narrow, insn_at, late_probe, arms_at, hop_size}
 use Rattle.jc_methods.specs.Widened.{wide_place}
 use Rattle.jc_emit.specs.TwinTables.{moved_row, moved_line, moved_var}
 use Rattle.jc_emit.specs.TwinFrames.{state_at, left_by, state_behind, IsFrame, AreTwinFrames}
@@ -47,7 +48,7 @@ frame_if test f = if test then f ∷ [] else []
 module _ (b : Body) (first : ℕ) (states : List State) (array : ℕ) where
   -- the shifted form of a state
   abbrev pub moved_state : State → State
-  moved_state state = shifted_state b.arg_slots array (image_of b first false) state
+  moved_state state = shifted_state b.arg_slots array (image_of b first narrow) state
 
   -- a frame of the body stands at i
   abbrev pub has_frame : ℕ → Bool
@@ -70,15 +71,15 @@ module _ (b : Body) (first : ℕ) (states : List State) (array : ℕ) where
 
   -- the frames at the arm places of i, if it is a switch
   abbrev pub arm_frames_at : ℕ → List FrameAt
-  arm_frames_at i = arm_frames (image_of b first false i + 1) (moved_state (left_by (insn_at b.code i) (state_at states i))) (arms_at b.code i)
+  arm_frames_at i = arm_frames (image_of b first narrow i + 1) (moved_state (left_by (insn_at b.code i) (state_at states i))) (arms_at b.code i)
 
   -- the frames of what belongs to i
   abbrev pub frames_at : ℕ → List FrameAt
   frames_at i =
       frame_if (has_inverse i && is_some (lead_probe b first i))
-      (frame (lead_of b first false i) (moved_state (state_at states i)))
+      (frame (lead_of b first narrow i) (moved_state (state_at states i)))
       ++ (frame_if (has_frame i || (has_inverse i && is_none (lead_probe b first i)))
-      (frame (land_of b first false i) (moved_state (state_at states i)))
+      (frame (land_of b first narrow i) (moved_state (state_at states i)))
       ++ arm_frames_at i)
 
   -- the wide layout needs a frame behind each conditional jump, where none stands
@@ -90,32 +91,32 @@ module _ (b : Body) (first : ℕ) (states : List State) (array : ℕ) where
   abbrev pub wide_frames_at : ℕ → List FrameAt
   wide_frames_at i =
       frame_if (is_further i (late_probe b first i) (flow_of (insn_at b.code i)))
-      (frame (image_of b first false i + 1) (moved_state (state_behind b states i (late_probe b first i))))
+      (frame (image_of b first narrow i + 1) (moved_state (state_behind b states i (late_probe b first i))))
 
   abbrev pub items : List Item
-  items = twin_items b first false
+  items = twin_items b first narrow
 
   unfoldable pub emission : Emitted
   emission = record {
-    code = map (insn_of 0 b.arg_slots) items;
+    code = map (insn_of unplaced b.arg_slots) items;
     at = map at_of items;
     own = map own_of items;
     extra = map extra_of items;
-    handlers = map (moved_row (lead_of b first false) (land_of b first false)) b.handlers;
-    lines = map (moved_line (land_of b first false)) b.lines;
-    vars = map (moved_var b.arg_slots (land_of b first false)) b.vars;
-    kind_vars = map (moved_var b.arg_slots (land_of b first false)) b.kind_vars;
+    handlers = map (moved_row (lead_of b first narrow) (land_of b first narrow)) b.handlers;
+    lines = map (moved_line (land_of b first narrow)) b.lines;
+    vars = map (moved_var b.arg_slots (land_of b first narrow)) b.vars;
+    kind_vars = map (moved_var b.arg_slots (land_of b first narrow)) b.kind_vars;
     frames = pieces frames_at (length b.code);
     wide_frames = pieces wide_frames_at (length b.code);
     max_stack = b.max_stack + 3;
     max_locals = b.max_locals + 1;
   }
 
--- the frames of the code that the function gives, in the narrow or the wide layout
-abbrev pub AreFramesInLayout : Names → List State → (first : ℕ) → Body → (wide : Bool) → List FrameAt → Type 0
-AreFramesInLayout names states first b wide frames =
-    AreTwinFrames names names b.arg_slots (image_of b first wide)
-    (IsFrame b first states (image_of b first wide) (land_of b first wide) (lead_of b first wide) wide) frames
+-- the frames of the code that the function gives, in this form
+abbrev pub AreFramesInForm : Names → List State → (first : ℕ) → Body → TwinForm → List FrameAt → Type 0
+AreFramesInForm names states first b form frames =
+    AreTwinFrames names names b.arg_slots (image_of b first form)
+    (IsFrame b first states (image_of b first form) (land_of b first form) (lead_of b first form) form) frames
 
 -- ---- the frames of the wide form of the code
 

@@ -10,8 +10,8 @@ use Rattle.jc_plan.specs.declared.branch.Branch.{Branch}
 use Rattle.jc_plan.specs.Probed.{probe_of}
 use Rattle.jc_plan.specs.Plan.{lead_probe}
 use Rattle.jc_kinds_after.specs.Shift.{with_slot}
-use Rattle.jc_emit.specs.Sizes.{insn_at, early_probe, late_probe, arms_at, probe_size, is_wide, behind_size}
-use Rattle.jc_emit.specs.Marks.{Marks, aload, iconst_1, bastore, push, prelude_insn, prelude_size}
+use Rattle.jc_emit.specs.Sizes.{TwinForm, insn_at, early_probe, late_probe, arms_at, probe_size, is_wide, behind_size}
+use Rattle.jc_emit.specs.Marks.{TwinPlaces, Marks, aload, iconst_1, bastore, push, prelude_insn, prelude_size}
 use Rattle.jc_methods.specs.Widened.{goto, inverted}
 use Rattle.jc_emit.specs.TwinCode.{to_of, arm_place}
 use Rattle.jc_methods.specs.declared.insn.Flow.TheVariants as flows
@@ -28,15 +28,15 @@ pub data Item : Type 0 where
   probe_store : (id at : ℕ) (late : Bool) → Item
   hop : (to at : ℕ) (due : Option ℕ) → Item
 
--- the instruction, where the probe array stands in local variable v and the call's method at a place of the pool
-abbrev pub insn_of : (call v : ℕ) → Item → Insn
-insn_of call v (start k) = prelude_insn call v k
-insn_of call v (image insn at early) = insn
-insn_of call v (probe_array id at late) = aload v
-insn_of call v (probe_id id at late) = push id
-insn_of call v (probe_one id at late) = iconst_1
-insn_of call v (probe_store id at late) = bastore
-insn_of call v (hop to at due) = goto to
+-- the instruction, where the probe array stands in local variable v, and the pool has at these places what is named
+abbrev pub insn_of : TwinPlaces → (v : ℕ) → Item → Insn
+insn_of named v (start k) = prelude_insn named v k
+insn_of named v (image insn at early) = insn
+insn_of named v (probe_array id at late) = aload v
+insn_of named v (probe_id id at late) = push id
+insn_of named v (probe_one id at late) = iconst_1
+insn_of named v (probe_store id at late) = bastore
+insn_of named v (hop to at due) = goto to
 
 abbrev pub at_of : Item → ℕ
 at_of (start k) = 0
@@ -99,10 +99,10 @@ abbrev pub test_part : Bool → (q : ℕ) → Insn → (i on : ℕ) → (due : O
 test_part false q insn i on due = image insn i None ∷ []
 test_part true q insn i on due = image (inverted (q + 2) insn) i None ∷ hop (jump_target insn) on due ∷ []
 
-module _ (b : Body) (first : ℕ) (wide : Bool) where
+module _ (b : Body) (first : ℕ) (form : TwinForm) where
   -- how many instructions belong to i
   abbrev pub segment_size : ℕ → ℕ
-  segment_size i = probe_size (lead_probe b first i) + (probe_size (early_probe b first i) + (1 + behind_size b first wide i))
+  segment_size i = probe_size (lead_probe b first i) + (probe_size (early_probe b first i) + (1 + behind_size b first form i))
 
   -- where fall-throughs into i lead, where jumps to i land, and where its image stands
   abbrev pub lead_of : ℕ → ℕ
@@ -116,9 +116,9 @@ module _ (b : Body) (first : ℕ) (wide : Bool) where
 
   -- a conditional jump with its probe, or without one
   abbrev pub tests_part : ℕ → Insn → Option ℕ → List Item
-  tests_part i insn None = test_part (is_wide wide i) (image_of i) (with_places land_of insn) i (jump_target insn) None
+  tests_part i insn None = test_part (is_wide form i) (image_of i) (with_places land_of insn) i (jump_target insn) None
   tests_part i insn (Some id) =
-      test_part (is_wide wide i) (image_of i) (inverted (lead_of (i + 1)) insn) i (i + 1) (lead_probe b first (i + 1))
+      test_part (is_wide form i) (image_of i) (inverted (lead_of (i + 1)) insn) i (i + 1) (lead_probe b first (i + 1))
       ++ hop_part land_of (Some id) (jump_target insn)
 
   -- the image of i and what stands behind it

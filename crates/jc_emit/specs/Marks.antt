@@ -53,19 +53,30 @@ push n =
 abbrev pub Pushes : List Use → Insn → ℕ → Type 0
 Pushes uses insn n = insn ≡ push n
 
+-- Where the pool has what a twin names: the method that gives the array of probes.
+pub record TwinPlaces : Type 0 where
+  pub giver : ℕ
+
+abbrev pub giver_at : (place : ℕ) → TwinPlaces
+giver_at place = record { giver = place }
+
+-- before the pool has what the prelude names
+abbrev pub unplaced : TwinPlaces
+unplaced = record { giver = 0 }
+
 -- The prelude: its instructions in order, each with how many values the ones in front of it have put on the stack. The
 -- method with this place in the pool gives the array of probes, and it is stored in local variable v.
-abbrev pub prelude_insns : (call v : ℕ) → List (Insn × ℕ)
-prelude_insns call v = (invokestatic call, 0) ∷ (astore v, 1) ∷ []
+abbrev pub prelude_insns : TwinPlaces → (v : ℕ) → List (Insn × ℕ)
+prelude_insns named v = (invokestatic named.giver, 0) ∷ (astore v, 1) ∷ []
 
 -- how many instructions it has
 abbrev pub prelude_size : ℕ
-prelude_size = length (prelude_insns 0 0)
+prelude_size = length (prelude_insns unplaced 0)
 
 -- the one with this number
-abbrev pub prelude_insn : (call v k : ℕ) → Insn
-prelude_insn call v zero = invokestatic call
-prelude_insn call v (suc k) = astore v
+abbrev pub prelude_insn : TwinPlaces → (v k : ℕ) → Insn
+prelude_insn named v zero = invokestatic named.giver
+prelude_insn named v (suc k) = astore v
 
 -- A probe stands at a place, and belongs to the instruction `at`: the array of probes stands in local variable v, and
 -- true is stored at the index `id` of it.

@@ -1,8 +1,9 @@
 -- The places of instrumented code as tables.
-use Rattle.std.specs.Prelude.{◌≡◌, ℕ, ◌+◌, ◌≤◌, false, List, length, slice_index}
+use Rattle.std.specs.Prelude.{◌≡◌, ℕ, ◌+◌, ◌≤◌, List, length, slice_index}
 use Rattle.jc_methods.specs.declared.body.Body.{Body}
 use Rattle.jc_methods.specs.declared.plan.Plan.{Plan}
 use Rattle.jc_plan.specs.Plan.{plan_of}
+use Rattle.jc_emit.specs.Sizes.{narrow}
 use Rattle.jc_emit.specs.declared.places.Places.{Places}
 use Rattle.jc_emit.specs.Items.{lead_of, land_of, image_of}
 
@@ -17,6 +18,6 @@ pub record IsTable (place : ℕ → ℕ) (count : ℕ) (table : List ℕ) : Type
 
 -- where fall-throughs lead, jumps land and images stand, in the narrow layout
 pub record ArePlaces (b : Body) (first : ℕ) (places : Places) : Type 0 where
-  pub leads : IsTable (lead_of b first false) (length b.code) places.leads.items
-  pub lands : IsTable (land_of b first false) (length b.code) places.lands.items
-  pub images : IsTable (image_of b first false) (length b.code) places.images.items
+  pub leads : IsTable (lead_of b first narrow) (length b.code) places.leads.items
+  pub lands : IsTable (land_of b first narrow) (length b.code) places.lands.items
+  pub images : IsTable (image_of b first narrow) (length b.code) places.images.items

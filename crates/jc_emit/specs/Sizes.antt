@@ -1,5 +1,5 @@
 -- The probes that belong to an instruction, and how many instructions they take.
-use Rattle.std.specs.Prelude.{ℕ, ◌+◌, Bool, true, List, [], ◌∷◌, Option, Some, None, slice_index_or}
+use Rattle.std.specs.Prelude.{◌≡◌, ℕ, ◌+◌, Bool, true, false, List, [], ◌∷◌, Option, Some, None, slice_index_or}
 use Rattle.jc_methods.specs.Flow.{flow_of, jump_target}
 use Rattle.jc_methods.specs.declared.insn.Insn.{Insn}
 use Rattle.jc_methods.specs.declared.insn.Insn.TheVariants as insns
@@ -59,20 +59,36 @@ abbrev pub arm_sizes : (Branch → Option ℕ) → List Branch → ℕ
 arm_sizes probe [] = 0
 arm_sizes probe (x ∷ xs) = hop_size (probe x) + arm_sizes probe xs
 
--- Which conditional jumps are wide, each by its place, is told by the layout: in the wide layout each is, and in the narrow
--- layout none is.
-abbrev pub is_wide : Bool → ℕ → Bool
-is_wide wide i = wide
+-- The form of a twin: which conditional jumps are wide, each by its place in the body.
+pub record TwinForm : Type 0 where
+  pub wide : ℕ → Bool
+
+-- In the wide layout each is, and in the narrow layout none is.
+abbrev pub layout_form : (all : Bool) → TwinForm
+layout_form all = record { wide = λ i. all }
+
+abbrev pub narrow : TwinForm
+narrow = record { wide = λ i. false }
+
+abbrev pub widest : TwinForm
+widest = record { wide = λ i. true }
+
+-- it is the form of a layout: all of them are, or none
+abbrev pub IsUniform : TwinForm → Type 0
+IsUniform form = (all : Bool) × (form ≡ layout_form all)
+
+abbrev pub is_wide : TwinForm → ℕ → Bool
+is_wide form i = form.wide i
 
 -- a goto stands behind a wide conditional jump
 abbrev pub wide_by : Flow → Bool → ℕ
 wide_by flows.Branches true = 1
 wide_by _ _ = 0
 
-abbrev pub wide_size : Body → Bool → ℕ → ℕ
-wide_size b wide i = wide_by (flow_of (insn_at b.code i)) (is_wide wide i)
+abbrev pub wide_size : Body → TwinForm → ℕ → ℕ
+wide_size b form i = wide_by (flow_of (insn_at b.code i)) (is_wide form i)
 
 -- what stands behind the image of an instruction and belongs to it
-abbrev pub behind_size : Body → ℕ → Bool → ℕ → ℕ
-behind_size b first wide i =
-    wide_size b wide i + hop_size (late_probe b first i) + arm_sizes (probe_of b first) (arms_at b.code i)
+abbrev pub behind_size : Body → ℕ → TwinForm → ℕ → ℕ
+behind_size b first form i =
+    wide_size b form i + hop_size (late_probe b first i) + arm_sizes (probe_of b first) (arms_at b.code i)

@@ -1,11 +1,13 @@
 -- The stages of the instrumented code of a body: its code and its tables need no states, and frames are those of a layout.
-use Rattle.std.specs.Prelude.{◌≡◌, ℕ, ◌+◌, Bool, false, List, ◌++◌, length, map, if◌then◌else◌}
+use Rattle.std.specs.Prelude.{◌≡◌, ℕ, ◌+◌, Bool, List, ◌++◌, length, map, if◌then◌else◌}
 use Rattle.jc_methods.specs.VerificationTypes.{Names}
 use Rattle.jc_bytes.specs.PlainLists.{pieces}
 use Rattle.jc_methods.specs.declared.body.Body.{Body}
 use Rattle.jc_methods.specs.declared.body.FrameAt.{FrameAt}
 use Rattle.jc_methods.specs.declared.insn.Insn.{Insn}
 use Rattle.jc_methods.specs.declared.kind.State.{State}
+use Rattle.jc_emit.specs.Marks.{unplaced}
+use Rattle.jc_emit.specs.Sizes.{narrow}
 use Rattle.jc_emit.specs.Items.{insn_of, lead_of, land_of, twin_items}
 use Rattle.jc_emit.specs.TwinTables.{moved_row, moved_line, moved_var}
 use Rattle.jc_emit.specs.Emission.{IsArrayNumber, HasFrameStates, frames_at, wide_frames_at}
@@ -13,15 +15,15 @@ use Rattle.jc_emit.specs.declared.tables.MovedTables.{MovedTables}
 
 -- the code, where the place of the call in the pool stands as 0
 abbrev pub emitted_code : Body → (first : ℕ) → List Insn
-emitted_code b first = map (insn_of 0 b.arg_slots) (twin_items b first false)
+emitted_code b first = map (insn_of unplaced b.arg_slots) (twin_items b first narrow)
 
 -- the tables and the sizes
 abbrev pub moved_tables : Body → (first : ℕ) → MovedTables
 moved_tables b first = record {
-  handlers = map (moved_row (lead_of b first false) (land_of b first false)) b.handlers;
-  lines = map (moved_line (land_of b first false)) b.lines;
-  vars = map (moved_var b.arg_slots (land_of b first false)) b.vars;
-  kind_vars = map (moved_var b.arg_slots (land_of b first false)) b.kind_vars;
+  handlers = map (moved_row (lead_of b first narrow) (land_of b first narrow)) b.handlers;
+  lines = map (moved_line (land_of b first narrow)) b.lines;
+  vars = map (moved_var b.arg_slots (land_of b first narrow)) b.vars;
+  kind_vars = map (moved_var b.arg_slots (land_of b first narrow)) b.kind_vars;
   max_stack = b.max_stack + 3;
   max_locals = b.max_locals + 1;
 }

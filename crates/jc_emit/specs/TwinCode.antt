@@ -15,8 +15,8 @@ use Rattle.jc_plan.specs.declared.branch.Way.TheVariants as ways
 use Rattle.jc_plan.specs.Edges.{branches}
 use Rattle.jc_plan.specs.Probed.{probe_of}
 use Rattle.jc_plan.specs.Plan.{lead_probe}
-use Rattle.jc_emit.specs.Sizes.{insn_at, early_probe, late_probe, arms_at, hop_size, is_wide, wide_size, behind_size}
-use Rattle.jc_emit.specs.Marks.{Marks, HasInsn, IsProbe, prelude_insns, prelude_size, image_place, land_place, lead_place}
+use Rattle.jc_emit.specs.Sizes.{TwinForm, insn_at, early_probe, late_probe, arms_at, hop_size, is_wide, wide_size, behind_size}
+use Rattle.jc_emit.specs.Marks.{TwinPlaces, Marks, HasInsn, IsProbe, prelude_insns, prelude_size, image_place, land_place, lead_place}
 
 -- ---- switches
 
@@ -45,7 +45,7 @@ arm_place probe land here (x ∷ xs) to =
 
 -- The sentences on the code speak of three functions: where the image of an instruction stands, where jumps to it land,
 -- and where a fall-through into it leads.
-module _ (b : Body) (first : ℕ) (wide : Bool) (code : List Insn) (m : Marks) (image land lead : ℕ → ℕ) where
+module _ (b : Body) (first : ℕ) (form : TwinForm) (code : List Insn) (m : Marks) (image land lead : ℕ → ℕ) where
   -- the instruction at a place of the body
   abbrev pub old : ℕ → Insn
   old i = insn_at b.code i
@@ -72,8 +72,8 @@ module _ (b : Body) (first : ℕ) (wide : Bool) (code : List Insn) (m : Marks) (
   HasPrelude q (x ∷ xs) = HasInsn code m q x.0 0 false x.1 × HasPrelude (q + 1) xs
 
   -- The twin begins with them: they fetch the array of probes and put it behind the arguments.
-  pub record Prelude (call : ℕ) : Type 0 where
-    pub first_insns : HasPrelude 0 (prelude_insns call b.arg_slots)
+  pub record Prelude (named : TwinPlaces) : Type 0 where
+    pub first_insns : HasPrelude 0 (prelude_insns named b.arg_slots)
 
   -- ---- images
 
@@ -95,7 +95,7 @@ module _ (b : Body) (first : ℕ) (wide : Bool) (code : List Insn) (m : Marks) (
     pub early : (i id : ℕ) → i < length b.code → early_probe b first i ≡ Some id → HasProbe (land i) id i
     pub leads : (i id : ℕ) → i < length b.code → lead_probe b first i ≡ Some id → HasProbe (lead i) id i
     pub first_place : lead 0 ≡ prelude_size
-    pub next_place : (i : ℕ) → i < length b.code → lead (i + 1) ≡ image i + 1 + behind_size b first wide i
+    pub next_place : (i : ℕ) → i < length b.code → lead (i + 1) ≡ image i + 1 + behind_size b first form i
 
   -- ---- jumps
 
@@ -109,7 +109,7 @@ module _ (b : Body) (first : ℕ) (wide : Bool) (code : List Insn) (m : Marks) (
 
   -- the place behind a conditional jump
   abbrev pub behind : ℕ → ℕ
-  behind i = image i + 1 + wide_size b wide i
+  behind i = image i + 1 + wide_size b form i
 
   -- The image of a jump leads to where jumps to its target land. That of a conditional jump with a probe is inverted
   -- and leads to where the fall-through leads, so that the probe is passed only where the jump is taken; behind it stand
@@ -117,9 +117,9 @@ module _ (b : Body) (first : ℕ) (wide : Bool) (code : List Insn) (m : Marks) (
   pub record Jumps : Type 0 where
     pub gotos : (i : ℕ) → Flows i flows.Jumps → HasImage i (with_places land (old i))
     pub tests : (i : ℕ) → Flows i flows.Branches → late_probe b first i ≡ None
-        → HasTest (is_wide wide i) i (with_places land (old i)) (jump_target (old i))
+        → HasTest (is_wide form i) i (with_places land (old i)) (jump_target (old i))
     pub inverses : (i id : ℕ) → Flows i flows.Branches → late_probe b first i ≡ Some id
-        → HasTest (is_wide wide i) i (inverted (lead (i + 1)) (old i)) (i + 1)
+        → HasTest (is_wide form i) i (inverted (lead (i + 1)) (old i)) (i + 1)
     pub probes : (i id : ℕ) → Flows i flows.Branches → late_probe b first i ≡ Some id
         → HasProbe (behind i) id (jump_target (old i))
     pub hops : (i id : ℕ) → Flows i flows.Branches → late_probe b first i ≡ Some id
@@ -198,7 +198,7 @@ module _ (b : Body) (first : ℕ) (wide : Bool) (code : List Insn) (m : Marks) (
   -- it is the goto behind a wide conditional jump
   pub record IsWideGoto (q : ℕ) : Type 0 where
     pub test : ℕ
-    pub layout : is_wide wide test ≡ true
+    pub layout : is_wide form test ≡ true
     pub tests : Flows test flows.Branches
     pub place : q ≡ image test + 1
 
@@ -228,23 +228,22 @@ module _ (b : Body) (first : ℕ) (wide : Bool) (code : List Insn) (m : Marks) (
 
   -- ---- the whole
 
-  pub record Sentences (call : ℕ) : Type 0 where
+  pub record Sentences (named : TwinPlaces) : Type 0 where
     pub lengths : Lengths
-    pub prelude : Prelude call
+    pub prelude : Prelude named
     pub images : Images
     pub nothing_else : NothingElse
     pub places : Places
     pub jumps : Jumps
     pub switches : Switches
 
--- The code and its marks are those of the twin of the body whose first id is `first`, in the narrow or the wide layout,
--- where the method that gives the array of probes stands at the place `call` of the pool. The three functions are told
--- by the own instructions.
-abbrev pub IsTwinCode : Body → ℕ → Bool → ℕ → List Insn → Marks → Type 0
-IsTwinCode b first wide call code m =
-    Sentences b first wide code m (image_place m.own) (land_place b first m.own) (lead_place b first m.own) call
+-- The code and its marks are those of the twin of the body whose first id is `first`, in this form, where the pool has at these
+-- places what it names. The three functions are told by the own instructions.
+abbrev pub IsTwinCode : Body → ℕ → TwinForm → TwinPlaces → List Insn → Marks → Type 0
+IsTwinCode b first form named code m =
+    Sentences b first form code m (image_place m.own) (land_place b first m.own) (lead_place b first m.own) named
 
 -- the same of a probe in it
-abbrev pub IsProbeIn : Body → ℕ → Bool → List Insn → Marks → ℕ → ℕ → ℕ → Type 0
-IsProbeIn b first wide code m q id at =
-    IsProbeOf b first wide code m (image_place m.own) (land_place b first m.own) (lead_place b first m.own) q id at
+abbrev pub IsProbeIn : Body → ℕ → TwinForm → List Insn → Marks → ℕ → ℕ → ℕ → Type 0
+IsProbeIn b first form code m q id at =
+    IsProbeOf b first form code m (image_place m.own) (land_place b first m.own) (lead_place b first m.own) q id at

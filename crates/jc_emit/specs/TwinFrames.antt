@@ -1,5 +1,5 @@
 -- The stack map frames of the twin of a body (JVM Specification 4.7.4).
-use Rattle.std.specs.Prelude.{◌≡◌, ◌⊎◌, ℕ, ◌+◌, ◌-◌, ◌<◌, Bool, true, List, [], length, take, Option, Some, None, nat_le, ◌&&◌, if◌then◌else◌, slice_index_or, Contains}
+use Rattle.std.specs.Prelude.{◌≡◌, ◌⊎◌, ℕ, ◌+◌, ◌-◌, ◌<◌, true, List, [], length, take, Option, Some, None, nat_le, ◌&&◌, if◌then◌else◌, slice_index_or, Contains}
 use Rattle.jc_methods.specs.Flow.{flow_of}
 use Rattle.jc_methods.specs.FrameOrder.{RiseFrom}
 use Rattle.jc_methods.specs.VerificationTypes.{Names, type_state}
@@ -11,7 +11,7 @@ use Rattle.jc_methods.specs.declared.body.FrameAt.{FrameAt}
 use Rattle.jc_plan.specs.declared.branch.Branch.{Branch}
 use Rattle.jc_plan.specs.Probed.{probe_of}
 use Rattle.jc_kinds_after.specs.Shift.{shifted}
-use Rattle.jc_emit.specs.Sizes.{insn_at, late_probe, arms_at, is_wide}
+use Rattle.jc_emit.specs.Sizes.{TwinForm, insn_at, late_probe, arms_at, is_wide}
 use Rattle.jc_emit.specs.TwinCode.{arm_place, to_of}
 use Rattle.jc_methods.specs.declared.insn.Insn.TheVariants as insns
 use Rattle.jc_methods.specs.declared.insn.Flow.TheVariants as flows
@@ -83,17 +83,17 @@ module _ (b : Body) (first : ℕ) (states : List State) (image land lead : ℕ �
     pub state_is : state ≡ state_behind b states test (late_probe b first test)
 
   -- behind the inverse and the goto of a wide conditional jump
-  pub record IsWideFrame (wide : Bool) (q : ℕ) (state : State) : Type 0 where
+  pub record IsWideFrame (form : TwinForm) (q : ℕ) (state : State) : Type 0 where
     pub behind : IsFrameBehind 2 q state
-    pub layout : is_wide wide behind.test ≡ true
+    pub layout : is_wide form behind.test ≡ true
 
   -- the frames of every layout
   abbrev pub IsNarrowFrame : ℕ → State → Type 0
   IsNarrowFrame q state = IsOldFrame q state ⊎ (IsInverseFrame q state ⊎ IsArmFrame q state)
 
   -- the frames of the layout
-  abbrev pub IsFrame : Bool → ℕ → State → Type 0
-  IsFrame wide q state = IsNarrowFrame q state ⊎ IsWideFrame wide q state
+  abbrev pub IsFrame : TwinForm → ℕ → State → Type 0
+  IsFrame form q state = IsNarrowFrame q state ⊎ IsWideFrame form q state
 
 -- The frames are exactly those that are asked for, one at each place, each with the shifted state, by the names of
 -- classes.

@@ -5,6 +5,7 @@ use Rattle.jc_methods.specs.WellMade.{IsWellMadeOfAnySize}
 use Rattle.jc_methods.specs.declared.body.Body.{Body}
 use Rattle.jc_methods.specs.declared.plan.Plan.{Plan}
 use Rattle.jc_plan.specs.Plan.{plan_of}
+use Rattle.jc_emit.specs.Marks.{unplaced}
 use Rattle.jc_emit.specs.Items.{Item, insn_of, at_of, own_of, extra_of}
 use Rattle.jc_emit.specs.Placing.{HasPlan, ArePlaces}
 use Rattle.jc_emit.specs.declared.places.Places.{Places}
@@ -12,7 +13,7 @@ use Rattle.jc_emit.specs.declared.written.Written.{Written}
 
 -- these items were put behind what stood there
 pub record Grows (v : ℕ) (old new : Written) (items : List Item) : Type 0 where
-  pub code : new.code.items ≡ old.code.items ++ map (insn_of 0 v) items
+  pub code : new.code.items ≡ old.code.items ++ map (insn_of unplaced v) items
   pub at : new.at.items ≡ old.at.items ++ map at_of items
   pub own : new.own.items ≡ old.own.items ++ map own_of items
   pub extra : new.extra.items ≡ old.extra.items ++ map extra_of items

@@ -1,7 +1,7 @@
 //! Laws of instrumented code.
 //!
 //! [`each_twin_is_seen`] is the promise of this crate; the others are steps, which the crates above cite too.
-ghost use Rattle.std.specs.Prelude.{◌≡◌, ℕ, ◌+◌, ◌<◌, ◌≤◌, List, Bool, true, false, Option, Some, None, map, length, slice_get};
+ghost use Rattle.std.specs.Prelude.{◌≡◌, ℕ, ◌+◌, ◌<◌, ◌≤◌, List, Option, Some, None, map, length, slice_get};
 ghost use Rattle.jc_methods.specs.VerificationTypes.{Names};
 ghost use Rattle.jc_methods.specs.Widened.{widened};
 ghost use Rattle.jc_methods.specs.WellMade.{IsCode, IsHandler, IsWellMadeOfAnySize, what_used};
@@ -12,10 +12,11 @@ ghost use Rattle.jc_methods.specs.declared.insn.Insn.{Insn};
 ghost use Rattle.jc_methods.specs.declared.kind.State.{State};
 ghost use Rattle.jc_plan.specs.declared.branch.Branch.{Branch};
 ghost use Rattle.jc_plan.specs.Probed.{probe_of, probe_count};
-ghost use Rattle.jc_emit.specs.Emission.{emission, HasFrameStates, IsArrayNumber, CanEmit, AreFramesInLayout, AreWidened};
+ghost use Rattle.jc_emit.specs.Sizes.{TwinForm, narrow, widest};
+ghost use Rattle.jc_emit.specs.Emission.{emission, HasFrameStates, IsArrayNumber, CanEmit, AreFramesInForm, AreWidened};
 ghost use Rattle.jc_emit.specs.Items.{Item, own_of, insn_of, twin_items, image_of, land_of, lead_of, marks_of_items};
 ghost use Rattle.jc_emit.specs.Local.{AllOk, OkRow, IsOfBranch, id_in, no_ids, unchanged_items};
-ghost use Rattle.jc_emit.specs.Marks.{Marks, IsProbe, image_place, land_place, lead_place};
+ghost use Rattle.jc_emit.specs.Marks.{TwinPlaces, Marks, IsProbe, image_place, land_place, lead_place};
 ghost use Rattle.jc_emit.specs.Ranks.{IsRanked};
 ghost use Rattle.jc_emit.specs.Seen.{IsSeen, IsSeenUnchanged, unchanged_marks};
 ghost use Rattle.jc_emit.specs.TwinProgram.{IsSameBody};
@@ -35,49 +36,49 @@ pub fn each_twin_is_seen()
 
 /// The places that the own instructions tell are those of the function.
 pub fn each_image_stands()
-    ensures images { (b : Body) (first : ℕ) (wide : Bool) → IsCode b.code
-        → image_place (map own_of (twin_items b first wide)) ≡ image_of b first wide }
-    ensures lands { (b : Body) (first : ℕ) (wide : Bool) → IsCode b.code
-        → land_place b first (map own_of (twin_items b first wide)) ≡ land_of b first wide }
-    ensures leads { (b : Body) (first : ℕ) (wide : Bool) → IsCode b.code
-        → lead_place b first (map own_of (twin_items b first wide)) ≡ lead_of b first wide }
+    ensures images { (b : Body) (first : ℕ) (form : TwinForm) → IsCode b.code
+        → image_place (map own_of (twin_items b first form)) ≡ image_of b first form }
+    ensures lands { (b : Body) (first : ℕ) (form : TwinForm) → IsCode b.code
+        → land_place b first (map own_of (twin_items b first form)) ≡ land_of b first form }
+    ensures leads { (b : Body) (first : ℕ) (form : TwinForm) → IsCode b.code
+        → lead_place b first (map own_of (twin_items b first form)) ≡ lead_of b first form }
 {}
 
 /// The code that the function gives is a twin's, in either layout.
 pub fn each_twin_is_told()
-    ensures { (b : Body) (first : ℕ) (wide : Bool) (call : ℕ) → IsCode b.code
-        → IsTwinCode b first wide call (map (insn_of call b.arg_slots) (twin_items b first wide)) (marks_of_items (twin_items b first wide)) }
+    ensures { (b : Body) (first : ℕ) (form : TwinForm) (named : TwinPlaces) → IsCode b.code
+        → IsTwinCode b first form named (map (insn_of named b.arg_slots) (twin_items b first form)) (marks_of_items (twin_items b first form)) }
 {}
 
 /// A body has one twin's code for each layout, and it is the one that the function gives.
 pub fn each_twin_is_known()
-    ensures code { (b : Body) (first : ℕ) (wide : Bool) (call : ℕ) (code : List Insn) (m : Marks) → IsCode b.code
-        → IsTwinCode b first wide call code m → code ≡ map (insn_of call b.arg_slots) (twin_items b first wide) }
-    ensures marks { (b : Body) (first : ℕ) (wide : Bool) (call : ℕ) (code : List Insn) (m : Marks) → IsCode b.code
-        → IsTwinCode b first wide call code m → m ≡ marks_of_items (twin_items b first wide) }
+    ensures code { (b : Body) (first : ℕ) (form : TwinForm) (named : TwinPlaces) (code : List Insn) (m : Marks) → IsCode b.code
+        → IsTwinCode b first form named code m → code ≡ map (insn_of named b.arg_slots) (twin_items b first form) }
+    ensures marks { (b : Body) (first : ℕ) (form : TwinForm) (named : TwinPlaces) (code : List Insn) (m : Marks) → IsCode b.code
+        → IsTwinCode b first form named code m → m ≡ marks_of_items (twin_items b first form) }
 {}
 
 /// Each probe in a twin's code is that of a probed edge, and no id has two; so each probed edge has exactly one probe.
 pub fn each_probe_is_once()
-    ensures edge { (b : Body) (first : ℕ) (wide : Bool) (call : ℕ) (code : List Insn) (m : Marks) → IsCode b.code
-        → IsTwinCode b first wide call code m → (q id at : ℕ) → IsProbe code m b.arg_slots q id at
-        → IsProbeIn b first wide code m q id at }
-    ensures once { (b : Body) (first : ℕ) (wide : Bool) (call : ℕ) (code : List Insn) (m : Marks) → IsCode b.code
-        → IsTwinCode b first wide call code m → (q r id at to : ℕ) → IsProbe code m b.arg_slots q id at
+    ensures edge { (b : Body) (first : ℕ) (form : TwinForm) (named : TwinPlaces) (code : List Insn) (m : Marks) → IsCode b.code
+        → IsTwinCode b first form named code m → (q id at : ℕ) → IsProbe code m b.arg_slots q id at
+        → IsProbeIn b first form code m q id at }
+    ensures once { (b : Body) (first : ℕ) (form : TwinForm) (named : TwinPlaces) (code : List Insn) (m : Marks) → IsCode b.code
+        → IsTwinCode b first form named code m → (q r id at to : ℕ) → IsProbe code m b.arg_slots q id at
         → IsProbe code m b.arg_slots r id to → q ≡ r }
 {}
 
 /// A twin goes on where it should, at each of its instructions, in either layout.
 pub fn each_twin_goes_on()
-    ensures { (b : Body) (first : ℕ) (wide : Bool) → IsCode b.code
-        → AllOk b.code (Some b.arg_slots) (probe_of b first) (twin_items b first wide) }
+    ensures { (b : Body) (first : ℕ) (form : TwinForm) → IsCode b.code
+        → AllOk b.code (Some b.arg_slots) (probe_of b first) (twin_items b first form) }
 {}
 
 /// A row of a twin holds the images of what the row of the body holds, and leads to where its handler goes on.
 pub fn each_row_is_kept()
-    ensures { (b : Body) (first : ℕ) (wide : Bool) → IsCode b.code → (h : Handler) → IsHandler (length b.code) h
-        → OkRow b.code (Some b.arg_slots) (probe_of b first) (twin_items b first wide) h
-        (moved_row (lead_of b first wide) (land_of b first wide) h) }
+    ensures { (b : Body) (first : ℕ) (form : TwinForm) → IsCode b.code → (h : Handler) → IsHandler (length b.code) h
+        → OkRow b.code (Some b.arg_slots) (probe_of b first) (twin_items b first form) h
+        (moved_row (lead_of b first form) (land_of b first form) h) }
 {}
 
 /// An unchanged body goes on where it should, at each of its instructions, and so do its exception rows.
@@ -117,15 +118,15 @@ pub fn each_emission_is_told()
 
 /// The wide form of a twin's code in the narrow layout is its code in the wide layout.
 pub fn each_wide_twin_is_wide()
-    ensures { (b : Body) (first : ℕ) (call : ℕ) → IsCode b.code
-        → widened (map (insn_of call b.arg_slots) (twin_items b first false)) ≡ map (insn_of call b.arg_slots) (twin_items b first true) }
+    ensures { (b : Body) (first : ℕ) (named : TwinPlaces) → IsCode b.code
+        → widened (map (insn_of named b.arg_slots) (twin_items b first narrow)) ≡ map (insn_of named b.arg_slots) (twin_items b first widest) }
 {}
 
 /// The frames of the narrow layout and the further ones, in the wide code, are the frames of a twin in the wide layout.
 pub fn each_wide_frame_is_told()
     ensures { (b : Body) (first : ℕ) (states : List State) (array : ℕ) (names : Names) → CanEmit b states names array
         → (frames : List FrameAt) → AreWidened (emission b first states array) frames
-        → AreFramesInLayout names states first b true frames }
+        → AreFramesInForm names states first b widest frames }
 {}
 
 /// Each well made body has a twin in the narrow layout, where the method that it calls has a place of its own in the pool.

@@ -1,5 +1,5 @@
 //! The code of an instrumented method, from what belongs to each instruction of the method.
-ghost use Rattle.std.specs.Prelude.{◌≡◌, ◌<◌, ◌≤◌, ◌+◌, ℕ, false, length, slice_index, IfOk, OnOk};
+ghost use Rattle.std.specs.Prelude.{◌≡◌, ◌<◌, ◌≤◌, ◌+◌, ℕ, length, slice_index, IfOk, OnOk};
 ghost use Rattle.jc_methods.specs.Flow.{flow_of};
 ghost use Rattle.jc_methods.specs.Insn.{IsWellFormed};
 ghost use Rattle.jc_methods.specs.InsnUse.{LeadsWithin};
@@ -11,7 +11,7 @@ ghost use Rattle.jc_plan.specs.Plan.{plan_of};
 ghost use Rattle.jc_emit.specs.Branching.{IsPushed, test_image};
 ghost use Rattle.jc_emit.specs.Items.{tests_part, image_part, segment, twin_items};
 ghost use Rattle.jc_emit.specs.Placing.{HasPlan, ArePlaces};
-ghost use Rattle.jc_emit.specs.Sizes.{insn_at};
+ghost use Rattle.jc_emit.specs.Sizes.{narrow, insn_at};
 ghost use Rattle.jc_emit.specs.Writing.{Grows, CanWrite};
 ghost use Rattle.jc_emit.specs.Written.{Shows};
 
@@ -75,7 +75,7 @@ fn put_test(
     requires within { LeadsWithin (length places.now.lands.items) jump.insn.now }
     requires pushed { IsPushed jump.late }
     ensures { (b : MethodBody) (first : ℕ) → ArePlaces b first places.now
-        → OnOk result (Grows slot written.old written.new (tests_part b first false at jump.entry.insn.now jump.entry.late)) }
+        → OnOk result (Grows slot written.old written.new (tests_part b first narrow at jump.entry.insn.now jump.entry.late)) }
 {
     written.put_image(test_image(alloc, places, at, jump)?, at)?;
     let to = jump_target(jump.insn);
@@ -99,7 +99,7 @@ fn put_switch(
     ensures table { length table.new ≡ length table.old }
     ensures code { (first : ℕ) → source.entry.plan.now ≡ plan_of source.entry.body.now first
         → OnOk result (Grows source.entry.body.now.arg_slots written.old written.new
-        (image_part source.entry.body.now first false at (insn_at source.entry.body.now.code at) flows.Switches)) }
+        (image_part source.entry.body.now first narrow at (insn_at source.entry.body.now.code at) flows.Switches)) }
 {
     let insn = &source.body.code[at];
     let ids = source.plan.out[at].as_slice();
@@ -143,7 +143,7 @@ fn put_main(
     ensures table { length table.new ≡ length table.old }
     ensures code { (first : ℕ) → source.entry.plan.now ≡ plan_of source.entry.body.now first
         → OnOk result (Grows source.entry.body.now.arg_slots written.old written.new
-        (image_part source.entry.body.now first false at (insn_at source.entry.body.now.code at) (flow_of (insn_at source.entry.body.now.code at)))) }
+        (image_part source.entry.body.now first narrow at (insn_at source.entry.body.now.code at) (flow_of (insn_at source.entry.body.now.code at)))) }
 {
     let insn = &source.body.code[at];
     match insn.flow() {
@@ -195,7 +195,7 @@ fn put_segment(
     requires table { length table.old ≡ length source.body.now.code + 1 }
     ensures table { length table.new ≡ length table.old }
     ensures code { (first : ℕ) → source.entry.plan.now ≡ plan_of source.entry.body.now first
-        → OnOk result (Grows source.entry.body.now.arg_slots written.old written.new (segment source.entry.body.now first false at)) }
+        → OnOk result (Grows source.entry.body.now.arg_slots written.old written.new (segment source.entry.body.now first narrow at)) }
 {
     written.put_front(source.body.arg_slots, source.plan.lead[at], at as u32)?;
     let early = early_id(source.body.code[at].flow(), source.plan.out[at].as_slice());
@@ -222,7 +222,7 @@ pub(crate) fn write_code(
     requires next { plan.now.next ≤ most_probes }
     requires places { (first : ℕ) → plan.now ≡ plan_of body.now first → ArePlaces body.now first places.now }
     ensures { (first : ℕ) → plan.now ≡ plan_of body.now first
-        → IfOk result (Shows body.now.arg_slots (twin_items body.now first false)) }
+        → IfOk result (Shows body.now.arg_slots (twin_items body.now first narrow)) }
 {
     let mut written = Written::with_room(alloc, places.count())?;
     written.put_prelude(body.arg_slots)?;

@@ -18,6 +18,7 @@ use Rattle.jc_body.specs.Attributes.{AreEntries, has_name, bodies_of as texts_of
 use Rattle.jc_body.specs.BodyOf.{BodyOf, lines_of, vars_in}
 use Rattle.jc_body.specs.CodeForm.{line_table, var_table}
 use Rattle.jc_frames.specs.FullTable.{HasPlace, named_by_all}
+use Rattle.jc_emit.specs.Sizes.{narrow}
 use Rattle.jc_emit.specs.Emission.{emission}
 use Rattle.jc_emit.specs.Items.{land_of}
 use Rattle.jc_emit.specs.TwinTables.{moved_line, moved_var}
@@ -99,7 +100,7 @@ module _ (names : Names) (c : ClassFile) (new : PoolValue) (extends : Extends c.
       let number = insn_number is.coded.starts in
       let count = length is.coded.insns in
       let attributes = is.coded.items.attributes in
-      let land = land_of b w.first false in
+      let land = land_of b w.first narrow in
       record {
         lines = subst (λ (ls : List LineAt). IsNamedAt new lines_name (map (moved_line land) ls) places.lines) (sym is.parts.lines)
             (table_named c.pool new extends lines_name places.lines (λ entries. map (moved_line land) (lines_of number count entries)) refl

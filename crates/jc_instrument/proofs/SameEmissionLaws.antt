@@ -26,9 +26,10 @@ use Rattle.jc_layout.specs.Layout.{is_wide, chosen_text}
 use Rattle.jc_layout.specs.Merged.{merged}
 use Rattle.jc_instrument_code.specs.CodeText.{code_text, counted_text, row_text}
 use Rattle.jc_instrument_code.specs.TwinCode.{code_attributes, offset_in, twin_code, written_frames}
+use Rattle.jc_emit.specs.Marks.{unplaced}
 use Rattle.jc_emit.specs.Emission.{IsArrayNumber, arm_frame, arm_frames, emission, frame, frame_if, frames_at, has_frame, has_inverse, is_further, moved_state, wide_frames_at}
 use Rattle.jc_emit.specs.Items.{at_of, extra_of, image_of, insn_of, land_of, lead_of, own_of}
-use Rattle.jc_emit.specs.Sizes.{arms_at, hop_size, insn_at, late_probe}
+use Rattle.jc_emit.specs.Sizes.{narrow, arms_at, hop_size, insn_at, late_probe}
 use Rattle.jc_emit.specs.TwinFrames.{left_by, no_state, operands_of, state_at, state_behind}
 use Rattle.jc_emit.specs.TwinTables.{moved_line, moved_row, moved_var}
 use Rattle.jc_emit.proofs.FrameLaws.{seen_moved}
@@ -58,7 +59,7 @@ bare_emission : (b : Body) (first : ℕ) (states : List State) (array : ℕ)
     → code_and_tables (emission b first states array) ≡ code_and_tables (emission (without_frames b) first [] 0)
 unfolding emission
 bare_emission b first states array = λ k. record {
-  code = map (insn_of 0 b.arg_slots) (same_items b first k);
+  code = map (insn_of unplaced b.arg_slots) (same_items b first k);
   at = map at_of (same_items b first k);
   own = map own_of (same_items b first k);
   extra = map extra_of (same_items b first k);
@@ -136,19 +137,19 @@ module _ (b : Body) (first : ℕ) (states : List State) (array i : ℕ) where
   leads_there = has_inverse b first states array i && is_some (lead_probe b first i)
 
   abbrev lead_frame : FrameAt
-  lead_frame = frame (lead_of b first false i) (moved (state_at states i))
+  lead_frame = frame (lead_of b first narrow i) (moved (state_at states i))
 
   abbrev lands_there : Bool
   lands_there = has_frame b first states array i || (has_inverse b first states array i && is_none (lead_probe b first i))
 
   abbrev land_frame : FrameAt
-  land_frame = frame (land_of b first false i) (moved (state_at states i))
+  land_frame = frame (land_of b first narrow i) (moved (state_at states i))
 
   abbrev left : State
   left = left_by (insn_at b.code i) (state_at states i)
 
   abbrev frames_of_arms : List FrameAt
-  frames_of_arms = arm_frames b first states array (image_of b first false i + 1) (moved left) (arms_at b.code i)
+  frames_of_arms = arm_frames b first states array (image_of b first narrow i + 1) (moved left) (arms_at b.code i)
 
   abbrev behind : State
   behind = state_behind b states i (late_probe b first i)
@@ -164,14 +165,14 @@ module _ (names others : Names) (a b : Body) (first : ℕ) (states more : List S
   codes_same : a.code ≡ b.code
   codes_same = ap (λ (x : Body). x.code) bare
 
-  leads_same : (i : ℕ) → lead_of a first false i ≡ lead_of b first false i
-  leads_same i = by_bare (λ x. lead_of x first false i) (λ x. same_lead_place x first i) a b bare
+  leads_same : (i : ℕ) → lead_of a first narrow i ≡ lead_of b first narrow i
+  leads_same i = by_bare (λ x. lead_of x first narrow i) (λ x. same_lead_place x first i) a b bare
 
-  lands_same : (i : ℕ) → land_of a first false i ≡ land_of b first false i
-  lands_same i = by_bare (λ x. land_of x first false i) (λ x. same_land x first i) a b bare
+  lands_same : (i : ℕ) → land_of a first narrow i ≡ land_of b first narrow i
+  lands_same i = by_bare (λ x. land_of x first narrow i) (λ x. same_land x first i) a b bare
 
-  images_same : (i : ℕ) → image_of a first false i ≡ image_of b first false i
-  images_same i = by_bare (λ x. image_of x first false i) (λ x. same_image x first i) a b bare
+  images_same : (i : ℕ) → image_of a first narrow i ≡ image_of b first narrow i
+  images_same i = by_bare (λ x. image_of x first narrow i) (λ x. same_image x first i) a b bare
 
   lead_probes_same : (i : ℕ) → lead_probe a first i ≡ lead_probe b first i
   lead_probes_same i = by_bare (λ x. lead_probe x first i) (λ x. same_lead x first i) a b bare
@@ -197,9 +198,9 @@ module _ (names others : Names) (a b : Body) (first : ℕ) (states more : List S
   moved_same : (s t : State) → type_state names s ≡ type_state others t
       → type_state names (moved_state a first states array s) ≡ type_state others (moved_state b first more other t)
   moved_same s t same =
-      seen_moved names a.arg_slots array (image_of a first false) s named
+      seen_moved names a.arg_slots array (image_of a first narrow) s named
       ∙ (λ k. shifted (λ i. images_same i k) ((bare k).arg_slots) (same k))
-      ∙ sym (seen_moved others b.arg_slots other (image_of b first false) t called)
+      ∙ sym (seen_moved others b.arg_slots other (image_of b first narrow) t called)
 
   -- a frame with such a state
   frame_same : (p q : ℕ) (s t : State) → p ≡ q → type_state names s ≡ type_state others t
@@ -233,9 +234,9 @@ module _ (names others : Names) (a b : Body) (first : ℕ) (states more : List S
 
   all_arms_same : (i : ℕ) → SayTheSame names others (frames_of_arms a first states array i) (frames_of_arms b first more other i)
   all_arms_same i =
-      ap (λ (code : List Insn). map (type_state_at names) (arm_frames a first states array (image_of a first false i + 1)
+      ap (λ (code : List Insn). map (type_state_at names) (arm_frames a first states array (image_of a first narrow i + 1)
       (moved a first states array i (left a first states array i)) (arms_at code i))) codes_same
-      ∙ arms_same (image_of a first false i + 1) (image_of b first false i + 1) (moved a first states array i (left a first states array i))
+      ∙ arms_same (image_of a first narrow i + 1) (image_of b first narrow i + 1) (moved a first states array i (left a first states array i))
       (moved b first more other i (left b first more other i)) (λ k. images_same i k + 1)
       (moved_same (left a first states array i) (left b first more other i) (left_same i)) (arms_at b.code i)
 
@@ -251,7 +252,7 @@ module _ (names others : Names) (a b : Body) (first : ℕ) (states more : List S
       (frame_if_same names others (leads_there a first states array i) (leads_there b first more other i)
       (lead_frame a first states array i) (lead_frame b first more other i)
       (λ k. inverses_same i k && is_some (lead_probes_same i k))
-      (frame_same (lead_of a first false i) (lead_of b first false i) (state_at states i) (state_at more i) (leads_same i) (all i)))
+      (frame_same (lead_of a first narrow i) (lead_of b first narrow i) (state_at states i) (state_at more i) (leads_same i) (all i)))
       (both_same names others
       (frame_if (lands_there a first states array i) (land_frame a first states array i))
       (frame_if (lands_there b first more other i) (land_frame b first more other i))
@@ -259,7 +260,7 @@ module _ (names others : Names) (a b : Body) (first : ℕ) (states more : List S
       (frame_if_same names others (lands_there a first states array i) (lands_there b first more other i)
       (land_frame a first states array i) (land_frame b first more other i)
       (λ k. has_frames_same i k || (inverses_same i k && is_none (lead_probes_same i k)))
-      (frame_same (land_of a first false i) (land_of b first false i) (state_at states i) (state_at more i) (lands_same i) (all i)))
+      (frame_same (land_of a first narrow i) (land_of b first narrow i) (state_at states i) (state_at more i) (lands_same i) (all i)))
       (all_arms_same i))
 
   further_same : (i : ℕ) (o : Option ℕ) (flow : Flow) → is_further a first states array i o flow ≡ is_further b first more other i o flow
@@ -291,9 +292,9 @@ module _ (names others : Names) (a b : Body) (first : ℕ) (states more : List S
   wide_frames_at_same : (i : ℕ) → SayTheSame names others (wide_frames_at a first states array i) (wide_frames_at b first more other i)
   wide_frames_at_same i =
       frame_if_same names others (goes_further a first states array i) (goes_further b first more other i)
-      (frame (image_of a first false i + 1) (moved a first states array i (behind a first states array i)))
-      (frame (image_of b first false i + 1) (moved b first more other i (behind b first more other i))) (all_further_same i)
-      (frame_same (image_of a first false i + 1) (image_of b first false i + 1) (behind a first states array i) (behind b first more other i)
+      (frame (image_of a first narrow i + 1) (moved a first states array i (behind a first states array i)))
+      (frame (image_of b first narrow i + 1) (moved b first more other i (behind b first more other i))) (all_further_same i)
+      (frame_same (image_of a first narrow i + 1) (image_of b first narrow i + 1) (behind a first states array i) (behind b first more other i)
       (λ k. images_same i k + 1) (behind_same i))
 
   -- ---- the whole

@@ -10,8 +10,9 @@ use Rattle.jc_methods.specs.declared.insn.Flow.TheVariants as flows
 use Rattle.jc_methods.specs.declared.insn.Insn.{Insn}
 use Rattle.jc_plan.specs.Probed.{position_of, id_if, probe_of}
 use Rattle.jc_plan.specs.declared.branch.Branch.{Branch}
+use Rattle.jc_emit.specs.Marks.{unplaced}
 use Rattle.jc_emit.specs.Items.{image, prelude, insn_of, lead_part, early_part, hop_part, arm_parts, test_part, segment_size, lead_of, land_of, image_of, tests_part, image_part, segment, twin_items}
-use Rattle.jc_emit.specs.Sizes.{insn_at, early_by, late_by, early_probe, late_probe, arms_at, arm_sizes, probe_size, hop_size, wide_size}
+use Rattle.jc_emit.specs.Sizes.{narrow, insn_at, early_by, late_by, early_probe, late_probe, arms_at, arm_sizes, probe_size, hop_size, wide_size}
 use Rattle.jc_emit.specs.TwinCode.{arm_place}
 use Rattle.jc_instrument.specs.RoomCauses.{probed_code}
 use Rattle.jc_instrument.specs.SameAnalysis.{without_frames}
@@ -34,32 +35,32 @@ module _ (b : Body) (first : ℕ) where
 
   -- ---- places
 
-  same_size : (i : ℕ) → segment_size b first false i ≡ segment_size bare first false i
+  same_size : (i : ℕ) → segment_size b first narrow i ≡ segment_size bare first narrow i
   same_size i = λ k. probe_size (same_lead b first i k)
       + (probe_size (same_early i k)
-      + (1 + (wide_size b false i + hop_size (same_late i k) + arm_sizes (λ x. same_probe x k) (arms_at b.code i))))
+      + (1 + (wide_size b narrow i + hop_size (same_late i k) + arm_sizes (λ x. same_probe x k) (arms_at b.code i))))
 
-  pub same_lead_place : (i : ℕ) → lead_of b first false i ≡ lead_of bare first false i
+  pub same_lead_place : (i : ℕ) → lead_of b first narrow i ≡ lead_of bare first narrow i
   same_lead_place i = λ k. 2 + total (λ j. same_size j k) i
 
-  pub same_land : (i : ℕ) → land_of b first false i ≡ land_of bare first false i
+  pub same_land : (i : ℕ) → land_of b first narrow i ≡ land_of bare first narrow i
   same_land i = λ k. same_lead_place i k + probe_size (same_lead b first i k)
 
-  pub same_image : (i : ℕ) → image_of b first false i ≡ image_of bare first false i
+  pub same_image : (i : ℕ) → image_of b first narrow i ≡ image_of bare first narrow i
   same_image i = λ k. same_land i k + probe_size (same_early i k)
 
   -- ---- instructions
 
-  same_tests : (i : ℕ) (insn : Insn) (o : Option ℕ) → tests_part b first false i insn o ≡ tests_part bare first false i insn o
+  same_tests : (i : ℕ) (insn : Insn) (o : Option ℕ) → tests_part b first narrow i insn o ≡ tests_part bare first narrow i insn o
   same_tests i insn None = λ k. test_part false (same_image i k) (with_places (λ j. same_land j k) insn) i (jump_target insn) None
   same_tests i insn (Some id) = λ k.
       test_part false (same_image i k) (inverted (same_lead_place (i + 1) k) insn) i (i + 1) (same_lead b first (i + 1) k)
       ++ hop_part (λ j. same_land j k) (Some id) (jump_target insn)
 
-  same_part : (i : ℕ) (insn : Insn) (flow : Flow) → image_part b first false i insn flow ≡ image_part bare first false i insn flow
+  same_part : (i : ℕ) (insn : Insn) (flow : Flow) → image_part b first narrow i insn flow ≡ image_part bare first narrow i insn flow
   same_part i insn flows.GoesOn = refl
   same_part i insn flows.Branches =
-      same_tests i insn (late_probe b first i) ∙ (λ k. tests_part bare first false i insn (same_late i k))
+      same_tests i insn (late_probe b first i) ∙ (λ k. tests_part bare first narrow i insn (same_late i k))
   same_part i insn flows.Jumps = λ k. image (with_places (λ j. same_land j k) insn) i (same_early i k) ∷ []
   same_part i insn flows.Switches = λ k.
       image (with_places (arm_place (λ x. same_probe x k) (λ j. same_land j k) (same_image i k + 1) (arms_at b.code i)) insn) i None
@@ -67,13 +68,13 @@ module _ (b : Body) (first : ℕ) where
   same_part i insn flows.Returns = λ k. image insn i (same_early i k) ∷ []
   same_part i insn flows.Throws = λ k. image insn i (same_early i k) ∷ []
 
-  same_segment : (i : ℕ) → segment b first false i ≡ segment bare first false i
+  same_segment : (i : ℕ) → segment b first narrow i ≡ segment bare first narrow i
   same_segment i = λ k. lead_part (same_lead b first i k) i
       ++ (early_part (same_early i k) i ++ same_part i (insn_at b.code i) (flow_of (insn_at b.code i)) k)
 
-  pub same_items : twin_items b first false ≡ twin_items bare first false
+  pub same_items : twin_items b first narrow ≡ twin_items bare first narrow
   unfolding twin_items
   same_items = λ k. prelude ++ pieces (λ i. same_segment i k) (length b.code)
 
   pub same_code : probed_code b first ≡ probed_code bare first
-  same_code = λ k. map (insn_of 0 b.arg_slots) (same_items k)
+  same_code = λ k. map (insn_of unplaced b.arg_slots) (same_items k)

@@ -30,8 +30,9 @@ use Rattle.jc_plan.specs.declared.branch.Branch.{Branch}
 use Rattle.jc_plan.specs.Probed.{probe_of}
 use Rattle.jc_plan.specs.Plan.{lead_probe}
 use Rattle.jc_plan.proofs.CountLaws.{each_joined, each_mapped}
+use Rattle.jc_emit.specs.Marks.{unplaced}
 use Rattle.jc_emit.specs.Shift.{image_kind, probe_array_class, shifted_state}
-use Rattle.jc_emit.specs.Sizes.{insn_at, late_probe, arms_at, hop_size, arm_sizes}
+use Rattle.jc_emit.specs.Sizes.{narrow, insn_at, late_probe, arms_at, hop_size, arm_sizes}
 use Rattle.jc_emit.specs.TwinFrames.{no_state, operands_of, state_at, left_by, state_behind}
 use Rattle.jc_emit.specs.Items.{insn_of, lead_of, land_of, image_of, segment_size, twin_items}
 use Rattle.jc_emit.specs.Emission.{emission, IsArrayNumber, frame, frame_if, moved_state, has_frame, has_inverse, is_further, arm_frame, arm_frames, frames_at, wide_frames_at}
@@ -182,13 +183,13 @@ record IsDone (end names : ℕ) (f : FrameAt) : Type 0 where
 module _ (b : Body) (first : ℕ) (states : List State) (array : ℕ) (names : Names) (are : AreStates names b states) (array_is : IsArrayNumber names array)
     (locals : b.max_locals + 1 ≤ 65535) (stack : b.max_stack ≤ 65535) where
   abbrev lead : ℕ → ℕ
-  lead i = lead_of b first false i
+  lead i = lead_of b first narrow i
 
   abbrev land : ℕ → ℕ
-  land i = land_of b first false i
+  land i = land_of b first narrow i
 
   abbrev q_of : ℕ → ℕ
-  q_of i = image_of b first false i
+  q_of i = image_of b first narrow i
 
   abbrev end : ℕ
   end = lead (length b.code)
@@ -203,7 +204,7 @@ module _ (b : Body) (first : ℕ) (states : List State) (array : ℕ) (names : N
   Source s = IsSource b.code (length names) s
 
   lead_grows : (i j : ℕ) → i ≤ j → lead i ≤ lead j
-  lead_grows i j le = omega (arith, total_grows (segment_size b first false) i j le)
+  lead_grows i j le = omega (arith, total_grows (segment_size b first narrow) i j le)
 
   image_within : (i : ℕ) → i < length b.code → q_of i < end
   image_within i lt = let g = lead_grows (suc i) (length b.code) (omega (arith, lt)) in omega (arith, g)
@@ -369,7 +370,7 @@ module _ (names : Names) (b : Body) (first : ℕ) (states : List State) (array :
   few_stack = let m = told.max_stack in omega (arith, m, stack)
 
   abbrev last : ℕ
-  last = lead_of b first false (length b.code)
+  last = lead_of b first narrow (length b.code)
 
   abbrev IsFine : FrameAt → Type 0
   IsFine f = IsDone last (length names) f
@@ -395,7 +396,7 @@ module _ (names : Names) (b : Body) (first : ℕ) (states : List State) (array :
   code_count : length e.code ≡ last
   code_count =
       ap (λ (c : List Insn). length c) (emission_code b first states array)
-      ∙ length-map (twin_items b first false) (insn_of 0 b.arg_slots) ∙ length_twin b first false
+      ∙ length-map (twin_items b first narrow) (insn_of unplaced b.arg_slots) ∙ length_twin b first narrow
 
   all_done : AllByRecursion IsFine (chosen_frames e)
   all_done = all_listed IsFine (chosen_frames e) (chosen_done (is_wide e.code))

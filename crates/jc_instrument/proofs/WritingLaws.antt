@@ -1,5 +1,5 @@
 -- What is written of one body is its work's, whatever the names with which it was read.
-use Rattle.std.proofs.Common.{◌≡◌, ℕ, ◌≤◌, false, List, [], ◌∷◌, length, map, sym, ◌∙◌, ap, subst, arith}
+use Rattle.std.proofs.Common.{◌≡◌, ℕ, ◌≤◌, List, [], ◌∷◌, length, map, sym, ◌∙◌, ap, subst, arith}
 use Rattle.std.specs.List.{AllByRecursion}
 use Rattle.std.proofs.lemmas.List.{length-map}
 use Rattle.jc_methods.specs.VerificationTypes.{AreNumberedFrames, Grows, Names, TypeStateAt, type_state_at}
@@ -15,6 +15,7 @@ use Rattle.jc_pool.specs.declared.add.PoolFull.{PoolFull}
 use Rattle.jc_frames.specs.FullTable.{CanBeWritten, FitsFull, RefusesClasses, TakesClasses, named_by_all}
 use Rattle.jc_frames.proofs.TakenLaws.{all_stand}
 use Rattle.jc_plan.specs.Plan.{plan_of}
+use Rattle.jc_emit.specs.Sizes.{narrow}
 use Rattle.jc_emit.specs.Emission.{emission}
 use Rattle.jc_emit.specs.Items.{land_of, lead_of}
 use Rattle.jc_emit.specs.TwinTables.{moved_row}
@@ -73,7 +74,7 @@ few_bytes names r ready = (ready.laid ready.plan.0 [] 0 ready.plan.1).few
 pub few_rows : (r : ReadyBody) (first : ℕ) (tables : MovedTables) → length r.body.handlers ≤ 65535 → tables ≡ moved_tables r.body first
     → length tables.handlers ≤ 65535
 few_rows r first tables few is =
-    let same = ap (λ (t : MovedTables). length t.handlers) is ∙ length-map r.body.handlers (moved_row (lead_of r.body first false) (land_of r.body first false)) in
+    let same = ap (λ (t : MovedTables). length t.handlers) is ∙ length-map r.body.handlers (moved_row (lead_of r.body first narrow) (land_of r.body first narrow)) in
     omega (arith, same, few)
 
 pub can_be_written : (now : Names) (r : ReadyBody) → IsReady now r → (frames : List FrameAt) (first : ℕ) → r.plan ≡ plan_of r.body first

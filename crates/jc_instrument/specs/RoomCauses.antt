@@ -1,5 +1,5 @@
 -- Why there is no room in a class for its probes.
-use Rattle.std.specs.Prelude.{◌≡◌, ◌⊎◌, ℕ, ◌+◌, ◌<◌, false, List, [], ◌∷◌, ◌++◌, length, map, Some, slice_get}
+use Rattle.std.specs.Prelude.{◌≡◌, ◌⊎◌, ℕ, ◌+◌, ◌<◌, List, [], ◌∷◌, ◌++◌, length, map, Some, slice_get}
 use Rattle.jc_methods.specs.ProbeMembers.{most_probes}
 use Rattle.jc_methods.specs.VerificationTypes.{Names}
 use Rattle.jc_methods.specs.declared.body.Body.{Body}
@@ -9,6 +9,8 @@ use Rattle.jc_bytes.specs.declared.refusal.RefusalKind.TheVariants as kinds
 use Rattle.jc_pool.specs.Pool.{PoolValue}
 use Rattle.jc_class.specs.declared.class_file.ClassFile.{ClassFile}
 use Rattle.jc_plan.specs.Probed.{first_id}
+use Rattle.jc_emit.specs.Marks.{unplaced}
+use Rattle.jc_emit.specs.Sizes.{narrow}
 use Rattle.jc_emit.specs.Items.{insn_of, twin_items}
 use Rattle.jc_emit.specs.Straddling.{IsFirstStraddling}
 use Rattle.jc_layout.specs.Layout.{chosen_length}
@@ -65,7 +67,7 @@ HasFullStack c = InMethod kinds.StackFull (FillsStack c)
 -- The instrumented code of a body whose first id is this one. The place of the method that the prelude calls is 0 here: it takes
 -- two bytes, whatever it is.
 abbrev pub probed_code : Body → (first : ℕ) → List Insn
-probed_code body first = map (insn_of 0 body.arg_slots) (twin_items body first false)
+probed_code body first = map (insn_of unplaced body.arg_slots) (twin_items body first narrow)
 
 -- the layout that is chosen for the instrumented code of the method with this number has so many bytes, more than 65,535
 pub record IsTooLarge (c : ClassFile) (number place : ℕ) : Type 0 where

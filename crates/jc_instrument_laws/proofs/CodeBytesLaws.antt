@@ -38,8 +38,8 @@ use Rattle.jc_plan.specs.Plan.{lead_probe}
 use Rattle.jc_plan.specs.Probed.{probe_of}
 use Rattle.jc_plan.specs.declared.branch.Branch.{Branch}
 use Rattle.jc_emit.specs.Items.{Item, insn_of, lead_part, early_part, hop_part, arm_parts, tests_part, image_part, lead_of, land_of, segment, twin_items}
-use Rattle.jc_emit.specs.Marks.{push}
-use Rattle.jc_emit.specs.Sizes.{insn_at, early_probe, late_probe, arms_at}
+use Rattle.jc_emit.specs.Marks.{unplaced, push}
+use Rattle.jc_emit.specs.Sizes.{narrow, insn_at, early_probe, late_probe, arms_at}
 use Rattle.jc_emit.specs.TwinCode.{to_of}
 use Rattle.jc_layout.specs.LaidBody.{with_place}
 use Rattle.jc_layout.specs.Layout.{is_wide, chosen_starts, chosen_text}
@@ -220,7 +220,7 @@ push_byte n = by (nat_le n 5) (nat_le n 127) _ _ _ tt tt tt
 
 module _ (b : Body) (first : ℕ) (small : AllByRecursion HasByte b.code) where
   abbrev ItemByte : Item → Type 0
-  ItemByte x = HasByte (insn_of 0 b.arg_slots x)
+  ItemByte x = HasByte (insn_of unplaced b.arg_slots x)
 
   abbrev AllItems : List Item → Type 0
   AllItems xs = AllByRecursion ItemByte xs
@@ -247,34 +247,34 @@ module _ (b : Body) (first : ℕ) (small : AllByRecursion HasByte b.code) where
   arms_byte land (x ∷ xs) = each_joined ItemByte (hop_part land (probe_of b first x) (to_of x)) (arm_parts land (probe_of b first) xs)
       (hop_byte land (probe_of b first x) (to_of x)) (arms_byte land xs)
 
-  tests_byte : (i : ℕ) (insn : Insn) (o : Option ℕ) → HasByte insn → AllItems (tests_part b first false i insn o)
-  tests_byte i insn None h = (places_byte (land_of b first false) insn h, tt)
+  tests_byte : (i : ℕ) (insn : Insn) (o : Option ℕ) → HasByte insn → AllItems (tests_part b first narrow i insn o)
+  tests_byte i insn None h = (places_byte (land_of b first narrow) insn h, tt)
   tests_byte i insn (Some id) h =
-      (inverted_byte (lead_of b first false (i + 1)) insn h, hop_byte (land_of b first false) (Some id) (jump_target insn))
+      (inverted_byte (lead_of b first narrow (i + 1)) insn h, hop_byte (land_of b first narrow) (Some id) (jump_target insn))
 
-  image_byte : (i : ℕ) (insn : Insn) (flow : Flow) → HasByte insn → AllItems (image_part b first false i insn flow)
+  image_byte : (i : ℕ) (insn : Insn) (flow : Flow) → HasByte insn → AllItems (image_part b first narrow i insn flow)
   image_byte i insn flows.GoesOn h = (slot_byte b.arg_slots insn h, tt)
   image_byte i insn flows.Branches h = tests_byte i insn (late_probe b first i) h
-  image_byte i insn flows.Jumps h = (places_byte (land_of b first false) insn h, tt)
-  image_byte i insn flows.Switches h = (places_byte _ insn h, arms_byte (land_of b first false) (arms_at b.code i))
+  image_byte i insn flows.Jumps h = (places_byte (land_of b first narrow) insn h, tt)
+  image_byte i insn flows.Switches h = (places_byte _ insn h, arms_byte (land_of b first narrow) (arms_at b.code i))
   image_byte i insn flows.Returns h = (h, tt)
   image_byte i insn flows.Throws h = (h, tt)
 
-  segment_byte : (i : ℕ) → AllItems (segment b first false i)
+  segment_byte : (i : ℕ) → AllItems (segment b first narrow i)
   segment_byte i =
       each_joined ItemByte (lead_part (lead_probe b first i) i) _ (lead_byte (lead_probe b first i) i)
       (each_joined ItemByte (early_part (early_probe b first i) i) _ (early_byte (early_probe b first i) i)
       (image_byte i (insn_at b.code i) (flow_of (insn_at b.code i)) (at_byte b.code small i)))
 
-  pieces_byte : (n : ℕ) → AllItems (pieces (segment b first false) n)
+  pieces_byte : (n : ℕ) → AllItems (pieces (segment b first narrow) n)
   pieces_byte zero = tt
-  pieces_byte (suc n) = each_joined ItemByte (pieces (segment b first false) n) (segment b first false n) (pieces_byte n) (segment_byte n)
+  pieces_byte (suc n) = each_joined ItemByte (pieces (segment b first narrow) n) (segment b first narrow n) (pieces_byte n) (segment_byte n)
 
-  items_byte : AllItems (twin_items b first false)
+  items_byte : AllItems (twin_items b first narrow)
   unfolding twin_items
   items_byte = (tt, (tt, pieces_byte (length b.code)))
 
-  mapped_byte : (xs : List Item) → AllItems xs → AllByRecursion HasByte (map (insn_of 0 b.arg_slots) xs)
+  mapped_byte : (xs : List Item) → AllItems xs → AllByRecursion HasByte (map (insn_of unplaced b.arg_slots) xs)
   mapped_byte [] all = tt
   mapped_byte (x ∷ xs) all = (all.0, mapped_byte xs all.1)
 
@@ -283,7 +283,7 @@ module _ (b : Body) (first : ℕ) (small : AllByRecursion HasByte b.code) where
   text_are made =
       let code = probed_code b first in
       code_are (slice_index (chosen_starts code)) (is_wide code) code (chosen_starts code)
-      (recursion_from_All IsWellFormed code (all_formed b first made.code)) (mapped_byte (twin_items b first false) items_byte)
+      (recursion_from_All IsWellFormed code (all_formed b first made.code)) (mapped_byte (twin_items b first narrow) items_byte)
 
 -- ---- the code that was read
 

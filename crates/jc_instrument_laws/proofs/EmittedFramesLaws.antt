@@ -14,7 +14,7 @@ use Rattle.jc_plan.specs.Plan.{lead_probe}
 use Rattle.jc_plan.specs.Probed.{probe_of}
 use Rattle.jc_emit.specs.Emission.{emission, frame, frame_if, moved_state, has_frame, has_inverse, is_further, arm_frame, arm_frames, frames_at, wide_frames_at}
 use Rattle.jc_emit.specs.Items.{lead_of, land_of, image_of}
-use Rattle.jc_emit.specs.Sizes.{insn_at, late_probe, arms_at, arm_sizes, hop_size}
+use Rattle.jc_emit.specs.Sizes.{narrow, insn_at, late_probe, arms_at, arm_sizes, hop_size}
 use Rattle.jc_emit.specs.TwinFrames.{state_at, left_by, state_behind}
 use Rattle.jc_emit.proofs.FrameListsLaws.{in_piece, if_listed}
 use Rattle.jc_layout.specs.Layout.{is_wide}
@@ -68,31 +68,31 @@ module _ (b : Body) (first : ℕ) (states : List State) (array : ℕ) where
 
   abbrev lead_frames : ℕ → List FrameAt
   lead_frames i =
-      frame_if (has_inverse b first states array i && is_some (lead_probe b first i)) (frame (lead_of b first false i) (moved (state_at states i)))
+      frame_if (has_inverse b first states array i && is_some (lead_probe b first i)) (frame (lead_of b first narrow i) (moved (state_at states i)))
 
   abbrev land_frames : ℕ → List FrameAt
   land_frames i =
       frame_if (has_frame b first states array i || (has_inverse b first states array i && is_none (lead_probe b first i)))
-      (frame (land_of b first false i) (moved (state_at states i)))
+      (frame (land_of b first narrow i) (moved (state_at states i)))
 
   abbrev switch_frames : ℕ → List FrameAt
   switch_frames i =
-      arm_frames b first states array (image_of b first false i + 1) (moved (left_by (insn_at b.code i) (state_at states i))) (arms_at b.code i)
+      arm_frames b first states array (image_of b first narrow i + 1) (moved (left_by (insn_at b.code i) (state_at states i))) (arms_at b.code i)
 
-  abbrev narrow : List FrameAt
-  narrow = pieces (frames_at b first states array) (length b.code)
+  abbrev narrow_frames : List FrameAt
+  narrow_frames = pieces (frames_at b first states array) (length b.code)
 
   abbrev further : List FrameAt
   further = pieces (wide_frames_at b first states array) (length b.code)
 
-  narrow_moved : (f : FrameAt) → Contains narrow f → IsMoved f
+  narrow_moved : (f : FrameAt) → Contains narrow_frames f → IsMoved f
   narrow_moved f c =
       let p = in_piece (frames_at b first states array) (length b.code) f c in
       let i = p.piece in
-      ⊎_elim (λ front. one_moved _ (lead_of b first false i) (state_at states i) f (before i) front)
+      ⊎_elim (λ front. one_moved _ (lead_of b first narrow i) (state_at states i) f (before i) front)
       (λ rest.
-      ⊎_elim (λ middle. one_moved _ (land_of b first false i) (state_at states i) f (before i) middle)
-      (λ last. arms_moved (image_of b first false i + 1) (left_by (insn_at b.code i) (state_at states i)) (arms_at b.code i) (left i) f last)
+      ⊎_elim (λ middle. one_moved _ (land_of b first narrow i) (state_at states i) f (before i) middle)
+      (λ last. arms_moved (image_of b first narrow i + 1) (left_by (insn_at b.code i) (state_at states i)) (arms_at b.code i) (left i) f last)
       (Contains-append_cases (land_frames i) (switch_frames i) f rest))
       (Contains-append_cases (lead_frames i) _ f p.listed)
 
@@ -100,12 +100,12 @@ module _ (b : Body) (first : ℕ) (states : List State) (array : ℕ) where
   further_moved f c =
       let p = in_piece (wide_frames_at b first states array) (length b.code) f c in
       let i = p.piece in
-      one_moved (is_further b first states array i (late_probe b first i) (flow_of (insn_at b.code i))) (image_of b first false i + 1)
+      one_moved (is_further b first states array i (late_probe b first i) (flow_of (insn_at b.code i))) (image_of b first narrow i + 1)
       (state_behind b states i (late_probe b first i)) f (behind i (late_probe b first i)) p.listed
 
-  chosen_moved : (t : Bool) (f : FrameAt) → Contains (if t then merged narrow further else narrow) f → IsMoved f
+  chosen_moved : (t : Bool) (f : FrameAt) → Contains (if t then merged narrow_frames further else narrow_frames) f → IsMoved f
   chosen_moved false f c = narrow_moved f c
-  chosen_moved true f c = ⊎_elim (λ old. narrow_moved f old) (λ more. further_moved f more) (merged_cases narrow further f c)
+  chosen_moved true f c = ⊎_elim (λ old. narrow_moved f old) (λ more. further_moved f more) (merged_cases narrow_frames further f c)
 
   -- each frame that is written has a moved state
   pub each_moved : (f : FrameAt) → Contains (chosen_frames (emission b first states array)) f → IsMoved f
@@ -130,10 +130,10 @@ module _ (b : Body) (first : ℕ) (states : List State) (array : ℕ) where
 
   frames_most : (i : ℕ) → 5 * length (frames_at b first states array i) ≤ 10 + arms_size b first i
   frames_most i =
-      let lead = if_most (has_inverse b first states array i && is_some (lead_probe b first i)) (frame (lead_of b first false i) (moved (state_at states i))) in
+      let lead = if_most (has_inverse b first states array i && is_some (lead_probe b first i)) (frame (lead_of b first narrow i) (moved (state_at states i))) in
       let land = if_most (has_frame b first states array i || (has_inverse b first states array i && is_none (lead_probe b first i)))
-      (frame (land_of b first false i) (moved (state_at states i))) in
-      let arms = arms_count (image_of b first false i + 1) (moved (left_by (insn_at b.code i) (state_at states i))) (arms_at b.code i) in
+      (frame (land_of b first narrow i) (moved (state_at states i))) in
+      let arms = arms_count (image_of b first narrow i + 1) (moved (left_by (insn_at b.code i) (state_at states i))) (arms_at b.code i) in
       let both = length-append (lead_frames i) (land_frames i ++ switch_frames i) in
       let more = length-append (land_frames i) (switch_frames i) in
       omega (arith, lead, land, arms, both, more)
@@ -151,7 +151,7 @@ module _ (b : Body) (first : ℕ) (states : List State) (array : ℕ) where
   further_most (suc n) =
       let rest = further_most n in
       let one = if_most (is_further b first states array n (late_probe b first n) (flow_of (insn_at b.code n)))
-      (frame (image_of b first false n + 1) (moved (state_behind b states n (late_probe b first n)))) in
+      (frame (image_of b first narrow n + 1) (moved (state_behind b states n (late_probe b first n)))) in
       let both = length-append (pieces (wide_frames_at b first states array) n) (wide_frames_at b first states array n) in
       omega (arith, rest, one, both)
 
@@ -170,12 +170,12 @@ module _ (b : Body) (first : ℕ) (states : List State) (array : ℕ) where
       let one = with_count g (merged fs gs) in
       omega (arith, rest, one)
 
-  chosen_most : (t : Bool) → 5 * length (if t then merged narrow further else narrow) ≤ 15 * length b.code + total (arms_size b first) (length b.code)
+  chosen_most : (t : Bool) → 5 * length (if t then merged narrow_frames further else narrow_frames) ≤ 15 * length b.code + total (arms_size b first) (length b.code)
   chosen_most false = let most = narrow_most (length b.code) in omega (arith, most)
   chosen_most true =
       let most = narrow_most (length b.code) in
       let more = further_most (length b.code) in
-      let both = merged_count narrow further in
+      let both = merged_count narrow_frames further in
       omega (arith, most, more, both)
 
   pub written_most : 5 * length (chosen_frames (emission b first states array)) ≤ 15 * length b.code + total (arms_size b first) (length b.code)

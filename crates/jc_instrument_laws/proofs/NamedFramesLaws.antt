@@ -1,5 +1,5 @@
 -- The classes that the frames of instrumented code name have names that a pool can take, and how many values frames have.
-use Rattle.std.proofs.Common.{◌≡◌, ◌⊎◌, inl, inr, ℕ, ◌+◌, ◌-◌, ◌<◌, ◌≤◌, false, List, [], ◌∷◌, ◌++◌, length, map, get_or, sym, ◌∙◌, ap, subst, arith}
+use Rattle.std.proofs.Common.{◌≡◌, ◌⊎◌, inl, inr, ℕ, ◌+◌, ◌-◌, ◌<◌, ◌≤◌, List, [], ◌∷◌, ◌++◌, length, map, get_or, sym, ◌∙◌, ap, subst, arith}
 use Rattle.std.specs.Prelude.{Contains, insert}
 use Rattle.std.specs.List.{AllByRecursion}
 use Rattle.std.proofs.lemmas.Bool.{cases_lt}
@@ -19,7 +19,7 @@ use Rattle.jc_kinds.specs.Answers.{AreStates}
 use Rattle.jc_emit.specs.Emission.{emission}
 use Rattle.jc_emit.specs.Items.{image_of}
 use Rattle.jc_emit.specs.Shift.{image_kind, probe_array_class}
-use Rattle.jc_emit.specs.Sizes.{insn_at}
+use Rattle.jc_emit.specs.Sizes.{narrow, insn_at}
 use Rattle.jc_emit.specs.TwinFrames.{no_state, state_at, operands_of}
 use Rattle.jc_instrument_code.specs.TwinCode.{chosen_frames, written_frames}
 use Rattle.jc_instrument_laws.proofs.EmittedFramesLaws.{IsOf, IsMoved, each_moved}
@@ -102,7 +102,7 @@ module _ (names : Names) (b : Body) (made : IsWellMadeOfAnySize b) (texts : HasT
   small_frame f moved =
       let s = moved.state in
       let is = small s moved.of in
-      let place = image_of b first false in
+      let place = image_of b first narrow in
       let images = map (image_kind place) s.locals in
       let locals_is : f.state.locals ≡ insert images b.arg_slots (kinds.Object array) = ap (λ (t : State). t.locals) moved.is in
       let stack_is : f.state.stack ≡ map (image_kind place) s.stack = ap (λ (t : State). t.stack) moved.is in

@@ -1,5 +1,5 @@
 -- The text of an instrumented Code attribute is no longer than an attribute may be.
-use Rattle.std.proofs.Common.{◌≡◌, ℕ, ◌+◌, ◌*◌, ◌-◌, ◌≤◌, false, List, [], ◌∷◌, ◌++◌, length, map, sym, ◌∙◌, ap, subst, arith, length-append}
+use Rattle.std.proofs.Common.{◌≡◌, ℕ, ◌+◌, ◌*◌, ◌-◌, ◌≤◌, List, [], ◌∷◌, ◌++◌, length, map, sym, ◌∙◌, ap, subst, arith, length-append}
 use Rattle.std.specs.List.{flat_map, AllByRecursion}
 use Rattle.std.proofs.Math.Nat.{add-mul, mul-add, mul_assoc, mul_comm, mul-le-mul, mul-le-mul_right}
 use Rattle.std.proofs.lemmas.Grind.{flat_map-append}
@@ -19,6 +19,7 @@ use Rattle.jc_class.specs.declared.class_file.Attribute.{Attribute}
 use Rattle.jc_frames.specs.FullFrames as full
 use Rattle.jc_insn.proofs.ReadBackLaws.{short_size, word_size}
 use Rattle.jc_pool.specs.Pool.{PoolValue}
+use Rattle.jc_emit.specs.Sizes.{narrow}
 use Rattle.jc_emit.specs.Emission.{emission}
 use Rattle.jc_emit.specs.Items.{lead_of, land_of}
 use Rattle.jc_emit.specs.TwinTables.{moved_row, moved_line, moved_var}
@@ -136,32 +137,32 @@ module _ (names : Names) (b : Body) (first : ℕ) (states : List State) (array :
   rows_few : length (counted_text (row_text (offset_in e)) e.handlers) ≤ 67110000
   unfolding emission
   rows_few =
-      let rows = map (moved_row (lead_of b first false) (land_of b first false)) b.handlers in
+      let rows = map (moved_row (lead_of b first narrow) (land_of b first narrow)) b.handlers in
       let text = row_text (offset_in e) in
       let all = counted_count 0 text rows in
       let size = sized_most 0 text 8 (row_count (offset_in e)) rows in
-      let same = length-map b.handlers (moved_row (lead_of b first false) (land_of b first false)) in
+      let same = length-map b.handlers (moved_row (lead_of b first narrow) (land_of b first narrow)) in
       omega (arith, all, size, same, handlers)
 
   lines_few : (name : ℕ) (offset : ℕ → ℕ) → length (flat_map attribute_text (table_attributes name (line_text offset) e.lines)) ≤ 67120000
   unfolding emission
   lines_few name offset =
-      let same = length-map b.lines (moved_line (land_of b first false)) in
-      table_few name 4 (line_text offset) (line_count offset) (map (moved_line (land_of b first false)) b.lines) (omega (arith, same, lines))
+      let same = length-map b.lines (moved_line (land_of b first narrow)) in
+      table_few name 4 (line_text offset) (line_count offset) (map (moved_line (land_of b first narrow)) b.lines) (omega (arith, same, lines))
       (omega (arith, same, lines))
 
   vars_few : (name : ℕ) (offset : ℕ → ℕ) → length (flat_map attribute_text (table_attributes name (var_text offset) e.vars)) ≤ 67120000
   unfolding emission
   vars_few name offset =
-      let same = length-map b.vars (moved_var b.arg_slots (land_of b first false)) in
-      table_few name 10 (var_text offset) (var_count offset) (map (moved_var b.arg_slots (land_of b first false)) b.vars) (omega (arith, same, vars))
+      let same = length-map b.vars (moved_var b.arg_slots (land_of b first narrow)) in
+      table_few name 10 (var_text offset) (var_count offset) (map (moved_var b.arg_slots (land_of b first narrow)) b.vars) (omega (arith, same, vars))
       (omega (arith, same, vars))
 
   kind_vars_few : (name : ℕ) (offset : ℕ → ℕ) → length (flat_map attribute_text (table_attributes name (var_text offset) e.kind_vars)) ≤ 67120000
   unfolding emission
   kind_vars_few name offset =
-      let same = length-map b.kind_vars (moved_var b.arg_slots (land_of b first false)) in
-      table_few name 10 (var_text offset) (var_count offset) (map (moved_var b.arg_slots (land_of b first false)) b.kind_vars) (omega (arith, same, kind_vars))
+      let same = length-map b.kind_vars (moved_var b.arg_slots (land_of b first narrow)) in
+      table_few name 10 (var_text offset) (var_count offset) (map (moved_var b.arg_slots (land_of b first narrow)) b.kind_vars) (omega (arith, same, kind_vars))
       (omega (arith, same, kind_vars))
 
   module _ (pool : PoolValue) (method frames_name : ℕ) where

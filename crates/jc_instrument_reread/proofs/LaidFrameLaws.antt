@@ -25,6 +25,8 @@ use Rattle.jc_frames.specs.FullTable.{HasPlace, named_by_all, FitsFull}
 use Rattle.jc_insn.specs.Layouts.{laid_code}
 use Rattle.jc_kinds.specs.Answers.{AreStates}
 use Rattle.jc_kinds_after.specs.Shift.{shifted}
+use Rattle.jc_emit.specs.Marks.{giver_at}
+use Rattle.jc_emit.specs.Sizes.{layout_form}
 use Rattle.jc_emit.specs.Emission.{emission, widened_frame, HasFrameStates, IsArrayNumber}
 use Rattle.jc_emit.specs.Items.{insn_of, image_of, twin_items}
 use Rattle.jc_emit.specs.Shift.{image_kind}
@@ -112,33 +114,35 @@ module _ (names : Names) (b : Body) (first : ℕ) (states : List State) (array :
 
   -- the code of the layout
   pub insns_are : (wide : Bool) (call : ℕ)
-      → with_call call (laid_code wide (emission b first states array).code) ≡ map (insn_of call b.arg_slots) (twin_items b first wide)
+      → with_call call (laid_code wide (emission b first states array).code) ≡ map (insn_of (giver_at call) b.arg_slots) (twin_items b first (layout_form wide))
   unfolding emission
-  insns_are wide call = ap (with_call call) (laid_is b first wide well.code) ∙ called b first wide call
+  insns_are wide call = ap (with_call call) (laid_is b first wide well.code) ∙ called b first (layout_form wide) call
 
-  module _ (wide : Bool) (call : ℕ) (g : Ground) (code_is : g.code ≡ map (insn_of call b.arg_slots) (twin_items b first wide))
+  module _ (wide : Bool) (call : ℕ) (g : Ground) (code_is : g.code ≡ map (insn_of (giver_at call) b.arg_slots) (twin_items b first (layout_form wide)))
       (locals_are : g.max_locals ≡ b.max_locals + 1) (stack_is : g.max_stack ≡ b.max_stack + 3) where
-    count_is : length g.code ≡ length (twin_items b first wide)
-    count_is = ap (λ (l : List Insn). length l) code_is ∙ length-map (twin_items b first wide) (insn_of call b.arg_slots)
+    count_is : length g.code ≡ length (twin_items b first (layout_form wide))
+    count_is = ap (λ (l : List Insn). length l) code_is ∙ length-map (twin_items b first (layout_form wide)) (insn_of (giver_at call) b.arg_slots)
 
-    new_there : (at place : ℕ) → slice_get b.code at ≡ Some (insns.OfClass opcode.new place) → HasNewAt g (image_of b first wide at)
+    new_there : (at place : ℕ) → slice_get b.code at ≡ Some (insns.OfClass opcode.new place) → HasNewAt g (image_of b first (layout_form wide) at)
     new_there at place is =
-        let there = ap (λ (l : List Insn). slice_get l (image_of b first wide at)) code_is ∙ same_there b first wide call well.code at place (insns.OfClass opcode.new place) is refl in
-        (slice_get_within g.code (image_of b first wide at) (insns.OfClass opcode.new place) there, ap is_new there)
+        let there =
+        ap (λ (l : List Insn). slice_get l (image_of b first (layout_form wide) at)) code_is
+        ∙ same_there b first (layout_form wide) (giver_at call) well.code at place (insns.OfClass opcode.new place) is refl in
+        (slice_get_within g.code (image_of b first (layout_form wide) at) (insns.OfClass opcode.new place) there, ap is_new there)
 
     one_fine : (f : FrameAt) → Contains (laid_frames wide (emission b first states array)) f → IsFine g (type_state_at names f)
     one_fine f c =
         let asked = (laid_told b first states array names well fit array_is wide).each f c in
         let good = asked_good names b first states well are fit free wide f.at asked.0 asked.1 in
-        let said = shifted_sayable names b (image_of b first wide) (HasNewAt g) asked.0 well.arguments_fit new_there good.1 in
+        let said = shifted_sayable names b (image_of b first (layout_form wide)) (HasNewAt g) asked.0 well.arguments_fit new_there good.1 in
         let count = count_is in
         let below = good.0 in
         record {
           at = omega (arith, count, below);
           state =
               subst (λ (t : TypeState). IsSayable g.max_locals g.max_stack (HasNewAt g) t) (sym asked.2)
-              (subst (λ (n : ℕ). IsSayable n g.max_stack (HasNewAt g) (shifted (image_of b first wide) b.arg_slots (type_state names asked.0))) (sym locals_are)
-              (subst (λ (n : ℕ). IsSayable (b.max_locals + 1) n (HasNewAt g) (shifted (image_of b first wide) b.arg_slots (type_state names asked.0))) (sym stack_is) said));
+              (subst (λ (n : ℕ). IsSayable n g.max_stack (HasNewAt g) (shifted (image_of b first (layout_form wide)) b.arg_slots (type_state names asked.0))) (sym locals_are)
+              (subst (λ (n : ℕ). IsSayable (b.max_locals + 1) n (HasNewAt g) (shifted (image_of b first (layout_form wide)) b.arg_slots (type_state names asked.0))) (sym stack_is) said));
         }
 
     -- they can be said by full frames, where the classes that they name stand in the pool

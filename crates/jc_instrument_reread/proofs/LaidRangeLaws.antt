@@ -37,8 +37,8 @@ use Rattle.jc_insn.proofs.SpellingLaws.{spells_code}
 use Rattle.jc_insn.proofs.WideCodeLaws.{spells_wide}
 use Rattle.jc_emit.specs.Emission.{emission}
 use Rattle.jc_emit.specs.Items.{Item, arm_parts, early_part, hop_part, image_part, insn_of, lead_part, probe, segment, test_part, tests_part, twin_items, image_of, land_of, lead_of}
-use Rattle.jc_emit.specs.Marks.{push}
-use Rattle.jc_emit.specs.Sizes.{arms_at, early_by, early_probe, insn_at, late_by, late_probe}
+use Rattle.jc_emit.specs.Marks.{unplaced, push}
+use Rattle.jc_emit.specs.Sizes.{narrow, arms_at, early_by, early_probe, insn_at, late_by, late_probe}
 use Rattle.jc_emit.specs.TwinCode.{arm_place, to_of}
 use Rattle.jc_layout.specs.Layout.{chosen_length, chosen_starts, chosen_text, is_wide}
 use Rattle.jc_layout.proofs.ChoiceLaws.{chosen_stand, near}
@@ -112,7 +112,7 @@ module _ (b : Body) (first : ℕ) (states : List State) (array : ℕ) (well : Is
   -- ---- items
 
   abbrev Fits : Item → Type 0
-  Fits x = IsInRange (insn_of 0 b.arg_slots x)
+  Fits x = IsInRange (insn_of unplaced b.arg_slots x)
 
   abbrev All_fit : List Item → Type 0
   All_fit xs = AllByRecursion Fits xs
@@ -145,27 +145,27 @@ module _ (b : Body) (first : ℕ) (states : List State) (array : ℕ) (well : Is
   test_fits false q insn i on due h = (h, tt)
   test_fits true q insn i on due h = (inverted_range (q + 2) insn h, (tt, tt))
 
-  tests_fit : (i : ℕ) (insn : Insn) (o : Option ℕ) → IsInRange insn → IsFewId o → All_fit (tests_part b first false i insn o)
+  tests_fit : (i : ℕ) (insn : Insn) (o : Option ℕ) → IsInRange insn → IsFewId o → All_fit (tests_part b first narrow i insn o)
   tests_fit i insn None h few =
-      test_fits false (image_of b first false i) (with_places (land_of b first false) insn) i (jump_target insn) None
-      (in_range_with (land_of b first false) insn h)
+      test_fits false (image_of b first narrow i) (with_places (land_of b first narrow) insn) i (jump_target insn) None
+      (in_range_with (land_of b first narrow) insn h)
   tests_fit i insn (Some id) h few =
-      all_both Fits (test_part false (image_of b first false i) (inverted (lead_of b first false (i + 1)) insn) i (i + 1) (lead_probe b first (i + 1)))
-      (hop_part (land_of b first false) (Some id) (jump_target insn))
-      (test_fits false (image_of b first false i) (inverted (lead_of b first false (i + 1)) insn) i (i + 1) (lead_probe b first (i + 1))
-      (inverted_range (lead_of b first false (i + 1)) insn h))
-      (hop_fits (land_of b first false) (Some id) (jump_target insn) few)
+      all_both Fits (test_part false (image_of b first narrow i) (inverted (lead_of b first narrow (i + 1)) insn) i (i + 1) (lead_probe b first (i + 1)))
+      (hop_part (land_of b first narrow) (Some id) (jump_target insn))
+      (test_fits false (image_of b first narrow i) (inverted (lead_of b first narrow (i + 1)) insn) i (i + 1) (lead_probe b first (i + 1))
+      (inverted_range (lead_of b first narrow (i + 1)) insn h))
+      (hop_fits (land_of b first narrow) (Some id) (jump_target insn) few)
 
   abbrev old : ℕ → Insn
   old i = insn_at b.code i
 
-  image_fits : (i : ℕ) (flow : Flow) → IsInRange (old i) → LocalsWithin b.max_locals (old i) → All_fit (image_part b first false i (old i) flow)
+  image_fits : (i : ℕ) (flow : Flow) → IsInRange (old i) → LocalsWithin b.max_locals (old i) → All_fit (image_part b first narrow i (old i) flow)
   image_fits i flows.GoesOn h within = (slot_range b.arg_slots b.max_locals (old i) locals within h, tt)
   image_fits i flows.Branches h within = tests_fit i (old i) (late_probe b first i) h (late_few i (old i) (flow_of (old i)))
-  image_fits i flows.Jumps h within = (in_range_with (land_of b first false) (old i) h, tt)
+  image_fits i flows.Jumps h within = (in_range_with (land_of b first narrow) (old i) h, tt)
   image_fits i flows.Switches h within = (
-    in_range_with (arm_place (probe_of b first) (land_of b first false) (image_of b first false i + 1) (arms_at b.code i)) (old i) h,
-    arms_fit (land_of b first false) (arms_at b.code i),
+    in_range_with (arm_place (probe_of b first) (land_of b first narrow) (image_of b first narrow i + 1) (arms_at b.code i)) (old i) h,
+    arms_fit (land_of b first narrow) (arms_at b.code i),
   )
   image_fits i flows.Returns h within = (h, tt)
   image_fits i flows.Throws h within = (h, tt)
@@ -177,33 +177,33 @@ module _ (b : Body) (first : ℕ) (states : List State) (array : ℕ) (well : Is
       by (inl lt) = all i (insns.Simple 0) lt
       by (inr past) = subst P (sym (get_or_past b.code i (insns.Simple 0) past)) none
 
-  segment_fits : (i : ℕ) → All_fit (segment b first false i)
+  segment_fits : (i : ℕ) → All_fit (segment b first narrow i)
   segment_fits i =
-      let main = image_part b first false i (old i) (flow_of (old i)) in
+      let main = image_part b first narrow i (old i) (flow_of (old i)) in
       all_both Fits (lead_part (lead_probe b first i) i) (early_part (early_probe b first i) i ++ main) (lead_fits (lead_probe b first i) i (lead_few i))
       (all_both Fits (early_part (early_probe b first i) i) main (early_fits (early_probe b first i) i (early_few i (old i) (flow_of (old i))))
       (image_fits i (flow_of (old i)) (old_is IsInRange tt ranges i) (old_is (LocalsWithin b.max_locals) tt well.locals i)))
 
-  pieces_fit : (n : ℕ) → All_fit (pieces (segment b first false) n)
+  pieces_fit : (n : ℕ) → All_fit (pieces (segment b first narrow) n)
   pieces_fit zero = tt
-  pieces_fit (suc n) = all_both Fits (pieces (segment b first false) n) (segment b first false n) (pieces_fit n) (segment_fits n)
+  pieces_fit (suc n) = all_both Fits (pieces (segment b first narrow) n) (segment b first narrow n) (pieces_fit n) (segment_fits n)
 
-  items_fit : All_fit (twin_items b first false)
+  items_fit : All_fit (twin_items b first narrow)
   unfolding twin_items
   items_fit = (omega arith, (slot_fits, pieces_fit (length b.code)))
 
-  each_mapped : (xs : List Item) → All_fit xs → AllByRecursion IsInRange (map (insn_of 0 b.arg_slots) xs)
+  each_mapped : (xs : List Item) → All_fit xs → AllByRecursion IsInRange (map (insn_of unplaced b.arg_slots) xs)
   each_mapped [] all = tt
   each_mapped (x ∷ xs) all = (all.0, each_mapped xs all.1)
 
   -- ---- the code
 
   abbrev code : List Insn
-  code = map (insn_of 0 b.arg_slots) (twin_items b first false)
+  code = map (insn_of unplaced b.arg_slots) (twin_items b first narrow)
 
   all_fit : All IsInRange code
-  all_fit = All-map IsInRange (insn_of 0 b.arg_slots) (twin_items b first false)
-      (all_of_each IsInRange (insn_of 0 b.arg_slots) (twin_items b first false) (each_mapped (twin_items b first false) items_fit))
+  all_fit = All-map IsInRange (insn_of unplaced b.arg_slots) (twin_items b first narrow)
+      (all_of_each IsInRange (insn_of unplaced b.arg_slots) (twin_items b first narrow) (each_mapped (twin_items b first narrow) items_fit))
 
   places_fit : All (λ insn. All (λ to. to < length code) (targets_of insn)) code
   places_fit k d lt = each_of (λ to. to < length code) (targets_of (get_or code k d)) (all_within b first well.code k d lt)

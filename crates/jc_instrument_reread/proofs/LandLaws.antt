@@ -11,9 +11,10 @@ use Rattle.jc_methods.specs.declared.body.VarAt.{VarAt}
 use Rattle.jc_methods.specs.declared.kind.State.{State}
 use Rattle.jc_kinds_after.specs.Shift.{slot_of}
 use Rattle.jc_plan.specs.Plan.{lead_probe}
+use Rattle.jc_emit.specs.Marks.{unplaced}
 use Rattle.jc_emit.specs.Emission.{emission}
 use Rattle.jc_emit.specs.Items.{insn_of, lead_of, land_of, segment_size, twin_items}
-use Rattle.jc_emit.specs.Sizes.{probe_size}
+use Rattle.jc_emit.specs.Sizes.{narrow, probe_size}
 use Rattle.jc_emit.specs.TwinTables.{moved_row, moved_line, moved_var}
 use Rattle.jc_emit.proofs.BuiltLaws.{length_twin}
 use Rattle.jc_emit.proofs.EndsLaws.{lead_none}
@@ -30,20 +31,20 @@ module _ (b : Body) (first : ℕ) (states : List State) (array : ℕ) (well : Is
   n = length b.code
 
   abbrev lead : ℕ → ℕ
-  lead i = lead_of b first false i
+  lead i = lead_of b first narrow i
 
   abbrev land : ℕ → ℕ
-  land i = land_of b first false i
+  land i = land_of b first narrow i
 
   abbrev end : ℕ
   end = lead n
 
   pub code_length : length (emission b first states array).code ≡ end
   unfolding emission
-  code_length = length-map (twin_items b first false) (insn_of 0 b.arg_slots) ∙ length_twin b first false
+  code_length = length-map (twin_items b first narrow) (insn_of unplaced b.arg_slots) ∙ length_twin b first narrow
 
   lead_grows : (i j : ℕ) → i ≤ j → lead i ≤ lead j
-  lead_grows i j le = omega (arith, total_grows (segment_size b first false) i j le)
+  lead_grows i j le = omega (arith, total_grows (segment_size b first narrow) i j le)
 
   lead_in : (i : ℕ) → i ≤ n → lead i ≤ end
   lead_in i le = lead_grows i n le
@@ -54,7 +55,7 @@ module _ (b : Body) (first : ℕ) (states : List State) (array : ℕ) (well : Is
   land_at_end : land n ≡ end
   land_at_end =
       let last : n ≡ n + 0 = omega arith in
-      let none = ap (λ (k : ℕ). probe_size (lead_probe b first k)) last ∙ ap probe_size (lead_none b first false well.code 0) in
+      let none = ap (λ (k : ℕ). probe_size (lead_probe b first k)) last ∙ ap probe_size (lead_none b first narrow well.code 0) in
       omega (arith, none)
 
   land_in : (i : ℕ) → i ≤ n → land i ≤ end

@@ -1,5 +1,5 @@
 -- The entries of the tables of written code, by instruction numbers, are those of the body that stands in the layout.
-use Rattle.std.proofs.Common.{◌≡◌, ◌⊎◌, inl, inr, ℕ, ◌+◌, ◌-◌, ◌<◌, ◌≤◌, Bool, true, false, ◌&&◌, ◌||◌, List, length, map, nat_eq, nat_lt, sym, ◌∙◌, ap, ap₂, subst, arith}
+use Rattle.std.proofs.Common.{◌≡◌, ◌⊎◌, inl, inr, ℕ, ◌+◌, ◌-◌, ◌<◌, ◌≤◌, Bool, true, ◌&&◌, ◌||◌, List, length, map, nat_eq, nat_lt, sym, ◌∙◌, ap, ap₂, subst, arith}
 use Rattle.std.specs.List.{AllByRecursion}
 use Rattle.std.specs.Prelude.{slice_index}
 use Rattle.std.proofs.Math.Bool.{or-true}
@@ -20,6 +20,7 @@ use Rattle.jc_insn.specs.Layouts.{laid_code, laid_starts}
 use Rattle.jc_pool.specs.Pool.{PoolValue}
 use Rattle.jc_body.specs.Attributes.{AreTables}
 use Rattle.jc_body.specs.BodyOf.{handler_of, is_start, keeps_line, keeps_var, line_of, lines_of, var_of, vars_in, vars_of}
+use Rattle.jc_emit.specs.Sizes.{narrow}
 use Rattle.jc_emit.specs.Emission.{emission}
 use Rattle.jc_emit.specs.Items.{lead_of}
 use Rattle.jc_emit.specs.TwinTables.{moved_line, moved_row}
@@ -138,7 +139,7 @@ module _ (b : Body) (first : ℕ) (states : List State) (array : ℕ) (well : Is
   laid uses = laid_body b e (is_wide e.code) places.method uses
 
   abbrev last : ℕ
-  last = lead_of b first false (length b.code)
+  last = lead_of b first narrow (length b.code)
 
   ends_there : end ≡ last
   ends_there = code_length b first states array well

@@ -37,8 +37,8 @@ use Rattle.jc_body.proofs.UsesLaws.{some_uses, insn_place_used}
 use Rattle.jc_kinds.specs.Checked.{Checked}
 use Rattle.jc_emit.specs.Emission.{emission, widened_frame}
 use Rattle.jc_emit.specs.Items.{insn_of, twin_items, image_of}
-use Rattle.jc_emit.specs.Marks.{invokestatic}
-use Rattle.jc_emit.specs.Sizes.{insn_at}
+use Rattle.jc_emit.specs.Marks.{giver_at, invokestatic}
+use Rattle.jc_emit.specs.Sizes.{layout_form, insn_at}
 use Rattle.jc_emit.specs.Twin.{Twin, probe_init}
 use Rattle.jc_emit.proofs.TwinCheckedLaws.{verified}
 use Rattle.jc_layout.specs.LaidBody.{laid_body, laid_frames, laid_place}
@@ -102,15 +102,15 @@ module _ (names : Names) (c twin : ClassFile) (places : CodePlaces) (array : ℕ
   few_bytes = is_coded.items.text.few
 
   -- the instructions are those of the twin
-  insns_so : coded.insns ≡ map (insn_of places.method b.arg_slots) (twin_items b first (is_wide (emission b first states array).code))
+  insns_so : coded.insns ≡ map (insn_of (giver_at places.method) b.arg_slots) (twin_items b first (layout_form (is_wide (emission b first states array).code)))
   insns_so = insns_are names b first states array w.source.well_made w.source.states_are w.source.frame_states w.source.none_straddles w.source.array_is
       (is_wide (emission b first states array).code) places.method
 
-  insns_count : length coded.insns ≡ length (twin_items b first (is_wide (emission b first states array).code))
-  insns_count = ap (λ (l : List Insn). length l) insns_so ∙ length-map (twin_items b first wide) (insn_of call b.arg_slots)
+  insns_count : length coded.insns ≡ length (twin_items b first (layout_form (is_wide (emission b first states array).code)))
+  insns_count = ap (λ (l : List Insn). length l) insns_so ∙ length-map (twin_items b first (layout_form wide)) (insn_of (giver_at call) b.arg_slots)
 
   twin_at : (i : ℕ) (insn : Insn) → slice_get coded.insns i ≡ Some insn
-      → slice_get (map (insn_of places.method b.arg_slots) (twin_items b first (is_wide (emission b first states array).code))) i ≡ Some insn
+      → slice_get (map (insn_of (giver_at places.method) b.arg_slots) (twin_items b first (layout_form (is_wide (emission b first states array).code)))) i ≡ Some insn
   twin_at i insn at = ap (λ (l : List Insn). slice_get l i) (sym insns_so) ∙ at
 
   locals_are : (emission b first states array).max_locals ≡ b.max_locals + 1
@@ -123,16 +123,16 @@ module _ (names : Names) (c twin : ClassFile) (places : CodePlaces) (array : ℕ
 
   sound : AreSound twin.major twin.pool coded
   sound = record {
-    right = λ i insn at. names_right b first wide call w.source.well_made.code twin.major twin.pool
+    right = λ i insn at. names_right b first (layout_form wide) (giver_at call) w.source.well_made.code twin.major twin.pool
         (λ k lt. subst (λ (m : ℕ). HasRight m k) (sym w.major) (right_in names c method b states array w.source twin.pool w.pool.extends k lt))
         (call_right twin.pool b.owner call w.pool.call_is twin.major) i insn (twin_at i insn at);
-    leads = λ i insn at. subst (λ (n : ℕ). LeadsWithin n insn) (sym insns_count) (leads b first wide call w.source.well_made.code i insn (twin_at i insn at));
+    leads = λ i insn at. subst (λ (n : ℕ). LeadsWithin n insn) (sym insns_count) (leads b first (layout_form wide) (giver_at call) w.source.well_made.code i insn (twin_at i insn at));
     falls = λ i insn at through.
-        let more = falls b first wide call w.source.well_made.code i insn (twin_at i insn at) through in
+        let more = falls b first (layout_form wide) (giver_at call) w.source.well_made.code i insn (twin_at i insn at) through in
         let count = insns_count in
         omega (arith, more, count);
     locals = λ i insn at. subst (λ (n : ℕ). LocalsWithin n insn) (sym locals_are)
-        (uses_locals b first wide call w.source.well_made.code w.source.well_made.locals w.source.well_made.arguments_fit i insn (twin_at i insn at));
+        (uses_locals b first (layout_form wide) (giver_at call) w.source.well_made.code w.source.well_made.locals w.source.well_made.arguments_fit i insn (twin_at i insn at));
   }
     where
       HasRight : ℕ → ℕ → Type 0
@@ -226,7 +226,7 @@ module _ (names : Names) (c twin : ClassFile) (places : CodePlaces) (array : ℕ
   uses_are = (some_uses twin.pool (places_used coded.insns coded.items.rows)).1
 
   first_there : slice_get coded.insns 0 ≡ Some (invokestatic places.method)
-  first_there = ap (λ (l : List Insn). slice_get l 0) (insns_so ∙ begins_so b first wide call)
+  first_there = ap (λ (l : List Insn). slice_get l 0) (insns_so ∙ begins_so b first (layout_form wide) call)
 
   call_used : what_used uses places.method ≡ Some (probe_init b.owner)
   call_used =
@@ -243,8 +243,9 @@ module _ (names : Names) (c twin : ClassFile) (places : CodePlaces) (array : ℕ
       there insn place listed is =
           let old = place_of w.source.body.coded.insns insn listed in
           let at = ap (λ (l : List Insn). slice_get l old.0) w.source.body.parts.code ∙ old.1 in
-          stands_in coded.insns (image_of b first wide old.0) insn
-          (ap (λ (l : List Insn). slice_get l (image_of b first wide old.0)) insns_so ∙ same_there b first wide call w.source.well_made.code old.0 place insn at is)
+          stands_in coded.insns (image_of b first (layout_form wide) old.0) insn
+          (ap (λ (l : List Insn). slice_get l (image_of b first (layout_form wide) old.0)) insns_so
+          ∙ same_there b first (layout_form wide) (giver_at call) w.source.well_made.code old.0 place insn at is)
 
   -- ---- the body
 

@@ -35,6 +35,7 @@ use Rattle.jc_insn.specs.Layouts.{laid_code, laid_starts}
 use Rattle.jc_insn.specs.Spells.{Spells}
 use Rattle.jc_insn.specs.Writing.{IsInRange}
 use Rattle.jc_plan.specs.Probed.{probe_count}
+use Rattle.jc_emit.specs.Sizes.{narrow}
 use Rattle.jc_emit.specs.Emission.{emission}
 use Rattle.jc_emit.specs.Items.{land_of, lead_of}
 use Rattle.jc_emit.specs.TwinTables.{moved_line, moved_row, moved_var}
@@ -229,16 +230,16 @@ module _ (Faults : List Fault) (names : Names) (c : ClassFile) (number : ℕ) (m
 -- ---- instrumented
 
 module _ (b : Body) (first : ℕ) (states : List State) (array : ℕ) (short : IsShortBody b) where
-  emitted_vars : (vars : List VarAt) → AllByRecursion IsShortVar vars → AllByRecursion IsShortVar (map (moved_var b.arg_slots (land_of b first false)) vars)
+  emitted_vars : (vars : List VarAt) → AllByRecursion IsShortVar vars → AllByRecursion IsShortVar (map (moved_var b.arg_slots (land_of b first narrow)) vars)
   emitted_vars vars all =
-      each_mapped IsShortVar IsShortVar (moved_var b.arg_slots (land_of b first false)) (λ x is. record { name = is.name; desc = is.desc }) vars all
+      each_mapped IsShortVar IsShortVar (moved_var b.arg_slots (land_of b first narrow)) (λ x is. record { name = is.name; desc = is.desc }) vars all
 
   emitted_numbers : HasShortNumbers (emission b first states array)
   unfolding emission
   emitted_numbers = record {
-    classes = each_mapped (λ (h : Handler). h.class < 65536) (λ (h : Handler). h.class < 65536) (moved_row (lead_of b first false) (land_of b first false))
+    classes = each_mapped (λ (h : Handler). h.class < 65536) (λ (h : Handler). h.class < 65536) (moved_row (lead_of b first narrow) (land_of b first narrow))
         (λ h is. is) b.handlers short.classes;
-    lines = each_mapped (λ (l : LineAt). l.line < 65536) (λ (l : LineAt). l.line < 65536) (moved_line (land_of b first false)) (λ l is. is) b.lines short.lines;
+    lines = each_mapped (λ (l : LineAt). l.line < 65536) (λ (l : LineAt). l.line < 65536) (moved_line (land_of b first narrow)) (λ l is. is) b.lines short.lines;
     vars = emitted_vars b.vars short.vars;
     kind_vars = emitted_vars b.kind_vars short.kind_vars;
   }
@@ -246,7 +247,7 @@ module _ (b : Body) (first : ℕ) (states : List State) (array : ℕ) (short : I
   emitted_rows : length (emission b first states array).handlers ≤ 65535
   unfolding emission
   emitted_rows =
-      let same = length-map b.handlers (moved_row (lead_of b first false) (land_of b first false)) in
+      let same = length-map b.handlers (moved_row (lead_of b first narrow) (land_of b first narrow)) in
       let few = short.rows in
       omega (arith, same, few)
 

@@ -1,5 +1,5 @@
 -- The instructions of a twin name entries of the pool of the kinds that they need.
-use Rattle.std.proofs.Common.{◌≡◌, ⊎_elim, ℕ, zero, suc, ◌+◌, ◌<◌, Bool, List, map, length, Some, sym, subst, nat_le, pos}
+use Rattle.std.proofs.Common.{◌≡◌, ⊎_elim, ℕ, zero, suc, ◌+◌, ◌<◌, List, map, length, Some, sym, subst, nat_le, pos}
 use Rattle.std.specs.Prelude.{slice_get}
 use Rattle.std.proofs.lemmas.Bool.{cond_both}
 use Rattle.jc_methods.specs.Flow.{flow_of}
@@ -15,8 +15,8 @@ use Rattle.jc_pool.specs.Pool.{PoolValue}
 use Rattle.jc_body.specs.Standing.{HasRightEntry}
 use Rattle.jc_plan.specs.Probed.{probe_of}
 use Rattle.jc_kinds_after.specs.Shift.{with_slot}
-use Rattle.jc_emit.specs.Marks.{push, invokestatic}
-use Rattle.jc_emit.specs.Sizes.{insn_at}
+use Rattle.jc_emit.specs.Marks.{TwinPlaces, push, invokestatic}
+use Rattle.jc_emit.specs.Sizes.{TwinForm, insn_at}
 use Rattle.jc_emit.specs.Items.{Item, start, image, probe_array, probe_id, probe_one, probe_store, hop, insn_of, twin_items}
 use Rattle.jc_emit.specs.Local.{Ok, OkImage}
 use Rattle.jc_instrument_reread.proofs.TwinItemLaws.{plain_push, each_insn}
@@ -44,12 +44,12 @@ module _ (major : ℕ) (pool : PoolValue) where
 
 -- ---- items
 
-module _ (b : Body) (first : ℕ) (wide : Bool) (call : ℕ) (is_code : IsCode b.code) where
+module _ (b : Body) (first : ℕ) (form : TwinForm) (named : TwinPlaces) (is_code : IsCode b.code) where
   abbrev items : List Item
-  items = twin_items b first wide
+  items = twin_items b first form
 
   abbrev new : Item → Insn
-  new x = insn_of call b.arg_slots x
+  new x = insn_of named b.arg_slots x
 
   abbrev old : ℕ → Insn
   old i = insn_at b.code i
@@ -61,7 +61,7 @@ module _ (b : Body) (first : ℕ) (wide : Bool) (call : ℕ) (is_code : IsCode b
   Fine q x = Ok b.code (Some b.arg_slots) (probe_of b first) items q x
 
   module _ (major : ℕ) (pool : PoolValue) (right : (i : ℕ) → i < length b.code → HasRightEntry major pool (old i))
-      (right_call : HasRightEntry major pool (invokestatic call)) where
+      (right_call : HasRightEntry major pool (invokestatic named.giver)) where
     abbrev Named : Insn → Type 0
     Named insn = HasRightEntry major pool insn
 
@@ -86,7 +86,7 @@ module _ (b : Body) (first : ℕ) (wide : Bool) (call : ℕ) (is_code : IsCode b
     item_right q (hop to at due) h = tt
 
   pub names_right : (major : ℕ) (pool : PoolValue) → ((i : ℕ) → i < length b.code → HasRightEntry major pool (insn_at b.code i))
-      → HasRightEntry major pool (invokestatic call)
+      → HasRightEntry major pool (invokestatic named.giver)
       → (q : ℕ) (insn : Insn) → slice_get (map new items) q ≡ Some insn → HasRightEntry major pool insn
   names_right major pool right right_call q insn at =
-      each_insn b first wide call is_code (λ q insn. HasRightEntry major pool insn) (item_right major pool right right_call) q insn at
+      each_insn b first form named is_code (λ q insn. HasRightEntry major pool insn) (item_right major pool right right_call) q insn at

@@ -1,5 +1,5 @@
 -- What the body of a method whose instrumented code is written says of the grown pool.
-use Rattle.std.proofs.Common.{◌≡◌, ◌⊎◌, inl, inr, ℕ, ◌<◌, false, List, length, map, get_or, Some, refl, sym, ◌∙◌, ap, subst, arith}
+use Rattle.std.proofs.Common.{◌≡◌, ◌⊎◌, inl, inr, ℕ, ◌<◌, List, length, map, get_or, Some, refl, sym, ◌∙◌, ap, subst, arith}
 use Rattle.std.specs.Prelude.{Contains, slice_get}
 use Rattle.std.proofs.lemmas.Bool.{cases_eq}
 use Rattle.std.proofs.lemmas.Option.{slice_get_within, slice_get-get_or, get_or_from_slice_get}
@@ -25,7 +25,7 @@ use Rattle.jc_body.specs.declared.coded.Coded.{Coded}
 use Rattle.jc_body.proofs.StandingLaws.{right_entry_or_not}
 use Rattle.jc_emit.specs.Emission.{emission}
 use Rattle.jc_emit.specs.Items.{lead_of, land_of}
-use Rattle.jc_emit.specs.Sizes.{insn_at}
+use Rattle.jc_emit.specs.Sizes.{narrow, insn_at}
 use Rattle.jc_emit.specs.TwinTables.{moved_row}
 use Rattle.jc_instrument_code.specs.TwinCode.{offset_in}
 use Rattle.jc_instrument_reread.specs.ReadCode.{row_at}
@@ -95,9 +95,9 @@ module _ (names : Names) (c : ClassFile) (method : Member) (b : Body) (states : 
       let e = emission b first states array in
       let number = handler_of (insn_number coded.starts) in
       let old = subst (λ (l : List Handler). Contains l (number row)) (sym s.body.parts.handlers) (in_map number coded.items.rows row listed) in
-      let moved = in_map (moved_row (lead_of b first false) (land_of b first false)) b.handlers (number row) old in
-      let now = subst (λ (l : List Handler). Contains l (moved_row (lead_of b first false) (land_of b first false) (number row))) (sym (handlers_are b first states array s.well_made)) moved in (
-        row_at (offset_in e) (moved_row (lead_of b first false) (land_of b first false) (number row)),
-        in_map (row_at (offset_in e)) e.handlers (moved_row (lead_of b first false) (land_of b first false) (number row)) now,
+      let moved = in_map (moved_row (lead_of b first narrow) (land_of b first narrow)) b.handlers (number row) old in
+      let now = subst (λ (l : List Handler). Contains l (moved_row (lead_of b first narrow) (land_of b first narrow) (number row))) (sym (handlers_are b first states array s.well_made)) moved in (
+        row_at (offset_in e) (moved_row (lead_of b first narrow) (land_of b first narrow) (number row)),
+        in_map (row_at (offset_in e)) e.handlers (moved_row (lead_of b first narrow) (land_of b first narrow) (number row)) now,
         refl,
       )

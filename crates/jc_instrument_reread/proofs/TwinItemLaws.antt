@@ -19,8 +19,8 @@ use Rattle.jc_methods.proofs.PlacedInsnLaws.{locals_placed}
 use Rattle.jc_methods.proofs.SlotsLaws.{within_mapped}
 use Rattle.jc_plan.specs.Probed.{probe_of}
 use Rattle.jc_kinds_after.specs.Shift.{slot_of, with_slot}
-use Rattle.jc_emit.specs.Marks.{push}
-use Rattle.jc_emit.specs.Sizes.{insn_at}
+use Rattle.jc_emit.specs.Marks.{TwinPlaces, push}
+use Rattle.jc_emit.specs.Sizes.{TwinForm, insn_at}
 use Rattle.jc_emit.specs.Items.{Item, start, image, probe_array, probe_id, probe_one, probe_store, hop, insn_of, twin_items}
 use Rattle.jc_emit.specs.Local.{Ok, OkImage}
 use Rattle.jc_emit.proofs.PlacedLaws.{goto_stops, switch_stops, no_fall_goto, never}
@@ -57,18 +57,18 @@ push_locals n =
 
 -- ---- where instructions lead
 
-module _ (b : Body) (first : ℕ) (wide : Bool) (call : ℕ) (is_code : IsCode b.code) where
+module _ (b : Body) (first : ℕ) (form : TwinForm) (named : TwinPlaces) (is_code : IsCode b.code) where
   abbrev pub items : List Item
-  items = twin_items b first wide
+  items = twin_items b first form
 
   abbrev new : Item → Insn
-  new x = insn_of call b.arg_slots x
+  new x = insn_of named b.arg_slots x
 
   abbrev old : ℕ → Insn
   old i = insn_at b.code i
 
   abbrev count : ℕ
-  count = length (twin_items b first wide)
+  count = length (twin_items b first form)
 
   abbrev Image : ℕ → ℕ → Insn → Flow → Type 0
   Image q i insn flow = OkImage b.code (Some b.arg_slots) (probe_of b first) items q i (old i) insn flow
@@ -79,9 +79,9 @@ module _ (b : Body) (first : ℕ) (wide : Bool) (call : ℕ) (is_code : IsCode b
   -- ---- what falls through
 
   image_falls : (q i : ℕ) (insn : Insn) (flow : Flow) → flow_of (old i) ≡ flow → Image q i insn flow → FallsThrough insn → q + 1 < count
-  image_falls q i insn flows.GoesOn e h falls = lands_within b first wide call (q + 1) _ _ h.1
+  image_falls q i insn flows.GoesOn e h falls = lands_within b first form named (q + 1) _ _ h.1
   image_falls q i insn flows.Branches e h falls =
-      ⊎_elim (λ alike. stands_within b first wide call (q + 1) _ _ alike.fell) (λ inverse. stands_within b first wide call (q + 1) _ _ inverse.fell) h
+      ⊎_elim (λ alike. stands_within b first form named (q + 1) _ _ alike.fell) (λ inverse. stands_within b first form named (q + 1) _ _ inverse.fell) h
   image_falls q i insn flows.Jumps e h falls = absurd (goto_stops (old i) (λ to. h.target) e (subst FallsThrough h.same falls))
   image_falls q i insn flows.Switches e h falls = absurd (switch_stops (old i) h.place e (subst FallsThrough h.same falls))
   image_falls q i insn flows.Returns e h falls = absurd (never (old i) flows.Returns e (λ x. cc) (λ x. cc) (subst FallsThrough h falls))
@@ -89,13 +89,13 @@ module _ (b : Body) (first : ℕ) (wide : Bool) (call : ℕ) (is_code : IsCode b
 
   item_falls : (q : ℕ) (x : Item) → Fine q x → FallsThrough (new x) → q + 1 < count
   item_falls q (start zero) h falls = slice_get_within items (q + 1) (start 1) h.next
-  item_falls q (start (suc zero)) h falls = lands_within b first wide call (q + 1) 0 None h.next
+  item_falls q (start (suc zero)) h falls = lands_within b first form named (q + 1) 0 None h.next
   item_falls q (start (suc (suc k))) h falls = let within = h.within in absurd (omega (arith, within))
   item_falls q (image insn i early) h falls = image_falls q i insn (flow_of (old i)) refl h.2 falls
   item_falls q (probe_array id at late) h falls = slice_get_within items (q + 1) (probe_id id at late) h.1
   item_falls q (probe_id id at late) h falls = slice_get_within items (q + 1) (probe_one id at late) h.1
   item_falls q (probe_one id at late) h falls = slice_get_within items (q + 1) (probe_store id at late) h.1
-  item_falls q (probe_store id at true) h falls = stands_within b first wide call (q + 1) at None h.1
+  item_falls q (probe_store id at true) h falls = stands_within b first form named (q + 1) at None h.1
   item_falls q (probe_store id at false) h falls = slice_get_within items (q + 1) (image h.1.0 at (Some id)) h.1.1
   item_falls q (hop to at due) h falls = absurd (no_fall_goto to falls)
 
@@ -140,10 +140,10 @@ module _ (b : Body) (first : ℕ) (wide : Bool) (call : ℕ) (is_code : IsCode b
       → (q : ℕ) (insn : Insn) → slice_get (map new items) q ≡ Some insn → Fact q insn
   each_insn Fact each q insn at =
       let found = mapped_at new items q insn at in
-      subst (Fact q) found.2 (each q found.0 ((twin_ok b first wide is_code).ok q found.0 found.1))
+      subst (Fact q) found.2 (each q found.0 ((twin_ok b first form is_code).ok q found.0 found.1))
 
   pub leads : (q : ℕ) (insn : Insn) → slice_get (map new items) q ≡ Some insn → LeadsWithin count insn
-  leads q insn at = each_insn (λ q insn. LeadsWithin count insn) (item_within b first wide call) q insn at
+  leads q insn at = each_insn (λ q insn. LeadsWithin count insn) (item_within b first form named) q insn at
 
   pub falls : (q : ℕ) (insn : Insn) → slice_get (map new items) q ≡ Some insn → FallsThrough insn → q + 1 < count
   falls q insn at = each_insn (λ q insn. FallsThrough insn → q + 1 < count) item_falls q insn at

@@ -24,6 +24,8 @@ use Rattle.jc_pool.specs.Pool.{PoolValue}
 use Rattle.jc_body.specs.Faults.{IsClassOrNone, IsRow}
 use Rattle.jc_body.specs.Standing.{found_in, found_at, what_of_member, what_of_constant, what_of, what_at}
 use Rattle.jc_body.specs.declared.items.Row.{Row}
+use Rattle.jc_emit.specs.Marks.{unplaced}
+use Rattle.jc_emit.specs.Sizes.{narrow}
 use Rattle.jc_emit.specs.Emission.{emission}
 use Rattle.jc_emit.specs.Items.{insn_of, lead_of, land_of, segment_size, twin_items}
 use Rattle.jc_emit.specs.TwinTables.{moved_row}
@@ -79,30 +81,30 @@ module _ (b : Body) (first : ℕ) (states : List State) (array : ℕ) (well : Is
   e = emission b first states array
 
   abbrev lead : ℕ → ℕ
-  lead i = lead_of b first false i
+  lead i = lead_of b first narrow i
 
   abbrev land : ℕ → ℕ
-  land i = land_of b first false i
+  land i = land_of b first narrow i
 
-  code_size : length (emission b first states array).code ≡ lead_of b first false (length b.code)
+  code_size : length (emission b first states array).code ≡ lead_of b first narrow (length b.code)
   unfolding emission
-  code_size = length-map (twin_items b first false) (insn_of 0 b.arg_slots) ∙ length_twin b first false
+  code_size = length-map (twin_items b first narrow) (insn_of unplaced b.arg_slots) ∙ length_twin b first narrow
 
   lead_rises : (i j : ℕ) → i < j → lead (suc i) ≤ lead j
-  lead_rises i j lt = let grows = total_grows (segment_size b first false) (suc i) j (omega (arith, lt)) in omega (arith, grows)
+  lead_rises i j lt = let grows = total_grows (segment_size b first narrow) (suc i) j (omega (arith, lt)) in omega (arith, grows)
 
   -- a row of the instrumented code guards an instruction or more
   row_moved : (h : Handler) → IsHandler (length b.code) h → IsHandler (length (emission b first states array).code) (moved_row lead land h)
   row_moved h is = record {
     some = let up = lead_rises h.start h.end is.some in omega (arith, up);
     end =
-        let grows = total_grows (segment_size b first false) h.end (length b.code) is.end in
+        let grows = total_grows (segment_size b first narrow) h.end (length b.code) is.end in
         let size = code_size in
         omega (arith, grows, size);
     target = let up = lead_rises h.target (length b.code) is.target in let size = code_size in omega (arith, up, size);
   }
 
-  pub handlers_are : (emission b first states array).handlers ≡ map (moved_row (lead_of b first false) (land_of b first false)) b.handlers
+  pub handlers_are : (emission b first states array).handlers ≡ map (moved_row (lead_of b first narrow) (land_of b first narrow)) b.handlers
   unfolding emission
   handlers_are = refl
 
@@ -174,9 +176,9 @@ module _ (b : Body) (first : ℕ) (states : List State) (array : ℕ) (well : Is
         → IsRow pool (insn_number (written_starts (emission b first states array))) count size row
     rows_fine pool classes i row at =
         let new = mapped_at (row_at (offset_in (emission b first states array))) (emission b first states array).handlers i row at in
-        let old = mapped_at (moved_row (lead_of b first false) (land_of b first false)) b.handlers i new.0 (ap (λ (l : List Handler). slice_get l i) (sym handlers_are) ∙ new.1) in
+        let old = mapped_at (moved_row (lead_of b first narrow) (land_of b first narrow)) b.handlers i new.0 (ap (λ (l : List Handler). slice_get l i) (sym handlers_are) ∙ new.1) in
         let h = old.0 in
         let lt = slice_get_within b.handlers i h old.1 in
         let is = subst (IsHandler (length b.code)) (get_or_from_slice_get b.handlers i h h old.1) (well.handlers i h lt) in
         subst (IsRow pool (insn_number (written_starts (emission b first states array))) count size) (ap (row_at (offset_in (emission b first states array))) old.2 ∙ new.2)
-        (row_fine pool (moved_row (lead_of b first false) (land_of b first false) h) (row_moved h is) (classes i h old.1))
+        (row_fine pool (moved_row (lead_of b first narrow) (land_of b first narrow) h) (row_moved h is) (classes i h old.1))

@@ -1,5 +1,5 @@
 -- The bytes of a layout, where the method that the prelude calls has its place in the pool.
-use Rattle.std.proofs.Common.{◌≡◌, ℕ, ◌+◌, ◌<◌, Bool, false, List, [], ◌∷◌, ◌++◌, map, length, refl, sym, ap, ◌∙◌, subst, arith}
+use Rattle.std.proofs.Common.{◌≡◌, ℕ, ◌+◌, ◌<◌, Bool, List, [], ◌∷◌, ◌++◌, map, length, refl, sym, ap, ◌∙◌, subst, arith}
 use Rattle.std.specs.Prelude.{slice_index}
 use Rattle.std.proofs.lemmas.List.{append_cancel_left}
 use Rattle.jc_bytes.specs.BigNumbers.{short}
@@ -23,9 +23,10 @@ use Rattle.jc_insn.specs.Layouts.{laid_starts}
 use Rattle.jc_insn.proofs.ItemReadingLaws.{same_item}
 use Rattle.jc_insn.proofs.OperandsSpelledLaws.{item_of, one_number}
 use Rattle.jc_insn.proofs.ReadBackLaws.{short_size, big_short}
+use Rattle.jc_emit.specs.Sizes.{narrow, layout_form}
 use Rattle.jc_emit.specs.Emission.{emission}
 use Rattle.jc_emit.specs.Items.{insn_of, twin_items}
-use Rattle.jc_emit.specs.Marks.{invokestatic}
+use Rattle.jc_emit.specs.Marks.{unplaced, invokestatic}
 use Rattle.jc_layout.specs.Layout.{is_wide, chosen_starts, chosen_text}
 use Rattle.jc_layout.specs.LaidBody.{with_call, with_place, laid_body, SpellsLaid}
 use Rattle.jc_layout.proofs.ChoiceLaws.{chosen_stand}
@@ -133,8 +134,8 @@ pub laid_spells : (b : Body) (first : ℕ) (states : List State) (array : ℕ) (
     → IsWellMadeOfAnySize b → call < 65536 → SpellsLaid b (emission b first states array) wide call uses bytes starts
 unfolding laid_body emission
 laid_spells b first states array wide call uses bytes starts well lt are s =
-    let narrow = begins_so b first false 0 in
-    let laid = laid_is b first wide well.code ∙ begins_so b first wide 0 in
-    let ends = laid_starts wide (map (insn_of 0 b.arg_slots) (twin_items b first false)) starts in
+    let begins = begins_so b first narrow 0 in
+    let laid = laid_is b first wide well.code ∙ begins_so b first (layout_form wide) 0 in
+    let ends = laid_starts wide (map (insn_of unplaced b.arg_slots) (twin_items b first narrow)) starts in
     subst (λ code. Spells (with_place call bytes) (with_call call code) ends) (sym laid)
-    (with_called call bytes ends _ _ lt (are ∙ ap chosen_text narrow) (subst (λ code. Spells bytes code ends) laid s))
+    (with_called call bytes ends _ _ lt (are ∙ ap chosen_text begins) (subst (λ code. Spells bytes code ends) laid s))

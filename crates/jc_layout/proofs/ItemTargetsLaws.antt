@@ -1,5 +1,5 @@
 -- The instructions of a twin lead to instructions of it.
-use Rattle.std.proofs.Common.{◌≡◌, ⊎_elim, inl, inr, ℕ, zero, suc, ◌+◌, ◌<◌, Bool, List, [], ◌∷◌, map, length, Option, Some, refl, sym, ap, ◌∙◌, subst}
+use Rattle.std.proofs.Common.{◌≡◌, ⊎_elim, inl, inr, ℕ, zero, suc, ◌+◌, ◌<◌, List, [], ◌∷◌, map, length, Option, Some, refl, sym, ap, ◌∙◌, subst}
 use Rattle.std.specs.Prelude.{Contains}
 use Rattle.std.specs.List.{AllByRecursion}
 use Rattle.std.proofs.lemmas.Option.{slice_get_within}
@@ -18,8 +18,8 @@ use Rattle.jc_plan.specs.declared.branch.Branch.{Branch}
 use Rattle.jc_plan.specs.Edges.{arm, branches_by}
 use Rattle.jc_plan.specs.Probed.{probe_of}
 use Rattle.jc_kinds_after.specs.Shift.{with_slot}
-use Rattle.jc_emit.specs.Marks.{push}
-use Rattle.jc_emit.specs.Sizes.{insn_at}
+use Rattle.jc_emit.specs.Marks.{TwinPlaces, push}
+use Rattle.jc_emit.specs.Sizes.{TwinForm, insn_at}
 use Rattle.jc_emit.specs.TwinCode.{to_of}
 use Rattle.jc_emit.specs.Items.{Item, start, image, probe_array, probe_id, probe_one, probe_store, hop, insn_of, twin_items}
 use Rattle.jc_emit.specs.Local.{Stands, Lands, Ok, OkImage}
@@ -44,18 +44,18 @@ branch_of i k (s ∷ ts) t c =
 
 -- ---- where the items of a twin lead
 
-module _ (b : Body) (first : ℕ) (wide : Bool) (call : ℕ) where
+module _ (b : Body) (first : ℕ) (form : TwinForm) (named : TwinPlaces) where
   abbrev items : List Item
-  items = twin_items b first wide
+  items = twin_items b first form
 
   abbrev new : Item → Insn
-  new x = insn_of call b.arg_slots x
+  new x = insn_of named b.arg_slots x
 
   abbrev old : ℕ → Insn
   old i = insn_at b.code i
 
   abbrev count : ℕ
-  count = length (twin_items b first wide)
+  count = length (twin_items b first form)
 
   abbrev Image : ℕ → ℕ → Insn → Flow → Type 0
   Image q i insn flow = OkImage b.code (Some b.arg_slots) (probe_of b first) items q i (old i) insn flow

@@ -14,8 +14,9 @@ use Rattle.jc_methods.specs.declared.body.Use.{Use}
 use Rattle.jc_methods.specs.declared.emitted.Emitted.{Emitted}
 use Rattle.jc_bytes.proofs.BooleanLaws.{in_map, of_map}
 use Rattle.jc_insn.specs.Layouts.{laid_code}
+use Rattle.jc_emit.specs.Sizes.{narrow, widest, layout_form}
 use Rattle.jc_emit.specs.Shift.{probe_array_class}
-use Rattle.jc_emit.specs.Marks.{image_place, land_place, lead_place}
+use Rattle.jc_emit.specs.Marks.{unplaced, giver_at, image_place, land_place, lead_place}
 use Rattle.jc_emit.specs.TwinCode.{IsTwinCode}
 use Rattle.jc_emit.specs.TwinTables.{AreMovedTables, moved_row, moved_line, moved_var}
 use Rattle.jc_emit.specs.TwinFrames.{state_at, IsFrame, AreTwinFrames}
@@ -50,18 +51,18 @@ vars_twice v p land (x ∷ vars) = ap (λ l. moved_var v (λ i. p (land i)) x �
 -- ---- frames
 
 abbrev code_in : Body → ℕ → List Insn
-code_in b first = map (insn_of 0 b.arg_slots) (twin_items b first false)
+code_in b first = map (insn_of unplaced b.arg_slots) (twin_items b first narrow)
 
 abbrev own_in : Body → ℕ → Bool → List Bool
-own_in b first wide = map own_of (twin_items b first wide)
+own_in b first wide = map own_of (twin_items b first (layout_form wide))
 
-wide_lead : (b : Body) (first : ℕ) → IsCode b.code → (i : ℕ) → wide_place (code_in b first) (lead_of b first false i) ≡ lead_of b first true i
+wide_lead : (b : Body) (first : ℕ) → IsCode b.code → (i : ℕ) → wide_place (code_in b first) (lead_of b first narrow i) ≡ lead_of b first widest i
 unfolding twin_items
-wide_lead b first is_code i = lead_is b first 0 is_code i
+wide_lead b first is_code i = lead_is b first unplaced is_code i
 
-wide_land : (b : Body) (first : ℕ) → IsCode b.code → (i : ℕ) → wide_place (code_in b first) (land_of b first false i) ≡ land_of b first true i
+wide_land : (b : Body) (first : ℕ) → IsCode b.code → (i : ℕ) → wide_place (code_in b first) (land_of b first narrow i) ≡ land_of b first widest i
 unfolding twin_items
-wide_land b first is_code i = land_is b first 0 is_code i
+wide_land b first is_code i = land_is b first unplaced is_code i
 
 module _ (b : Body) (first : ℕ) (states : List State) (array : ℕ) (names : List (List ℕ)) (well : IsWellMadeOfAnySize b)
     (fit : (f : FrameAt) → Contains b.frames f → state_at states f.at ≡ f.state) (named : slice_index_or names array ([]) ≡ probe_array_class) where
@@ -86,8 +87,8 @@ module _ (b : Body) (first : ℕ) (states : List State) (array : ℕ) (names : L
 
   abbrev Frames : Bool → List FrameAt → Type 0
   Frames wide frames =
-      AreTwinFrames names names b.arg_slots (image_of b first wide)
-      (IsFrame b first states (image_of b first wide) (land_of b first wide) (lead_of b first wide) wide) frames
+      AreTwinFrames names names b.arg_slots (image_of b first (layout_form wide))
+      (IsFrame b first states (image_of b first (layout_form wide)) (land_of b first (layout_form wide)) (lead_of b first (layout_form wide)) (layout_form wide)) frames
 
   narrow_frames : Frames false (emission b first states array).frames
   unfolding emission
@@ -99,78 +100,79 @@ module _ (b : Body) (first : ℕ) (states : List State) (array : ℕ) (names : L
 
   -- ---- places
 
-  lead_in : (wide : Bool) (i : ℕ) → laid_place wide (code_in b first) (lead_of b first false i) ≡ lead_of b first wide i
+  lead_in : (wide : Bool) (i : ℕ) → laid_place wide (code_in b first) (lead_of b first narrow i) ≡ lead_of b first (layout_form wide) i
   lead_in false i = refl
   lead_in true i = wide_lead b first well.code i
 
-  land_in : (wide : Bool) (i : ℕ) → laid_place wide (code_in b first) (land_of b first false i) ≡ land_of b first wide i
+  land_in : (wide : Bool) (i : ℕ) → laid_place wide (code_in b first) (land_of b first narrow i) ≡ land_of b first (layout_form wide) i
   land_in false i = refl
   land_in true i = wide_land b first well.code i
 
-  leads_in : (wide : Bool) → (λ i. laid_place wide (code_in b first) (lead_of b first false i)) ≡ lead_of b first wide
+  leads_in : (wide : Bool) → (λ i. laid_place wide (code_in b first) (lead_of b first narrow i)) ≡ lead_of b first (layout_form wide)
   leads_in wide = λ k i. lead_in wide i k
 
-  lands_in : (wide : Bool) → (λ i. laid_place wide (code_in b first) (land_of b first false i)) ≡ land_of b first wide
+  lands_in : (wide : Bool) → (λ i. laid_place wide (code_in b first) (land_of b first narrow i)) ≡ land_of b first (layout_form wide)
   lands_in wide = λ k i. land_in wide i k
 
   -- what holds of the function's places holds of those that the own instructions tell
   at_own : (wide : Bool) (P : (image land lead : ℕ → ℕ) → Type 0)
-      → P (image_of b first wide) (land_of b first wide) (lead_of b first wide)
+      → P (image_of b first (layout_form wide)) (land_of b first (layout_form wide)) (lead_of b first (layout_form wide))
       → let own = own_in b first wide in P (image_place own) (land_place b first own) (lead_place b first own)
   at_own wide P h =
-      subst (λ f. P (image_place (own_in b first wide)) (land_place b first (own_in b first wide)) f) (sym (leads_are b first wide well.code))
-      (subst (λ f. P (image_place (own_in b first wide)) f (lead_of b first wide)) (sym (lands_are b first wide well.code))
-      (subst (λ f. P f (land_of b first wide) (lead_of b first wide)) (sym (images_are b first wide well.code)) h))
+      subst (λ f. P (image_place (own_in b first wide)) (land_place b first (own_in b first wide)) f) (sym (leads_are b first (layout_form wide) well.code))
+      (subst (λ f. P (image_place (own_in b first wide)) f (lead_of b first (layout_form wide))) (sym (lands_are b first (layout_form wide) well.code))
+      (subst (λ f. P f (land_of b first (layout_form wide)) (lead_of b first (layout_form wide))) (sym (images_are b first (layout_form wide) well.code)) h))
 
   -- where in the layout stands what stands for the instruction at a place of the emitted code
   abbrev placed : Bool → ℕ → ℕ
   placed wide = laid_place wide (code_in b first)
 
   rows_laid : (wide : Bool)
-      → map (moved_row (placed wide) (placed wide)) (map (moved_row (lead_of b first false) (land_of b first false)) b.handlers)
-      ≡ map (moved_row (lead_of b first wide) (land_of b first wide)) b.handlers
+      → map (moved_row (placed wide) (placed wide)) (map (moved_row (lead_of b first narrow) (land_of b first narrow)) b.handlers)
+      ≡ map (moved_row (lead_of b first (layout_form wide)) (land_of b first (layout_form wide))) b.handlers
   rows_laid wide =
-      rows_twice (laid_place wide (code_in b first)) (lead_of b first false) (land_of b first false) b.handlers
+      rows_twice (laid_place wide (code_in b first)) (lead_of b first narrow) (land_of b first narrow) b.handlers
       ∙ ap₂ (λ lead land. map (moved_row lead land) b.handlers) (leads_in wide) (lands_in wide)
 
-  lines_laid : (wide : Bool) → map (moved_line (laid_place wide (code_in b first))) (map (moved_line (land_of b first false)) b.lines) ≡ map (moved_line (land_of b first wide)) b.lines
+  lines_laid : (wide : Bool) → map (moved_line (laid_place wide (code_in b first))) (map (moved_line (land_of b first narrow)) b.lines) ≡ map (moved_line (land_of b first (layout_form wide))) b.lines
   lines_laid wide =
-      lines_twice (laid_place wide (code_in b first)) (land_of b first false) b.lines
+      lines_twice (laid_place wide (code_in b first)) (land_of b first narrow) b.lines
       ∙ ap (λ land. map (moved_line land) b.lines) (lands_in wide)
 
   vars_laid : (wide : Bool) (vars : List VarAt) → map (placed_var (laid_place wide (code_in b first)))
-      (map (moved_var b.arg_slots (land_of b first false)) vars) ≡ map (moved_var b.arg_slots (land_of b first wide)) vars
+      (map (moved_var b.arg_slots (land_of b first narrow)) vars) ≡ map (moved_var b.arg_slots (land_of b first (layout_form wide))) vars
   vars_laid wide vars =
-      vars_twice b.arg_slots (laid_place wide (code_in b first)) (land_of b first false) vars
+      vars_twice b.arg_slots (laid_place wide (code_in b first)) (land_of b first narrow) vars
       ∙ ap (λ land. map (moved_var b.arg_slots land) vars) (lands_in wide)
 
-  code_laid : (wide : Bool) (call : ℕ) → with_call call (laid_code wide (code_in b first)) ≡ map (insn_of call b.arg_slots) (twin_items b first wide)
-  code_laid wide call = ap (with_call call) (laid_is b first wide well.code) ∙ called b first wide call
+  code_laid : (wide : Bool) (call : ℕ) → with_call call (laid_code wide (code_in b first)) ≡ map (insn_of (giver_at call) b.arg_slots) (twin_items b first (layout_form wide))
+  code_laid wide call = ap (with_call call) (laid_is b first wide well.code) ∙ called b first (layout_form wide) call
 
   pub laid_twin : (wide : Bool) (call : ℕ) (uses : List Use) → what_used uses call ≡ Some (probe_init b.owner)
       → KeepsUses b (record b { uses = uses })
       → Twin names names states b.owner first b (laid_body b (emission b first states array) wide call uses)
   unfolding laid_body emission
   laid_twin wide call uses calls keeps = record {
-    marks = marks_of_items (twin_items b first wide);
-    wide = wide;
-    call = call;
+    marks = marks_of_items (twin_items b first (layout_form wide));
+    form = layout_form wide;
+    uniform = (wide, refl);
+    places = giver_at call;
     calls = calls;
     method = record { method = refl; owner = refl; name = refl; desc = refl; flags = refl; arg_slots = refl };
     uses = keeps;
     code =
-        subst (λ code. IsTwinCode b first wide call code (marks_of_items (twin_items b first wide))) (sym (code_laid wide call))
-        (code_told b first wide call well.code);
+        subst (λ code. IsTwinCode b first (layout_form wide) (giver_at call) code (marks_of_items (twin_items b first (layout_form wide)))) (sym (code_laid wide call))
+        (code_told b first (layout_form wide) (giver_at call) well.code);
     tables =
         at_own wide
         (λ image land lead. AreMovedTables b lead land
-        (map (moved_row (laid_place wide (code_in b first)) (laid_place wide (code_in b first))) (map (moved_row (lead_of b first false) (land_of b first false)) b.handlers))
-        (map (moved_line (laid_place wide (code_in b first))) (map (moved_line (land_of b first false)) b.lines))
-        (map (placed_var (laid_place wide (code_in b first))) (map (moved_var b.arg_slots (land_of b first false)) b.vars))
-        (map (placed_var (laid_place wide (code_in b first))) (map (moved_var b.arg_slots (land_of b first false)) b.kind_vars)))
+        (map (moved_row (laid_place wide (code_in b first)) (laid_place wide (code_in b first))) (map (moved_row (lead_of b first narrow) (land_of b first narrow)) b.handlers))
+        (map (moved_line (laid_place wide (code_in b first))) (map (moved_line (land_of b first narrow)) b.lines))
+        (map (placed_var (laid_place wide (code_in b first))) (map (moved_var b.arg_slots (land_of b first narrow)) b.vars))
+        (map (placed_var (laid_place wide (code_in b first))) (map (moved_var b.arg_slots (land_of b first narrow)) b.kind_vars)))
         (record { handlers_are = rows_laid wide; lines_are = lines_laid wide; vars_are = vars_laid wide b.vars; kind_vars_are = vars_laid wide b.kind_vars });
     frames =
-        at_own wide (λ image land lead. AreTwinFrames names names b.arg_slots image (IsFrame b first states image land lead wide) (laid_frames wide (emission b first states array)))
+        at_own wide (λ image land lead. AreTwinFrames names names b.arg_slots image (IsFrame b first states image land lead (layout_form wide)) (laid_frames wide (emission b first states array)))
         (laid_told wide);
     max_stack = refl;
     max_locals = refl;

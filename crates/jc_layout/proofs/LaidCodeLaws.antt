@@ -15,8 +15,8 @@ use Rattle.jc_insn.specs.Layouts.{laid_code}
 use Rattle.jc_plan.specs.declared.branch.Branch.{Branch}
 use Rattle.jc_plan.specs.Probed.{probe_of}
 use Rattle.jc_plan.specs.Plan.{lead_probe}
-use Rattle.jc_emit.specs.Marks.{invokestatic, astore}
-use Rattle.jc_emit.specs.Sizes.{insn_at, early_probe, late_probe, arms_at}
+use Rattle.jc_emit.specs.Marks.{TwinPlaces, unplaced, giver_at, invokestatic, astore}
+use Rattle.jc_emit.specs.Sizes.{TwinForm, narrow, layout_form, is_wide, insn_at, early_probe, late_probe, arms_at}
 use Rattle.jc_emit.specs.TwinCode.{to_of}
 use Rattle.jc_emit.specs.Items.{Item, start, insn_of, lead_part, early_part, hop_part, arm_parts, test_part, lead_of, land_of, image_of, tests_part, image_part, segment, twin_items}
 use Rattle.jc_emit.specs.Local.{IsBehind}
@@ -25,11 +25,11 @@ use Rattle.jc_layout.specs.LaidBody.{with_call}
 
 -- ---- behind the prelude no instruction names the method
 
-same_insn : (c d v : ℕ) (x : Item) → IsBehind x → insn_of c v x ≡ insn_of d v x
+same_insn : (c d : TwinPlaces) (v : ℕ) (x : Item) → IsBehind x → insn_of c v x ≡ insn_of d v x
 same_insn c d v (start k) h = absurd h
 same_insn c d v x h = refl
 
-same_insns : (c d v : ℕ) (items : List Item) → AllByRecursion IsBehind items → map (insn_of c v) items ≡ map (insn_of d v) items
+same_insns : (c d : TwinPlaces) (v : ℕ) (items : List Item) → AllByRecursion IsBehind items → map (insn_of c v) items ≡ map (insn_of d v) items
 same_insns c d v [] h = refl
 same_insns c d v (x ∷ items) h = ap₂ (λ y l. y ∷ l) (same_insn c d v x h.0) (same_insns c d v items h.1)
 
@@ -57,61 +57,61 @@ test_behind : (wide : Bool) (q : ℕ) (insn : Insn) (i on : ℕ) (due : Option �
 test_behind false q insn i on due = (tt, tt)
 test_behind true q insn i on due = (tt, (tt, tt))
 
-module _ (b : Body) (first : ℕ) (wide : Bool) where
+module _ (b : Body) (first : ℕ) (form : TwinForm) where
   abbrev land : ℕ → ℕ
-  land i = land_of b first wide i
+  land i = land_of b first form i
 
   abbrev old : ℕ → Insn
   old i = insn_at b.code i
 
-  tests_behind : (i : ℕ) (insn : Insn) (o : Option ℕ) → AllBehind (tests_part b first wide i insn o)
-  tests_behind i insn None = test_behind wide (image_of b first wide i) (with_places (land_of b first wide) insn) i (jump_target insn) None
+  tests_behind : (i : ℕ) (insn : Insn) (o : Option ℕ) → AllBehind (tests_part b first form i insn o)
+  tests_behind i insn None = test_behind (is_wide form i) (image_of b first form i) (with_places (land_of b first form) insn) i (jump_target insn) None
   tests_behind i insn (Some id) =
-      all_both IsBehind (test_part wide (image_of b first wide i) (inverted (lead_of b first wide (i + 1)) insn) i (i + 1) (lead_probe b first (i + 1)))
-      (hop_part (land_of b first wide) (Some id) (jump_target insn))
-      (test_behind wide (image_of b first wide i) (inverted (lead_of b first wide (i + 1)) insn) i (i + 1) (lead_probe b first (i + 1)))
-      (hop_behind (land_of b first wide) (Some id) (jump_target insn))
+      all_both IsBehind (test_part (is_wide form i) (image_of b first form i) (inverted (lead_of b first form (i + 1)) insn) i (i + 1) (lead_probe b first (i + 1)))
+      (hop_part (land_of b first form) (Some id) (jump_target insn))
+      (test_behind (is_wide form i) (image_of b first form i) (inverted (lead_of b first form (i + 1)) insn) i (i + 1) (lead_probe b first (i + 1)))
+      (hop_behind (land_of b first form) (Some id) (jump_target insn))
 
-  main_behind : (i : ℕ) (flow : Flow) → AllBehind (image_part b first wide i (old i) flow)
+  main_behind : (i : ℕ) (flow : Flow) → AllBehind (image_part b first form i (old i) flow)
   main_behind i flows.GoesOn = (tt, tt)
   main_behind i flows.Branches = tests_behind i (old i) (late_probe b first i)
   main_behind i flows.Jumps = (tt, tt)
-  main_behind i flows.Switches = (tt, arms_behind (land_of b first wide) (probe_of b first) (arms_at b.code i))
+  main_behind i flows.Switches = (tt, arms_behind (land_of b first form) (probe_of b first) (arms_at b.code i))
   main_behind i flows.Returns = (tt, tt)
   main_behind i flows.Throws = (tt, tt)
 
-  segment_behind : (i : ℕ) → AllBehind (segment b first wide i)
+  segment_behind : (i : ℕ) → AllBehind (segment b first form i)
   segment_behind i =
-      all_both IsBehind (lead_part (lead_probe b first i) i) (early_part (early_probe b first i) i ++ image_part b first wide i (old i) (flow_of (old i)))
+      all_both IsBehind (lead_part (lead_probe b first i) i) (early_part (early_probe b first i) i ++ image_part b first form i (old i) (flow_of (old i)))
       (lead_behind (lead_probe b first i) i)
-      (all_both IsBehind (early_part (early_probe b first i) i) (image_part b first wide i (old i) (flow_of (old i)))
+      (all_both IsBehind (early_part (early_probe b first i) i) (image_part b first form i (old i) (flow_of (old i)))
       (early_behind (early_probe b first i) i) (main_behind i (flow_of (old i))))
 
-  pieces_behind : (n : ℕ) → AllBehind (pieces (segment b first wide) n)
+  pieces_behind : (n : ℕ) → AllBehind (pieces (segment b first form) n)
   pieces_behind zero = tt
-  pieces_behind (suc n) = all_both IsBehind (pieces (segment b first wide) n) (segment b first wide n) (pieces_behind n) (segment_behind n)
+  pieces_behind (suc n) = all_both IsBehind (pieces (segment b first form) n) (segment b first form n) (pieces_behind n) (segment_behind n)
 
   -- ---- the code
 
   -- the code behind the call
   abbrev rest_of : ℕ → List Insn
-  rest_of call = astore b.arg_slots ∷ map (insn_of call b.arg_slots) (pieces (segment b first wide) (length b.code))
+  rest_of call = astore b.arg_slots ∷ map (insn_of (giver_at call) b.arg_slots) (pieces (segment b first form) (length b.code))
 
-  pub begins_so : (call : ℕ) → map (insn_of call b.arg_slots) (twin_items b first wide) ≡ invokestatic call ∷ rest_of call
+  pub begins_so : (call : ℕ) → map (insn_of (giver_at call) b.arg_slots) (twin_items b first form) ≡ invokestatic call ∷ rest_of call
   unfolding twin_items
   begins_so call = refl
 
   same_rest : (c d : ℕ) → rest_of c ≡ rest_of d
   same_rest c d =
       ap (λ (l : List Insn). astore b.arg_slots ∷ l)
-      (same_insns c d b.arg_slots (pieces (segment b first wide) (length b.code)) (pieces_behind (length b.code)))
+      (same_insns (giver_at c) (giver_at d) b.arg_slots (pieces (segment b first form) (length b.code)) (pieces_behind (length b.code)))
 
-  pub called : (call : ℕ) → with_call call (map (insn_of 0 b.arg_slots) (twin_items b first wide)) ≡ map (insn_of call b.arg_slots) (twin_items b first wide)
+  pub called : (call : ℕ) → with_call call (map (insn_of unplaced b.arg_slots) (twin_items b first form)) ≡ map (insn_of (giver_at call) b.arg_slots) (twin_items b first form)
   called call =
       ap (with_call call) (begins_so 0) ∙ ap (λ (l : List Insn). invokestatic call ∷ l) (same_rest 0 call) ∙ sym (begins_so call)
 
 -- the code of the narrow layout, or its wide form
 pub laid_is : (b : Body) (first : ℕ) (wide : Bool) → IsCode b.code
-    → laid_code wide (map (insn_of 0 b.arg_slots) (twin_items b first false)) ≡ map (insn_of 0 b.arg_slots) (twin_items b first wide)
+    → laid_code wide (map (insn_of unplaced b.arg_slots) (twin_items b first narrow)) ≡ map (insn_of unplaced b.arg_slots) (twin_items b first (layout_form wide))
 laid_is b first false is_code = refl
-laid_is b first true is_code = widened_is b first 0 is_code
+laid_is b first true is_code = widened_is b first unplaced is_code

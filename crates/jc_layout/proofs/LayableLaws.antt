@@ -1,5 +1,5 @@
 -- Instrumented code can be laid out.
-use Rattle.std.proofs.Common.{◌≡◌, ⊎_elim, ℕ, zero, suc, ◌+◌, ◌<◌, false, List, [], ◌∷◌, map, length, get_or, Some, refl, sym, subst, arith, ◌≤◌, All}
+use Rattle.std.proofs.Common.{◌≡◌, ⊎_elim, ℕ, zero, suc, ◌+◌, ◌<◌, List, [], ◌∷◌, map, length, get_or, Some, refl, sym, subst, arith, ◌≤◌, All}
 use Rattle.std.specs.List.{sum_by}
 use Rattle.std.proofs.lemmas.List.{length-map}
 use Rattle.std.proofs.lemmas.List.Elements.{All-map}
@@ -17,8 +17,9 @@ use Rattle.jc_methods.specs.declared.body.Body.{Body}
 use Rattle.jc_methods.specs.declared.kind.State.{State}
 use Rattle.jc_insn.proofs.PlacesLaws.{well_formed_with}
 use Rattle.jc_plan.specs.Probed.{probe_of}
+use Rattle.jc_emit.specs.Marks.{unplaced}
 use Rattle.jc_emit.specs.Emission.{emission}
-use Rattle.jc_emit.specs.Sizes.{insn_at}
+use Rattle.jc_emit.specs.Sizes.{narrow, insn_at}
 use Rattle.jc_emit.specs.Items.{Item, start, image, probe_array, probe_id, probe_one, probe_store, hop, insn_of, twin_items}
 use Rattle.jc_emit.specs.Local.{Ok, OkImage}
 use Rattle.jc_emit.proofs.FewLaws.{few_emitted}
@@ -28,16 +29,16 @@ use Rattle.jc_layout.proofs.FormedLaws.{inverted_formed, slot_formed, call_forme
 
 module _ (b : Body) (first : ℕ) (is_code : IsCode b.code) where
   abbrev items : List Item
-  items = twin_items b first false
+  items = twin_items b first narrow
 
   abbrev new : Item → Insn
-  new x = insn_of 0 b.arg_slots x
+  new x = insn_of unplaced b.arg_slots x
 
   abbrev old : ℕ → Insn
   old i = insn_at b.code i
 
   abbrev count : ℕ
-  count = length (twin_items b first false)
+  count = length (twin_items b first narrow)
 
   abbrev Image : ℕ → ℕ → Insn → Flow → Type 0
   Image q i insn flow = OkImage b.code (Some b.arg_slots) (probe_of b first) items q i (old i) insn flow
@@ -73,15 +74,15 @@ module _ (b : Body) (first : ℕ) (is_code : IsCode b.code) where
   -- ---- the whole
 
   fine : (q : ℕ) (d : Item) → q < length items → Fine q (get_or items q d)
-  fine q d lt = (twin_ok b first false is_code).ok q (get_or items q d) (slice_get-get_or items q d lt)
+  fine q d lt = (twin_ok b first narrow is_code).ok q (get_or items q d) (slice_get-get_or items q d lt)
 
-  pub all_formed : All IsWellFormed (map (insn_of 0 b.arg_slots) (twin_items b first false))
-  all_formed = All-map IsWellFormed (insn_of 0 b.arg_slots) items (λ q d lt. item_formed q (get_or items q d) (fine q d lt))
+  pub all_formed : All IsWellFormed (map (insn_of unplaced b.arg_slots) (twin_items b first narrow))
+  all_formed = All-map IsWellFormed (insn_of unplaced b.arg_slots) items (λ q d lt. item_formed q (get_or items q d) (fine q d lt))
 
-  pub all_within : All (LeadsWithin (length (map (insn_of 0 b.arg_slots) (twin_items b first false)))) (map (insn_of 0 b.arg_slots) (twin_items b first false))
+  pub all_within : All (LeadsWithin (length (map (insn_of unplaced b.arg_slots) (twin_items b first narrow)))) (map (insn_of unplaced b.arg_slots) (twin_items b first narrow))
   all_within =
-      subst (λ n. All (LeadsWithin n) (map (insn_of 0 b.arg_slots) items)) (sym (length-map items (insn_of 0 b.arg_slots)))
-      (All-map (LeadsWithin count) (insn_of 0 b.arg_slots) items (λ q d lt. item_within b first false 0 q (get_or items q d) (fine q d lt)))
+      subst (λ n. All (LeadsWithin n) (map (insn_of unplaced b.arg_slots) items)) (sym (length-map items (insn_of unplaced b.arg_slots)))
+      (All-map (LeadsWithin count) (insn_of unplaced b.arg_slots) items (λ q d lt. item_within b first narrow unplaced q (get_or items q d) (fine q d lt)))
 
 -- ---- how many there are
 

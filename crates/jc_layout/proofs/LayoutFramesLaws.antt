@@ -15,7 +15,7 @@ use Rattle.jc_methods.specs.declared.body.FrameAt.{FrameAt}
 use Rattle.jc_plan.specs.declared.branch.Branch.{Branch}
 use Rattle.jc_plan.specs.Plan.{lead_probe}
 use Rattle.jc_emit.specs.Shift.{probe_array_class}
-use Rattle.jc_emit.specs.Sizes.{insn_at, late_probe, arms_by, arms_at}
+use Rattle.jc_emit.specs.Sizes.{narrow, insn_at, late_probe, arms_by, arms_at}
 use Rattle.jc_emit.specs.TwinFrames.{state_at, left_by}
 use Rattle.jc_emit.specs.Items.{segment_size, lead_of, land_of, image_of}
 use Rattle.jc_emit.specs.Emission.{emission, frame, frame_if, moved_state, has_frame, has_inverse, arm_frames, frames_at, is_further, wide_frames_at}
@@ -75,10 +75,10 @@ merged_if false f frames less = sym (append-nil frames)
 module _ (b : Body) (first : ℕ) (states : List State) (array : ℕ) (names : List (List ℕ)) (well : IsWellMadeOfAnySize b)
     (fit : (f : FrameAt) → Contains b.frames f → state_at states f.at ≡ f.state) (named : slice_index_or names array ([]) ≡ probe_array_class) where
   abbrev q_of : ℕ → ℕ
-  q_of i = image_of b first false i
+  q_of i = image_of b first narrow i
 
   abbrev lead : ℕ → ℕ
-  lead i = lead_of b first false i
+  lead i = lead_of b first narrow i
 
   abbrev part : ℕ → List FrameAt
   part i = frames_at b first states array i
@@ -93,7 +93,7 @@ module _ (b : Body) (first : ℕ) (states : List State) (array : ℕ) (names : L
   behind i = wide_frame b first states array names well.code well.frames fit named i
 
   lead_grows : (i j : ℕ) → i ≤ j → lead i ≤ lead j
-  lead_grows i j le = omega (arith, total_grows (segment_size b first false) i j le)
+  lead_grows i j le = omega (arith, total_grows (segment_size b first narrow) i j le)
 
   part_within : (i : ℕ) (f : FrameAt) → Contains (part i) f → (lead i ≤ f.at) × (f.at < lead (suc i))
   part_within i f c =
@@ -112,7 +112,7 @@ module _ (b : Body) (first : ℕ) (states : List State) (array : ℕ) (names : L
   lead_frames i = frame_if (leads_there i) (frame (lead i) (moved (state_at states i)))
 
   abbrev land_frames : ℕ → List FrameAt
-  land_frames i = frame_if (lands_there i) (frame (land_of b first false i) (moved (state_at states i)))
+  land_frames i = frame_if (lands_there i) (frame (land_of b first narrow i) (moved (state_at states i)))
 
   abbrev arms_with : ℕ → List Branch → List FrameAt
   arms_with i xs = arm_frames b first states array (q_of i + 1) (moved (left_by (insn_at b.code i) (state_at states i))) xs
@@ -128,8 +128,8 @@ module _ (b : Body) (first : ℕ) (states : List State) (array : ℕ) (names : L
       (λ rest.
       ⊎_elim
       (λ middle.
-      let h = if_listed (lands_there i) (frame (land_of b first false i) (moved (state_at states i))) f middle in
-      let same : land_of b first false i ≡ f.at = ap (λ x. x.at) h.1 in
+      let h = if_listed (lands_there i) (frame (land_of b first narrow i) (moved (state_at states i))) f middle in
+      let same : land_of b first narrow i ≡ f.at = ap (λ x. x.at) h.1 in
       omega (arith, same))
       (λ last. absurd (none_in f (subst (λ l. Contains (arms_with i l) f) (ap (arms_by i (insn_at b.code i)) e) last)))
       (Contains-append_cases (land_frames i) (arms_with i (arms_at b.code i)) f rest))

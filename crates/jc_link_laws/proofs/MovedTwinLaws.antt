@@ -16,7 +16,7 @@ use Rattle.jc_kinds_after.specs.Shift.{shifted}
 use Rattle.jc_kinds.specs.Answers.{AreStates}
 use Rattle.jc_plan.specs.Probed.{probe_of, probe_count}
 use Rattle.jc_emit.specs.Marks.{image_place, land_place, lead_place}
-use Rattle.jc_emit.specs.Sizes.{insn_at, arms_at, late_probe}
+use Rattle.jc_emit.specs.Sizes.{TwinForm, insn_at, arms_at, late_probe}
 use Rattle.jc_emit.specs.Twin.{Twin, AreFramesOf}
 use Rattle.jc_emit.specs.TwinCode.{arm_place, to_of}
 use Rattle.jc_emit.specs.TwinFrames.{no_state, state_at, operands_of, left_by, state_behind, IsOldFrame, IsInverseFrame, IsArmFrame, IsWideFrame, IsFrame}
@@ -111,12 +111,12 @@ module _ (names others : Names) (b : Body) (gs : List FrameAt) (same : map (type
     abbrev image : ℕ → ℕ
     image = image_place own
 
-    abbrev Asked : Body → List State → Bool → ℕ → State → Type 0
-    Asked x ss wide = IsFrame x first ss (image_place own) (land_place x first own) (lead_place x first own) wide
+    abbrev Asked : Body → List State → TwinForm → ℕ → State → Type 0
+    Asked x ss form = IsFrame x first ss (image_place own) (land_place x first own) (lead_place x first own) form
 
     -- a frame of the other body that is asked for at the place, and says the same
-    abbrev Answers : Bool → ℕ → State → Type 0
-    Answers wide q s = (t : State) × Asked d more wide q t × Says s t
+    abbrev Answers : TwinForm → ℕ → State → Type 0
+    Answers form q s = (t : State) × Asked d more form q t × Says s t
 
     land_at : (i : ℕ) → land_place b first own i ≡ land_place d first own i
     land_at i = ap (λ (f : ℕ → ℕ). f i) (land_place_same b b.frames gs first own)
@@ -135,16 +135,16 @@ module _ (names others : Names) (b : Body) (gs : List FrameAt) (same : map (type
         ≡ arm_place (probe_of d first) (land_place d first own) (image i + 1) (arms_at b.code i) to
     arm_at i to = λ k. arm_place (λ x. probe_at x k) (λ n. land_at n k) (image i + 1) (arms_at b.code i) to
 
-    old_there : (wide : Bool) (q : ℕ) (s : State) → IsOldFrame b first states image (land_place b first own) (lead_place b first own) q s → Answers wide q s
-    old_there wide q s h =
+    old_there : (form : TwinForm) (q : ℕ) (s : State) → IsOldFrame b first states image (land_place b first own) (lead_place b first own) q s → Answers form q s
+    old_there form q s h =
         let f = frame_there names others b.frames gs same h.frame h.listed in (
           f.0.state,
           inl (inl (record { frame = f.0; listed = f.1; place = h.place ∙ land_at h.frame.at ∙ ap (land_place d first own) (sym f.2); state_is = refl })),
           f.3 ∙ ap (type_state names) (sym h.state_is),
         )
 
-    inverse_there : (wide : Bool) (q : ℕ) (s : State) → IsInverseFrame b first states image (land_place b first own) (lead_place b first own) q s → Answers wide q s
-    inverse_there wide q s h = (
+    inverse_there : (form : TwinForm) (q : ℕ) (s : State) → IsInverseFrame b first states image (land_place b first own) (lead_place b first own) q s → Answers form q s
+    inverse_there form q s h = (
       state_at more (h.test + 1),
       inl (inr (inl (record {
         test = h.test;
@@ -157,8 +157,8 @@ module _ (names others : Names) (b : Body) (gs : List FrameAt) (same : map (type
       seen_same (h.test + 1) ∙ ap (type_state names) (sym h.state_is),
     )
 
-    arm_there : (wide : Bool) (q : ℕ) (s : State) → IsArmFrame b first states image (land_place b first own) (lead_place b first own) q s → Answers wide q s
-    arm_there wide q s h = (
+    arm_there : (form : TwinForm) (q : ℕ) (s : State) → IsArmFrame b first states image (land_place b first own) (lead_place b first own) q s → Answers form q s
+    arm_there form q s h = (
       left_by (insn_at b.code h.switch) (state_at more h.switch),
       inl (inr (inr (record {
         switch = h.switch;
@@ -173,8 +173,8 @@ module _ (names others : Names) (b : Body) (gs : List FrameAt) (same : map (type
       left_same (insn_at b.code h.switch) (state_at states h.switch) (state_at more h.switch) (seen_same h.switch) ∙ ap (type_state names) (sym h.state_is),
     )
 
-    wide_there : (wide : Bool) (q : ℕ) (s : State) → IsWideFrame b first states image (land_place b first own) (lead_place b first own) wide q s → Answers wide q s
-    wide_there wide q s h =
+    wide_there : (form : TwinForm) (q : ℕ) (s : State) → IsWideFrame b first states image (land_place b first own) (lead_place b first own) form q s → Answers form q s
+    wide_there form q s h =
         let i = h.behind.test in (
           state_behind d more i (late_probe d first i),
           inr (record {
@@ -184,33 +184,33 @@ module _ (names others : Names) (b : Body) (gs : List FrameAt) (same : map (type
           ap (λ (o : Option ℕ). type_state others (state_behind d more i o)) (sym (late_at i)) ∙ behind_same i (late_probe b first i) ∙ ap (type_state names) (sym h.behind.state_is),
         )
 
-    pub asked_there : (wide : Bool) (q : ℕ) (s : State) → Asked b states wide q s → Answers wide q s
-    asked_there wide q s (inl (inl h)) = old_there wide q s h
-    asked_there wide q s (inl (inr (inl h))) = inverse_there wide q s h
-    asked_there wide q s (inl (inr (inr h))) = arm_there wide q s h
-    asked_there wide q s (inr h) = wide_there wide q s h
+    pub asked_there : (form : TwinForm) (q : ℕ) (s : State) → Asked b states form q s → Answers form q s
+    asked_there form q s (inl (inl h)) = old_there form q s h
+    asked_there form q s (inl (inr (inl h))) = inverse_there form q s h
+    asked_there form q s (inl (inr (inr h))) = arm_there form q s h
+    asked_there form q s (inr h) = wide_there form q s h
 
 -- ---- the twin
 
 module _ (names others new_names new_others : Names) (b : Body) (gs : List FrameAt) (same : map (type_state_at others) gs ≡ map (type_state_at names) b.frames)
     (states more : List State) (are : AreStates names b states) (are_more : AreStates others (record b { frames = gs }) more)
     (first : ℕ) (y : Body) (hs : List FrameAt) (same_new : map (type_state_at new_others) hs ≡ map (type_state_at new_names) y.frames) where
-  frames_there : (wide : Bool) (own : List Bool) → AreFramesOf names new_names states first b wide own y.frames
-      → AreFramesOf others new_others more first (record b { frames = gs }) wide own hs
-  frames_there wide own h = record {
+  frames_there : (form : TwinForm) (own : List Bool) → AreFramesOf names new_names states first b form own y.frames
+      → AreFramesOf others new_others more first (record b { frames = gs }) form own hs
+  frames_there form own h = record {
     rising = rise_same new_names new_others 0 y.frames hs same_new h.rising;
     each = λ f listed.
         let g = frame_there new_others new_names hs y.frames (sym same_new) f listed in
         let old = h.each g.0 g.1 in
-        let a = asked_there names others b gs same states more are are_more first own wide g.0.at old.0 old.1 in (
+        let a = asked_there names others b gs same states more are are_more first own form g.0.at old.0 old.1 in (
           a.0,
           subst
               (λ (q : ℕ). IsFrame (record b { frames = gs }) first more (image_place own) (land_place (record b { frames = gs }) first own)
-              (lead_place (record b { frames = gs }) first own) wide q a.0) g.2 a.1,
+              (lead_place (record b { frames = gs }) first own) form q a.0) g.2 a.1,
           sym g.3 ∙ old.2 ∙ ap (shifted (image_place own) b.arg_slots) (sym a.2),
         );
     every = λ q s asked.
-        let a = asked_there others names (record b { frames = gs }) b.frames (sym same) more states are_more are first own wide q s asked in
+        let a = asked_there others names (record b { frames = gs }) b.frames (sym same) more states are_more are first own form q s asked in
         let f = h.every q a.0 a.1 in
         let g = frame_there new_names new_others y.frames hs same_new f.0 f.1 in
         (g.0, g.1, g.2 ∙ f.2, g.3 ∙ f.3 ∙ ap (shifted (image_place own) b.arg_slots) a.2);
@@ -219,8 +219,9 @@ module _ (names others new_names new_others : Names) (b : Body) (gs : List Frame
   twin_there : (owner : List ℕ) → Twin names new_names states owner first b y → Twin others new_others more owner first (record b { frames = gs }) (record y { frames = hs })
   twin_there owner t = record {
     marks = t.marks;
-    wide = t.wide;
-    call = t.call;
+    form = t.form;
+    uniform = t.uniform;
+    places = t.places;
     calls = t.calls;
     method = record {
       method = t.method.method;
@@ -231,9 +232,9 @@ module _ (names others new_names new_others : Names) (b : Body) (gs : List Frame
       arg_slots = t.method.arg_slots;
     };
     uses = t.uses;
-    code = code_there b b.frames gs first t.wide t.call y.code t.marks t.code;
+    code = code_there b b.frames gs first t.form t.places y.code t.marks t.code;
     tables = tables_there b b.frames gs first (t.marks).own y.handlers y.lines y.vars y.kind_vars t.tables;
-    frames = frames_there t.wide (t.marks).own t.frames;
+    frames = frames_there t.form (t.marks).own t.frames;
     max_stack = t.max_stack;
     max_locals = t.max_locals;
   }

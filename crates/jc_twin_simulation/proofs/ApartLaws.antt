@@ -22,7 +22,7 @@ use Rattle.jc_programs.specs.declared.run_end.Entry.{Entry}
 use Rattle.jc_programs.specs.Members.{class_at, body_of}
 use Rattle.jc_emit.specs.Items.{Item, start, image, probe_array, probe_id, probe_one, probe_store, hop, at_of, extra_of}
 use Rattle.jc_emit.specs.Local.{OkStart, OkImage}
-use Rattle.jc_emit.specs.Marks.{Marks, push}
+use Rattle.jc_emit.specs.Marks.{TwinPlaces, Marks, push}
 use Rattle.jc_emit.specs.Sizes.{insn_at}
 use Rattle.jc_emit.specs.TwinProgram.{IsPair, IsChangedPair, IsUnchangedPair, data_static}
 use Rattle.jc_plan.specs.Edges.{sequence}
@@ -237,15 +237,15 @@ module _ (p p' : Program) (sides : Entry → Side) (marks : Entry → Marks) (ar
   no_number : (n op place : ℕ) → push n ≡ insns.Member op place → ⊥
   no_number n op place e = ⊎_elim (λ h. let no = sym h.1 ∙ e in cc) (λ h. let no = sym h.1 ∙ e in cc) (number_form n)
 
-  calling : (uses : List Use) (call v : ℕ) (x : Item) (insn : Insn) (op place : ℕ) → IsInsnOf uses call v x insn → insn ≡ insns.Member op place → IsCalling x
-  calling uses call v (start zero) insn op place h e = the_prelude refl
-  calling uses call v (image new at early) insn op place h e = an_image new at early refl
-  calling uses call v (start (suc k)) insn op place h e = let no = sym h ∙ e in cc
-  calling uses call v (probe_array id at late) insn op place h e = let no = sym h ∙ e in cc
-  calling uses call v (probe_id id at late) insn op place h e = absurd (no_number id op place (sym h ∙ e))
-  calling uses call v (probe_one id at late) insn op place h e = let no = sym h ∙ e in cc
-  calling uses call v (probe_store id at late) insn op place h e = let no = sym h ∙ e in cc
-  calling uses call v (hop to at due) insn op place h e = let no = sym h ∙ e in cc
+  calling : (uses : List Use) (named : TwinPlaces) (v : ℕ) (x : Item) (insn : Insn) (op place : ℕ) → IsInsnOf uses named v x insn → insn ≡ insns.Member op place → IsCalling x
+  calling uses named v (start zero) insn op place h e = the_prelude refl
+  calling uses named v (image new at early) insn op place h e = an_image new at early refl
+  calling uses named v (start (suc k)) insn op place h e = let no = sym h ∙ e in cc
+  calling uses named v (probe_array id at late) insn op place h e = let no = sym h ∙ e in cc
+  calling uses named v (probe_id id at late) insn op place h e = absurd (no_number id op place (sym h ∙ e))
+  calling uses named v (probe_one id at late) insn op place h e = let no = sym h ∙ e in cc
+  calling uses named v (probe_store id at late) insn op place h e = let no = sym h ∙ e in cc
+  calling uses named v (hop to at due) insn op place h e = let no = sym h ∙ e in cc
 
   -- the instruction at a place of a method that is there
   insn_there : (r : Program) (m : Entry) (q : ℕ) (i : LocatedInsn) (c : Linked) (b : Body) → slice_get r.classes m.class ≡ Some c
@@ -270,9 +270,9 @@ module _ (p p' : Program) (sides : Entry → Side) (marks : Entry → Marks) (ar
         let c = side.changed v e in
         let there = insn_there p' f.method f'.place at.insn t.new t.twin side.new_is side.twin_is (ap (λ m. located p' m f'.place) (sym h.one.method) ∙ at.stands) in
         let twin = twin_insn p p' sides f.method side f'.place (start 0) (h.here ∙ ap Some call) in
-        let insn : at.insn.insn ≡ insns.Member opcode.invokestatic t.call = same_Some at.insn.insn twin.0 (sym there.0 ∙ twin.1) ∙ twin.2 in
+        let insn : at.insn.insn ≡ insns.Member opcode.invokestatic t.places.giver = same_Some at.insn.insn twin.0 (sym there.0 ∙ twin.1) ∙ twin.2 in
         let named : called_by p' at.insn.at at.insn.insn ≡ Some (init_method p p' sides f.method) =
-        ap (called_by p' at.insn.at) insn ∙ ap (λ (l : Location). named_by p' (what_used l.body.uses t.call)) there.1
+        ap (called_by p' at.insn.at) insn ∙ ap (λ (l : Location). named_by p' (what_used l.body.uses t.places.giver)) there.1
         ∙ ap (named_by p') c.calls ∙ called p p' sides are s s' ss f f' h call v c in
         same_Some callee (init_method p p' sides f.method) (sym at.calls ∙ named)
 
@@ -301,7 +301,7 @@ module _ (p p' : Program) (sides : Entry → Side) (marks : Entry → Marks) (ar
         (ap (λ m. located p' m f'.place) (sym h.one.method) ∙ w'.at_call.stands) in
         let twin = twin_insn p p' sides f.method side f'.place h.item h.here in
         let member = member_called p' w'.at_call.insn.at w'.at_call.insn.insn callee' w'.at_call.calls in
-        by (calling t.twin.uses t.call t.body.arg_slots h.item twin.0 member.0 member.1 twin.2 (same_Some twin.0 w'.at_call.insn.insn (sym twin.1 ∙ there.0) ∙ member.2))
+        by (calling t.twin.uses t.places t.body.arg_slots h.item twin.0 member.0 member.1 twin.2 (same_Some twin.0 w'.at_call.insn.insn (sym twin.1 ∙ there.0) ∙ member.2))
       where
         goes_on : flow_of (insn_at (sides f.method).body.code f.place) ≡ flows.GoesOn
         goes_on =

@@ -75,7 +75,7 @@ module _ (p p' : Program) (sides : Entry → Side) where
 
   -- the twin's instruction
   pub twin_insn : (m : Entry) → IsSide p p' m (sides m) → (q : ℕ) (x : Item) → slice_get (sides m).items q ≡ Some x
-      → (insn : Insn) × (slice_get (sides m).twin.code q ≡ Some insn) × IsInsnOf (sides m).twin.uses (sides m).call (sides m).body.arg_slots x insn
+      → (insn : Insn) × (slice_get (sides m).twin.code q ≡ Some insn) × IsInsnOf (sides m).twin.uses (sides m).places (sides m).body.arg_slots x insn
   twin_insn m side q x here = side.code.each q x here
 
   -- a prelude stands at the beginning of a twin

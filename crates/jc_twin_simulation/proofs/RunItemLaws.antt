@@ -15,7 +15,7 @@ use Rattle.jc_plan.specs.declared.branch.Branch.{Branch}
 use Rattle.jc_plan.specs.Plan.{lead_probe}
 use Rattle.jc_plan.specs.Probed.{probe_of}
 use Rattle.jc_emit.specs.Items.{Item, start, image, probe_array, probe_id, probe_one, probe_store, hop, own_of, prelude, lead_part, early_part, hop_part, arm_parts, test_part, segment, tests_part, image_part, twin_items, lead_of, land_of, image_of}
-use Rattle.jc_emit.specs.Sizes.{insn_at, early_probe, late_probe, arms_at, is_wide}
+use Rattle.jc_emit.specs.Sizes.{TwinForm, insn_at, early_probe, late_probe, arms_at, is_wide}
 use Rattle.jc_emit.specs.TwinCode.{to_of, arm_place}
 use Rattle.jc_twin_simulation.specs.ProbeRuns.{MayFollow, IsFirst, RunsOn, AreRuns}
 
@@ -69,41 +69,41 @@ test_runs : (b : Bool) (q : ℕ) (insn : Insn) (i on : ℕ) (due : Option ℕ) �
 test_runs false q insn i on due = (tt, tt)
 test_runs true q insn i on due = (tt, (tt, tt))
 
-module _ (b : Body) (first : ℕ) (wide : Bool) where
-  tests_runs : (i : ℕ) (insn : Insn) (o : Option ℕ) → AreRuns (tests_part b first wide i insn o)
-  tests_runs i insn None = test_runs (is_wide wide i) (image_of b first wide i) (with_places (land_of b first wide) insn) i (jump_target insn) None
+module _ (b : Body) (first : ℕ) (form : TwinForm) where
+  tests_runs : (i : ℕ) (insn : Insn) (o : Option ℕ) → AreRuns (tests_part b first form i insn o)
+  tests_runs i insn None = test_runs (is_wide form i) (image_of b first form i) (with_places (land_of b first form) insn) i (jump_target insn) None
   tests_runs i insn (Some id) =
       runs_append
-      (test_part (is_wide wide i) (image_of b first wide i) (inverted (lead_of b first wide (i + 1)) insn) i (i + 1) (lead_probe b first (i + 1)))
-      (hop_part (land_of b first wide) (Some id) (jump_target insn))
-      (test_runs (is_wide wide i) (image_of b first wide i) (inverted (lead_of b first wide (i + 1)) insn) i (i + 1) (lead_probe b first (i + 1)))
-      (hop_runs (land_of b first wide) (Some id) (jump_target insn))
+      (test_part (is_wide form i) (image_of b first form i) (inverted (lead_of b first form (i + 1)) insn) i (i + 1) (lead_probe b first (i + 1)))
+      (hop_part (land_of b first form) (Some id) (jump_target insn))
+      (test_runs (is_wide form i) (image_of b first form i) (inverted (lead_of b first form (i + 1)) insn) i (i + 1) (lead_probe b first (i + 1)))
+      (hop_runs (land_of b first form) (Some id) (jump_target insn))
 
-  image_runs : (i : ℕ) (insn : Insn) (flow : Flow) → AreRuns (image_part b first wide i insn flow)
+  image_runs : (i : ℕ) (insn : Insn) (flow : Flow) → AreRuns (image_part b first form i insn flow)
   image_runs i insn flows.GoesOn = (tt, tt)
   image_runs i insn flows.Branches = tests_runs i insn (late_probe b first i)
   image_runs i insn flows.Jumps = (tt, tt)
   image_runs i insn flows.Switches = (
     tt,
-    runs_behind (image (with_places (arm_place (probe_of b first) (land_of b first wide) (image_of b first wide i + 1) (arms_at b.code i)) insn) i None)
-        (arm_parts (land_of b first wide) (probe_of b first) (arms_at b.code i)) (arm_runs (land_of b first wide) (probe_of b first) (arms_at b.code i)),
+    runs_behind (image (with_places (arm_place (probe_of b first) (land_of b first form) (image_of b first form i + 1) (arms_at b.code i)) insn) i None)
+        (arm_parts (land_of b first form) (probe_of b first) (arms_at b.code i)) (arm_runs (land_of b first form) (probe_of b first) (arms_at b.code i)),
   )
   image_runs i insn flows.Returns = (tt, tt)
   image_runs i insn flows.Throws = (tt, tt)
 
-  segment_runs : (i : ℕ) → AreRuns (segment b first wide i)
+  segment_runs : (i : ℕ) → AreRuns (segment b first form i)
   segment_runs i =
       let insn = insn_at b.code i in
-      runs_append (lead_part (lead_probe b first i) i) (early_part (early_probe b first i) i ++ image_part b first wide i insn (flow_of insn))
+      runs_append (lead_part (lead_probe b first i) i) (early_part (early_probe b first i) i ++ image_part b first form i insn (flow_of insn))
       (lead_runs (lead_probe b first i) i)
-      (runs_append (early_part (early_probe b first i) i) (image_part b first wide i insn (flow_of insn)) (early_runs (early_probe b first i) i)
+      (runs_append (early_part (early_probe b first i) i) (image_part b first form i insn (flow_of insn)) (early_runs (early_probe b first i) i)
       (image_runs i insn (flow_of insn)))
 
-  pub twin_runs : AreRuns (twin_items b first wide)
+  pub twin_runs : AreRuns (twin_items b first form)
   unfolding twin_items
   twin_runs =
-      runs_append prelude (pieces (segment b first wide) (length b.code)) (tt, (refl, tt))
-      (runs_pieces (segment b first wide) segment_runs (length b.code))
+      runs_append prelude (pieces (segment b first form) (length b.code)) (tt, (refl, tt))
+      (runs_pieces (segment b first form) segment_runs (length b.code))
 
 -- images alone
 images_run : (x : Item) (xs : List Item) → ((q : ℕ) (y : Item) → slice_get xs q ≡ Some y → own_of y ≡ true) → RunsOn x xs

@@ -13,7 +13,7 @@ use Rattle.jc_programs.specs.declared.program.Linked.{Linked}
 use Rattle.jc_programs.specs.declared.run_end.Entry.{Entry}
 use Rattle.jc_plan.specs.Probed.{probe_count, first_id, probe_of}
 use Rattle.jc_emit.specs.Local.{no_ids}
-use Rattle.jc_emit.specs.Marks.{Marks}
+use Rattle.jc_emit.specs.Marks.{unplaced, Marks}
 use Rattle.jc_emit.specs.SeenProgram.{IsSeenTwin, IsSeenSame, IsSeenAt}
 use Rattle.jc_emit.specs.TwinProgram.{IsPair, ArePairs, IsChangedPair, TwinProgram}
 use Rattle.jc_emit.proofs.EdgeIdLaws.{each_within}
@@ -33,7 +33,7 @@ no_class : Linked
 no_class = record { name = []; bodies = []; statics = []; has_clinit = false; probes = None }
 
 no_side : Side
-no_side = record { class = no_class; new = no_class; body = no_body; twin = no_body; slot = None; ids = no_ids; items = []; call = 0 }
+no_side = record { class = no_class; new = no_class; body = no_body; twin = no_body; slot = None; ids = no_ids; items = []; places = unplaced }
 
 -- ---- the names of classes
 
@@ -77,7 +77,7 @@ module _ (p p' : Program) (t : TwinProgram p p') (marks : Entry → Marks) (are 
         let seen = items_seen p.names p'.names states c.name first b b' well t in
         let pair = s.pair in
         let added = (added_last p.names p'.names c new pair).0 in (
-          record { class = c; new = new; body = b; twin = b'; slot = Some b.arg_slots; ids = probe_of b first; items = seen.items; call = seen.call },
+          record { class = c; new = new; body = b; twin = b'; slot = Some b.arg_slots; ids = probe_of b first; items = seen.items; places = seen.places },
           (
             record {
               class_is = at.class_at;
@@ -108,7 +108,7 @@ module _ (p p' : Program) (t : TwinProgram p p') (marks : Entry → Marks) (are 
               unchanged = λ e. absurd (none-some b.arg_slots (sym e));
               ids_are = λ v e. refl;
               no_ids_are = λ e. absurd (none-some b.arg_slots (sym e));
-              runs = twin_runs b first t.wide;
+              runs = twin_runs b first t.form;
             },
             record {
               at = ap (λ z. z.at) s.marks ∙ seen.at;
@@ -128,7 +128,7 @@ module _ (p p' : Program) (t : TwinProgram p p') (marks : Entry → Marks) (are 
     same_side s =
         let seen = s.seen in
         let pair = s.pair in (
-          record { class = c; new = new; body = b; twin = b'; slot = None; ids = no_ids; items = seen.items; call = seen.call },
+          record { class = c; new = new; body = b; twin = b'; slot = None; ids = no_ids; items = seen.items; places = seen.places },
           (
             record {
               class_is = at.class_at;

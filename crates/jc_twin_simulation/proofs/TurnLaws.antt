@@ -226,7 +226,7 @@ module _ (p p' : Program) (sides : Entry → Side) where
           ∙ ap (option_and_then (method_in init_name init_type f.method.class)) h.one.side.new_is
           ∙ ap (option_map (λ (j : ℕ). record { class = f.method.class; method = j })) (init_found p.names p'.names t.class t.new c.pair)
 
-      operation : operation_of p' here_at (insns.Member opcode.invokestatic t.call) ≡ invokes e [] 0
+      operation : operation_of p' here_at (insns.Member opcode.invokestatic t.places.giver) ≡ invokes e [] 0
       unfolding operation_of
       operation =
           ap (member_operation opcode.invokestatic here_at p') c.calls

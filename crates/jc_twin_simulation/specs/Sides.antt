@@ -10,7 +10,7 @@ use Rattle.jc_plan.specs.declared.branch.Branch.{Branch}
 use Rattle.jc_plan.specs.Probed.{first_id, probe_of}
 use Rattle.jc_emit.specs.Items.{Item, at_of, own_of, extra_of}
 use Rattle.jc_emit.specs.Local.{AllOk, OkRow, Stands, id_in, no_ids}
-use Rattle.jc_emit.specs.Marks.{Marks}
+use Rattle.jc_emit.specs.Marks.{TwinPlaces, Marks}
 use Rattle.jc_emit.specs.Ranks.{IsRanked}
 use Rattle.jc_emit.specs.Seen.{OkRows, IsPlain, AreInsnsOf, with_more}
 use Rattle.jc_emit.specs.Twin.{IsSameMethod, KeepsUses, probe_init}
@@ -29,7 +29,7 @@ pub record Side : Type 0 where
   pub slot : Option ℕ
   pub ids : Branch → Option ℕ
   pub items : List Item
-  pub call : ℕ
+  pub places : TwinPlaces
 
 abbrev pub count_in : Option ProbeInit → ℕ
 count_in None = 0
@@ -49,7 +49,7 @@ pub record IsChanged (p p' : Program) (t : Side) (v : ℕ) : Type 0 where
   pub pair : IsChangedPair p.names p'.names t.class t.new
   pub added_at : slice_get t.new.bodies (length t.class.bodies) ≡ Some pair.added
   pub declares : declares_init t.new ≡ true
-  pub calls : what_used t.twin.uses t.call ≡ Some (probe_init t.class.name)
+  pub calls : what_used t.twin.uses t.places.giver ≡ Some (probe_init t.class.name)
   pub within : (q id : ℕ) (x : Item) → slice_get t.items q ≡ Some x → id_in x ≡ Some id → id < count_in t.new.probes
 
 -- a method of an unchanged class
@@ -68,7 +68,7 @@ pub record IsSide (p p' : Program) (method : Entry) (t : Side) : Type 0 where
   pub well : IsWellMadeOfAnySize t.body
   pub same : IsSameMethod t.body t.twin
   pub uses : KeepsUses t.body t.twin
-  pub code : AreInsnsOf t.twin.uses t.call t.body.arg_slots t.items t.twin.code
+  pub code : AreInsnsOf t.twin.uses t.places t.body.arg_slots t.items t.twin.code
   pub plain : IsPlain t.slot t.items
   pub ok : AllOk t.body.code t.slot t.ids t.items
   pub ranked : IsRanked t.body.code t.ids t.items

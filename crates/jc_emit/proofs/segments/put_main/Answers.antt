@@ -1,4 +1,4 @@
-use Rattle.std.proofs.Common.{◌≡◌, ⊎_elim, ℕ, [], ◌∷◌, false, Option, None, List, length, get_or, sym, ap, ap₂, ◌∙◌, subst, arith}
+use Rattle.std.proofs.Common.{◌≡◌, ⊎_elim, ℕ, [], ◌∷◌, Option, None, List, length, get_or, sym, ap, ap₂, ◌∙◌, subst, arith}
 use Rattle.std.specs.Prelude.{slice_index}
 use Rattle.jc_methods.specs.Flow.{flow_of}
 use Rattle.jc_methods.specs.Insn.{with_places}
@@ -9,7 +9,7 @@ use Rattle.jc_plan.specs.Plan.{out_probes}
 use Rattle.jc_kinds_after.specs.Shift.{with_slot}
 use Rattle.jc_emit.specs.Branching.{IsPushed, IsTableOf, late_in}
 use Rattle.jc_emit.specs.Items.{image, land_of, tests_part}
-use Rattle.jc_emit.specs.Sizes.{insn_at, early_probe, late_probe}
+use Rattle.jc_emit.specs.Sizes.{narrow, insn_at, early_probe, late_probe}
 use Rattle.jc_emit.specs.Writing.{Grows}
 use Rattle.jc_emit.proofs.PlanReadsLaws.{length_outs, outs_seen}
 use Rattle.jc_emit.proofs.PlacingLaws.{insn_seen, late_read}
@@ -71,7 +71,7 @@ returns-in_ok-put_test-in-Branches-clause-code c = λ first plan.
     let late : c.late_id-late.result ≡ late_probe b first at =
     c.late_id-late.ensures ∙ ap (λ (l : List (Option ℕ)). get_or l 1 None) ids ∙ ap (λ f. late_in f outs) (sym flow) ∙ late_read b first at in
     main_by v b first at old new flows.Branches flow
-    (subst (Grows v old new) (ap₂ (λ (i : Insn) (o : Option ℕ). tests_part b first false at i o) insn late)
+    (subst (Grows v old new) (ap₂ (λ (i : Insn) (o : Option ℕ). tests_part b first narrow at i o) insn late)
     (c.in_ok-put_test-in-Branches.ensures b first (c.requires.given.placed first plan)))
 
 pub returns-in_ok-put_image-in-Jumps-clause-code : goal.returns-in_ok-put_image-in-Jumps-clause-code
@@ -82,7 +82,7 @@ returns-in_ok-put_image-in-Jumps-clause-code c = λ first plan.
     let old = c.args.written.now in
     let new = c.put_image-in-Jumps.new.self in
     let lands = c.deref-in-Jumps.result.now in
-    let land = land_of b first false in
+    let land = land_of b first narrow in
     let are = c.requires.given.placed first plan in
     let insn = insn_seen b.code _ at c.index-deref-at.result c.requires.at c.deref.ensures c.index-deref-at.is in
     let flow : flow_of (insn_at b.code at) ≡ flows.Jumps = ap flow_of (sym insn) ∙ sym c.flow.ensures ∙ c.in-Jumps.is in

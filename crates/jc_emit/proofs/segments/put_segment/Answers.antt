@@ -1,11 +1,11 @@
-use Rattle.std.proofs.Common.{◌≡◌, ℕ, ◌++◌, false, Option, None, List, length, get_or, sym, ap, ap₂, ◌∙◌, subst, arith}
+use Rattle.std.proofs.Common.{◌≡◌, ℕ, ◌++◌, Option, None, List, length, get_or, sym, ap, ap₂, ◌∙◌, subst, arith}
 use Rattle.jc_methods.specs.Flow.{flow_of}
 use Rattle.jc_methods.specs.declared.insn.Flow.{Flow}
 use Rattle.jc_methods.proofs.PlacedInsnLaws.{few_insns}
 use Rattle.jc_plan.specs.Plan.{lead_probe}
 use Rattle.jc_emit.specs.Branching.{IsPushed, early_in}
 use Rattle.jc_emit.specs.Items.{lead_part, early_part, image_part}
-use Rattle.jc_emit.specs.Sizes.{insn_at, early_probe}
+use Rattle.jc_emit.specs.Sizes.{narrow, insn_at, early_probe}
 use Rattle.jc_emit.specs.Writing.{Grows}
 use Rattle.jc_emit.proofs.PlanReadsLaws.{length_leads, length_outs, lead_here, outs_seen}
 use Rattle.jc_emit.proofs.PlacingLaws.{insn_seen, early_read}
@@ -67,7 +67,7 @@ returns-clause-code c = λ first plan.
     ∙ early_read b first at in
     let leads = lead_part (lead_probe b first at) at in
     let earlies = early_part (early_probe b first at) at in
-    let rest = image_part b first false at (insn_at b.code at) (flow_of (insn_at b.code at)) in
+    let rest = image_part b first narrow at (insn_at b.code at) (flow_of (insn_at b.code at)) in
     grows_append v old led new leads (earlies ++ rest)
     (subst (λ (o : Option ℕ). Grows v old led (lead_part o at)) lead c.in_ok-put_front.ensures.lead)
     (grows_append v led front new earlies rest (subst (λ (o : Option ℕ). Grows v led front (early_part o at)) early c.in_ok-put_front-2.ensures.early)

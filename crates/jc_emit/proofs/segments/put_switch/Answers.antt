@@ -1,4 +1,4 @@
-use Rattle.std.proofs.Common.{◌≡◌, ◌<◌, ℕ, ◌+◌, [], ◌∷◌, false, Option, None, List, length, get_or, sym, ap, ◌∙◌, subst, arith}
+use Rattle.std.proofs.Common.{◌≡◌, ◌<◌, ℕ, ◌+◌, [], ◌∷◌, Option, None, List, length, get_or, sym, ap, ◌∙◌, subst, arith}
 use Rattle.std.specs.Prelude.{All, Contains, slice_index}
 use Rattle.jc_bytes.specs.PlainLists.{pieces}
 use Rattle.jc_bytes.specs.FirstSeen.{first_seen}
@@ -10,7 +10,7 @@ use Rattle.jc_methods.proofs.PlacedInsnLaws.{few_insns}
 use Rattle.jc_plan.specs.Probed.{probe_of}
 use Rattle.jc_emit.specs.Branching.{IsPushed, IsTableOf, arm_place_in, arm_part_in}
 use Rattle.jc_emit.specs.Items.{image, arm_parts, land_of, image_of}
-use Rattle.jc_emit.specs.Sizes.{insn_at, arms_at}
+use Rattle.jc_emit.specs.Sizes.{narrow, insn_at, arms_at}
 use Rattle.jc_emit.specs.TwinCode.{arm_place}
 use Rattle.jc_emit.specs.Writing.{Grows}
 use Rattle.jc_emit.proofs.PlanReadsLaws.{length_outs, outs_seen}
@@ -30,7 +30,7 @@ overflow_add-index c =
     let b = c.args.source.body.now in
     let at = c.args.at in
     let images = (c.requires.given.placed plan.0 plan.1).images in
-    let here = place_seen (image_of b plan.0 false) (length b.code) _ at c.index.result.now images c.requires.at c.index.ensures in
+    let here = place_seen (image_of b plan.0 narrow) (length b.code) _ at c.index.result.now images c.requires.at c.index.ensures in
     omega (arith, here, image_small b plan.0 c.requires.given.made.code at (omega (arith, c.requires.at)))
 
 pub set_arms-requires-clause-within : goal.set_arms-requires-clause-within
@@ -68,7 +68,7 @@ set_arms-requires-clause-small c =
     let b = c.args.source.body.now in
     let at = c.args.at in
     let images = (c.requires.given.placed plan.0 plan.1).images in
-    let here = place_seen (image_of b plan.0 false) (length b.code) _ at c.index.result.now images c.requires.at c.index.ensures in
+    let here = place_seen (image_of b plan.0 narrow) (length b.code) _ at c.index.result.now images c.requires.at c.index.ensures in
     omega (arith, here, image_small b plan.0 c.requires.given.made.code at (omega (arith, c.requires.at)))
 
 pub led-requires : goal.led-requires
@@ -124,7 +124,7 @@ returns-clause-code c = λ first plan.
     let table = c.set_arms.new.table in
     let lands = c.deref-3.result.now in
     let here = c.index.result.now + 1 in
-    let land = land_of b first false in
+    let land = land_of b first narrow in
     let are = c.requires.given.placed first plan in
     let insn = insn_seen b.code _ at c.index-deref-at.result c.requires.at c.deref.ensures c.index-deref-at.is in
     let targets = c.deref-4.ensures ∙ c.in_ok-targets.ensures ∙ ap (λ (i : Insn). first_seen (targets_of i)) insn in
@@ -135,8 +135,8 @@ returns-clause-code c = λ first plan.
     let tells_again : IsTableOf land c.deref-5.result.now =
     subst (IsTableOf land) (sym c.deref-5.ensures.value) (table_is land (length b.code) c.args.source.places.now.lands.items are.lands) in
     let within = leads_at b at c.requires.at c.requires.given.made (length lands) (ap length c.deref-3.ensures.value ∙ are.lands.size) in
-    let place : here ≡ image_of b first false at + 1 =
-    ap (λ k. k + 1) (place_seen (image_of b first false) (length b.code) _ at c.index.result.now are.images c.requires.at c.index.ensures) in
+    let place : here ≡ image_of b first narrow at + 1 =
+    ap (λ k. k + 1) (place_seen (image_of b first narrow) (length b.code) _ at c.index.result.now are.images c.requires.at c.index.ensures) in
     let each : (to : ℕ) → Contains (first_seen (targets_of (insn_at b.code at))) to
     → get_or table to 0 ≡ arm_place_in (slice_index lands) here (first_seen (targets_of (insn_at b.code at))) c.as_slice-ids.result.now to =
     subst (λ (ts : List ℕ). (to : ℕ) → Contains ts to → get_or table to 0 ≡ arm_place_in (slice_index lands) here ts c.as_slice-ids.result.now to) targets
@@ -145,7 +145,7 @@ returns-clause-code c = λ first plan.
     c.in_ok-led.ensures
     ∙ ap (with_places (slice_index table)) insn
     ∙ switch_image b first at c.requires.switch lands table c.as_slice-ids.result.now here tells within ids place each in
-    let moved = with_places (arm_place (probe_of b first) land (image_of b first false at + 1) (arms_at b.code at)) (insn_at b.code at) in
+    let moved = with_places (arm_place (probe_of b first) land (image_of b first narrow at + 1) (arms_at b.code at)) (insn_at b.code at) in
     let front : Grows v old mid (image moved at None ∷ []) =
     subst (λ (i : Insn). Grows v old mid (image i at None ∷ [])) led (c.in_ok-put_image.ensures v None) in
     let behind : Grows v mid new (arm_parts land (probe_of b first) (arms_at b.code at)) =

@@ -1,6 +1,7 @@
-use Rattle.std.proofs.Common.{◌≡◌, ◌≤◌, ◌++◌, [], false, length, drop, ap, ◌∙◌, subst, arith, length-append}
+use Rattle.std.proofs.Common.{◌≡◌, ◌≤◌, ◌++◌, [], length, drop, ap, ◌∙◌, subst, arith, length-append}
 use Rattle.std.proofs.lemmas.List.{length-take-le}
 use Rattle.jc_bytes.specs.PlainLists.{pieces}
+use Rattle.jc_emit.specs.Sizes.{narrow}
 use Rattle.jc_emit.specs.Items.{prelude, segment, twin_items}
 use Rattle.jc_emit.specs.Written.{Shows}
 use Rattle.jc_emit.proofs.WritingLaws.{shows_more, shows_piece}
@@ -32,7 +33,7 @@ writing-preserved c =
     record {
       table = length-take-le len (table ++ drop (length table) items) le ∙ omega (arith, c.writing.table.ok.0, c.writing.invariant.table);
       shows = λ first is.
-          shows_piece c.args.body.now.arg_slots prelude (segment c.args.body.now first false) c.writing.at c.writing.written c.put_segment.new.written
+          shows_piece c.args.body.now.arg_slots prelude (segment c.args.body.now first narrow) c.writing.at c.writing.written c.put_segment.new.written
           (c.writing.invariant.shows first is) (c.in_ok-put_segment.ensures.code first is);
     }
 
@@ -40,5 +41,5 @@ pub returns : goal.returns
 unfolding twin_items
 returns c = λ first is.
     let all : c.writing.at ≡ length c.args.body.now.code = omega (arith, c.len-at-end.ensures) in
-    subst (λ n. Shows c.args.body.now.arg_slots (prelude ++ pieces (segment c.args.body.now first false) n) c.writing.written) all
+    subst (λ n. Shows c.args.body.now.arg_slots (prelude ++ pieces (segment c.args.body.now first narrow) n) c.writing.written) all
     (c.writing.invariant.shows first is)

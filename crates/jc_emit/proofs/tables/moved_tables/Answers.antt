@@ -1,5 +1,6 @@
-use Rattle.std.proofs.Common.{◌+◌, false, length, map, ◌∙◌}
+use Rattle.std.proofs.Common.{◌+◌, length, map, ◌∙◌}
 use Rattle.std.specs.Prelude.{slice_index}
+use Rattle.jc_emit.specs.Sizes.{narrow}
 use Rattle.jc_emit.specs.TwinTables.{moved_row, moved_line, moved_var}
 use Rattle.jc_emit.specs.Items.{lead_of, land_of}
 use Rattle.jc_emit.proofs.TableLaws.{rows_moved, lines_moved, vars_moved}
@@ -9,8 +10,8 @@ pub returns : goal.returns
 returns c = λ first are.
     let b = c.args.body.now in
     let made = c.requires.body in
-    let lead = lead_of b first false in
-    let land = land_of b first false in
+    let lead = lead_of b first narrow in
+    let land = land_of b first narrow in
     let n = length b.code in
     let leads = c.args.places.now.leads.items in
     let lands = c.args.places.now.lands.items in

@@ -1,6 +1,7 @@
-use Rattle.std.proofs.Common.{◌≡◌, ℕ, false, List, ap, ◌∙◌, subst}
+use Rattle.std.proofs.Common.{◌≡◌, ℕ, List, ap, ◌∙◌, subst}
 use Rattle.std.specs.Prelude.{IfOk, slice_index}
 use Rattle.jc_methods.specs.declared.kind.State.{State}
+use Rattle.jc_emit.specs.Sizes.{narrow}
 use Rattle.jc_emit.specs.Shift.{shifted_state}
 use Rattle.jc_emit.specs.Items.{image_of}
 use Rattle.jc_emit.specs.Framing.{without}
@@ -14,5 +15,5 @@ returns c = λ first is.
     let s = c.args.state.now in
     subst (λ (t : State). IfOk c.shifted.result (λ s. s ≡ t))
     (ap (λ (l : List ℕ). shifted_state b.arg_slots f.array (slice_index l) (without c.args.operands s)) c.deref.ensures.value
-    ∙ state_moved b.code (image_of b first false) f.places.now.images.items is.places.images b.arg_slots f.array c.args.operands b.max_locals b.max_stack s c.requires.state)
+    ∙ state_moved b.code (image_of b first narrow) f.places.now.images.items is.places.images b.arg_slots f.array c.args.operands b.max_locals b.max_stack s c.requires.state)
     c.shifted.ensures

@@ -1,9 +1,9 @@
-use Rattle.std.proofs.Common.{ℕ, ◌+◌, false, List, ◌++◌, length, sym, ap, ap₂, ◌∙◌, arith}
+use Rattle.std.proofs.Common.{ℕ, ◌+◌, List, ◌++◌, length, sym, ap, ap₂, ◌∙◌, arith}
 use Rattle.jc_methods.specs.declared.kind.State.{State}
 use Rattle.jc_methods.specs.declared.body.FrameAt.{FrameAt}
 use Rattle.jc_emit.specs.Emission.{moved_state}
 use Rattle.jc_emit.specs.Items.{image_of}
-use Rattle.jc_emit.specs.Sizes.{arms_at}
+use Rattle.jc_emit.specs.Sizes.{narrow, arms_at}
 use Rattle.jc_emit.specs.TwinFrames.{operands_of}
 use Rattle.jc_emit.specs.Framing.{without, id_frames}
 use Rattle.jc_emit.proofs.FramingLaws.{outs_long, image_small, switch_small, switch_read, insn_read, state_read, table_read, arms_framed}
@@ -41,11 +41,11 @@ returns-in_ok-put_arms-in-Switches c = λ first is.
     let ids = switch_read first f is c.deref.result.now c.deref-in-Switches.result.now c.args.at c.index-deref-at.result c.index-deref-at-in-Switches.result
     c.deref-in-Switches-2.result.now c.deref.ensures c.index-deref-at.is c.deref-in-Switches.ensures c.index-deref-at-in-Switches.is c.requires.at
     (sym c.in-Switches.ensures) c.deref-in-Switches-2.ensures in
-    let place = table_read (image_of b first false) (length b.code) c.args.at c.index.result.now images images is.places.images c.requires.at (λ k. images) c.index.ensures in
+    let place = table_read (image_of b first narrow) (length b.code) c.args.at c.index.result.now images images is.places.images c.requires.at (λ k. images) c.index.ensures in
     let insn = insn_read first f is c.deref.result.now c.args.at c.index-deref-at.result c.deref.ensures c.index-deref-at.is c.requires.at in
     let taken = c.operands.ensures ∙ ap operands_of insn in
     let read = state_read first f is c.args.at c.index-self-at.result c.requires.at in
     let state = c.in_ok-state-in-Switches.ensures first is ∙ ap₂ (λ (n : ℕ) (s : State). moved_state b first states f.array (without n s)) taken read in
     c.in_ok-put_arms-in-Switches.ensures
     ∙ (λ k. c.args.frames.now.items ++ id_frames (place k + 1) (state k) (ids k))
-    ∙ ap (λ (l : List FrameAt). c.args.frames.now.items ++ l) (arms_framed b first states f.array (image_of b first false c.args.at + 1) _ (arms_at b.code c.args.at))
+    ∙ ap (λ (l : List FrameAt). c.args.frames.now.items ++ l) (arms_framed b first states f.array (image_of b first narrow c.args.at + 1) _ (arms_at b.code c.args.at))

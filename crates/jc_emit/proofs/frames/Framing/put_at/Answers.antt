@@ -1,4 +1,5 @@
-use Rattle.std.proofs.Common.{false, length, refl, ap, ◌∙◌, arith}
+use Rattle.std.proofs.Common.{length, refl, ap, ◌∙◌, arith}
+use Rattle.jc_emit.specs.Sizes.{narrow}
 use Rattle.jc_emit.specs.Items.{lead_of, land_of}
 use Rattle.jc_emit.proofs.FramingLaws.{leads_long, table_read, lead_read, framed_read, all_put}
 use Rattle.jc_emit.proofs.frames.Framing.put_at.Goals as goal
@@ -18,8 +19,8 @@ returns c = λ first is.
     let lands = f.places.now.lands.items in
     all_put first f is at c.index.result.now c.index-3.result.now c.index-self-at.result c.has_inverse-inverse.result c.is_some-lead.result c.index-2.result.now
     c.is_led-led.result c.is_landed-landed.result c.args.frames.now.items c.put_if.new.frames.items c.put_if-2.new.frames.items c.put_arms_at.new.frames.items _ lt
-    (table_read (lead_of b first false) (length b.code) at c.index.result.now leads leads is.places.leads lt (λ k. leads) c.index.ensures)
-    (table_read (land_of b first false) (length b.code) at c.index-3.result.now lands lands is.places.lands lt (λ k. lands) c.index-3.ensures)
+    (table_read (lead_of b first narrow) (length b.code) at c.index.result.now leads leads is.places.leads lt (λ k. leads) c.index.ensures)
+    (table_read (land_of b first narrow) (length b.code) at c.index-3.result.now lands lands is.places.lands lt (λ k. lands) c.index-3.ensures)
     (c.has_inverse-inverse.ensures first is) (c.is_some-lead.ensures ∙ lead_read first f is c.deref.result.now at _ c.deref.ensures lt)
     (framed_read first f is at c.index-2.result.now lt c.index-2.ensures) c.is_led-led.ensures c.is_landed-landed.ensures
     (c.in_ok-put_if.ensures first is) (c.in_ok-put_if-2.ensures first is) (c.in_ok-put_arms_at.ensures first is) refl

@@ -1,5 +1,6 @@
-use Rattle.std.proofs.Common.{◌+◌, false, List, ◌++◌, length, ap, ◌∙◌, arith}
+use Rattle.std.proofs.Common.{◌+◌, List, ◌++◌, length, ap, ◌∙◌, arith}
 use Rattle.jc_methods.specs.declared.body.FrameAt.{FrameAt}
+use Rattle.jc_emit.specs.Sizes.{narrow}
 use Rattle.jc_emit.specs.Items.{image_of}
 use Rattle.jc_emit.proofs.FramingLaws.{leads_long, image_small, next_there, state_fits, table_read, lead_read, framed_read, behind_none}
 use Rattle.jc_emit.proofs.frames.Framing.put_behind.Goals as goal
@@ -44,6 +45,6 @@ returns-in_ok-put_if-in-None c = λ first is.
     c.in_ok-put_if-in-None.ensures first is
     ∙ ap (λ (l : List FrameAt). c.args.frames.now.items ++ l)
     (behind_none first f is at c.index.result.now c.index-self-next.result c.index-in-None.result.now c.is_some.result c.is_further-further.result lt c.requires.tests
-    (c.in-None.ensures first is) (table_read (image_of b first false) (length b.code) at c.index.result.now images images is.places.images lt (λ k. images) c.index.ensures)
+    (c.in-None.ensures first is) (table_read (image_of b first narrow) (length b.code) at c.index.result.now images images is.places.images lt (λ k. images) c.index.ensures)
     (framed_read first f is (at + 1) c.index-in-None.result.now next c.index-in-None.ensures)
     (c.is_some.ensures ∙ lead_read first f is c.deref-in-None.result.now (at + 1) _ c.deref-in-None.ensures next) c.is_further-further.ensures)

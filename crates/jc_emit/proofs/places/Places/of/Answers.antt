@@ -1,10 +1,10 @@
-use Rattle.std.proofs.Common.{rules, ◌≡◌, ◌<◌, ◌≤◌, ℕ, false, Option, None, List, length, get_or, ap, ap₂, ◌∙◌, arith}
+use Rattle.std.proofs.Common.{rules, ◌≡◌, ◌<◌, ◌≤◌, ℕ, Option, None, List, length, get_or, ap, ap₂, ◌∙◌, arith}
 use Rattle.jc_methods.specs.Flow.{flow_of}
 use Rattle.jc_methods.specs.declared.insn.Flow.{Flow}
 use Rattle.jc_methods.proofs.PlacedInsnLaws.{few_insns}
 use Rattle.jc_plan.specs.Plan.{lead_probe}
 use Rattle.jc_emit.specs.Branching.{early_in, behind_in}
-use Rattle.jc_emit.specs.Sizes.{insn_at, probe_size, early_probe, behind_size}
+use Rattle.jc_emit.specs.Sizes.{narrow, insn_at, probe_size, early_probe, behind_size}
 use Rattle.jc_emit.proofs.PlanReadsLaws.{length_leads, length_outs, lead_here, outs_seen}
 use Rattle.jc_emit.proofs.PlacingLaws.{insn_seen, early_read, behind_read, few_outs, lead_small, placed_more, placed_all, small_places}
 use Rattle.jc_emit.proofs.places.Places.of.Goals as goal
@@ -97,7 +97,7 @@ placing-preserved c = λ first plan.
     ap (λ (l : List (Option ℕ)). get_or l at None) c.deref-in-placing.ensures ∙ lead_here b first c.args.plan.now plan at None lt in
     let early : c.early_id.result ≡ early_probe b first at =
     c.early_id.ensures ∙ ap₂ (λ (f : Flow) (o : List (Option ℕ)). early_in f o) flow ids ∙ early_read b first at in
-    let behind : c.behind_size.result ≡ behind_size b first false at =
+    let behind : c.behind_size.result ≡ behind_size b first narrow at =
     c.behind_size.ensures.value ∙ ap₂ (λ (f : Flow) (o : List (Option ℕ)). behind_in f o) flow ids ∙ behind_read b first at in
     placed_more b first at c.placing.here c.probe_size.result c.probe_size-in-placing.result c.behind_size.result
     c.placing.places.leads.items c.placing.places.lands.items c.placing.places.images.items c.put.new.self.leads.items c.put.new.self.lands.items c.put.new.self.images.items
