@@ -1,5 +1,5 @@
 -- What is made of class files that are instrumented is one list of writes.
-use Rattle.std.proofs.Common.{◌≡◌, ⊎_elim, ℕ, ◌+◌, ◌<◌, ◌≤◌, List, [], ◌∷◌, ◌++◌, length, take, get_or, map, Some, Result, Ok, Err, IfOk, Vec, Bor, refl, sym, ◌∙◌, ap, ap₂, subst, arith, min, append_assoc, String, string_bytes}
+use Rattle.std.proofs.Common.{◌≡◌, ⊎_elim, ℕ, ◌+◌, ◌<◌, ◌≤◌, List, [], ◌∷◌, ◌++◌, length, take, get_or, map, Some, Result, Ok, Err, IfOk, Vec, Bor, refl, sym, ◌∙◌, ap, ap₂, subst, arith, min, append_assoc}
 use Rattle.std.proofs.lemmas.List.{append-nil, take_more, take_all, get_or-map}
 use Rattle.std.proofs.lemmas.Slice.Zip.{AllZip-long, length-zip, get_or-zip}
 use Rattle.std.specs.List.{AllByRecursion, AllZip, zip}
@@ -12,10 +12,9 @@ use Rattle.jc_instrument.proofs.RoomCauseLaws.{one_reason}
 use Rattle.jc_command_classes.specs.declared.instrument.Decided.{Decided}
 use Rattle.jc_command_work.specs.declared.output.Write.{Write as Written}
 use Rattle.jc_command_classes.specs.Instrument.{Decision, refused_file, accepted_file, IsDecision, file_writes, AreFileWrites, decision_seen}
-use Rattle.jc_command_work.specs.Seen.{write_seen, Puts, words_of, texts_of}
+use Rattle.jc_command_work.specs.Seen.{write_seen, Puts, texts_of}
 use Rattle.jc_command_work.specs.Step.{Word, IsFile, Write}
 use Rattle.jc_command_classes.proofs.EachLaws.{zipped_pair, each_ok, AtPlace}
-use Rattle.jc_bytes.proofs.ListLaws.{map_take_more}
 
 -- ---- one file
 
@@ -91,33 +90,31 @@ pub path_at : (items : List (Bor Word)) (paths : List Word) (i : ℕ) (p : Bor W
 path_at items paths i p same within is =
     ap (λ (b : Bor Word). b.now) is ∙ sym (get_or-map (λ (b : Bor Word). b.now) items i p p.now within) ∙ ap (λ (ps : List Word). get_or ps i p.now) same
 
-module _ (targets : List (String Global)) (paths : List Word) (texts : List (List ℕ)) where
+module _ (targets paths : List Word) (texts : List (List ℕ)) where
   -- the first so many files have these writes
   abbrev pub AreWrittenFirst : ℕ → List Written → Type 0
-  AreWrittenFirst i writes = AreFileWrites (words_of (take i targets)) (take i paths) (take i texts) (map write_seen writes)
+  AreWrittenFirst i writes = AreFileWrites (take i targets) (take i paths) (take i texts) (map write_seen writes)
 
-  file_written : (i : ℕ) (target : String Global) (t target_path path : List ℕ) (old new : List Written) → i < length targets → i < length paths → i < length texts
-      → target ≡ get_or targets i target → path ≡ get_or paths i path → t ≡ get_or texts i t → target_path ≡ string_bytes target
-      → AreWrittenFirst i old → (d : Decision) × IsDecision t d × Puts old (file_writes target_path path t d) new → AreWrittenFirst (i + 1) new
-  file_written i target t target_path path old new at_target at_path at_text target_is path_is text_is named so_far (d, is, puts) =
-      let more_targets : words_of (take (i + 1) targets) ≡ words_of (take i targets) ++ target_path ∷ [] =
-      map_take_more string_bytes targets i target at_target target_is ∙ ap (λ (w : Word). words_of (take i targets) ++ w ∷ []) (sym named) in
+  file_written : (i : ℕ) (target path t : List ℕ) (old new : List Written) → i < length targets → i < length paths → i < length texts
+      → target ≡ get_or targets i target → path ≡ get_or paths i path → t ≡ get_or texts i t
+      → AreWrittenFirst i old → (d : Decision) × IsDecision t d × Puts old (file_writes target path t d) new → AreWrittenFirst (i + 1) new
+  file_written i target path t old new at_target at_path at_text target_is path_is text_is so_far (d, is, puts) =
+      let more_targets : take (i + 1) targets ≡ take i targets ++ target ∷ [] = take_more targets i target at_target ∙ ap (λ (w : Word). take i targets ++ w ∷ []) (sym target_is) in
       let more_paths : take (i + 1) paths ≡ take i paths ++ path ∷ [] = take_more paths i path at_path ∙ ap (λ (w : Word). take i paths ++ w ∷ []) (sym path_is) in
       let more_texts : take (i + 1) texts ≡ take i texts ++ t ∷ [] = take_more texts i t at_text ∙ ap (λ (u : List ℕ). take i texts ++ u ∷ []) (sym text_is) in
-      let more = writes_more (words_of (take i targets)) (take i paths) (take i texts) (map write_seen old) target_path path t d so_far is in
+      let more = writes_more (take i targets) (take i paths) (take i texts) (map write_seen old) target path t d so_far is in
       subst (λ (ps : List Word). AreFileWrites ps (take (i + 1) paths) (take (i + 1) texts) (map write_seen new)) (sym more_targets)
-      (subst (λ (fs : List Word). AreFileWrites (words_of (take i targets) ++ target_path ∷ []) fs (take (i + 1) texts) (map write_seen new)) (sym more_paths)
-      (subst (λ (ts : List (List ℕ)). AreFileWrites (words_of (take i targets) ++ target_path ∷ []) (take i paths ++ path ∷ []) ts (map write_seen new)) (sym more_texts)
-      (subst (AreFileWrites (words_of (take i targets) ++ target_path ∷ []) (take i paths ++ path ∷ []) (take i texts ++ t ∷ [])) (sym puts) more)))
+      (subst (λ (fs : List Word). AreFileWrites (take i targets ++ target ∷ []) fs (take (i + 1) texts) (map write_seen new)) (sym more_paths)
+      (subst (λ (ts : List (List ℕ)). AreFileWrites (take i targets ++ target ∷ []) (take i paths ++ path ∷ []) ts (map write_seen new)) (sym more_texts)
+      (subst (AreFileWrites (take i targets ++ target ∷ []) (take i paths ++ path ∷ []) (take i texts ++ t ∷ [])) (sym puts) more)))
 
   -- one more file, by what was decided of it
   pub decided_written : (all : List Decided) (i index : ℕ) (decided : Decided) (t : List ℕ)
-      → (target : String Global) (target_path path : List ℕ) (old new : List Written)
+      → (target path : List ℕ) (old new : List Written)
       → AllZip (λ u d. IsDecision u (decision_seen d)) texts all → length targets ≡ length paths → length texts ≡ length paths
       → AtPlace (zip all texts) i index (decided, t) → target ≡ get_or targets index target → path ≡ get_or paths index path
-      → target_path ≡ string_bytes target → AreWrittenFirst i old
-      → Puts old (file_writes target_path path t (decision_seen decided)) new → AreWrittenFirst (i + 1) new
-  decided_written all i index decided t target target_path path old new are as_many each place target_is path_is named so_far puts =
+      → AreWrittenFirst i old → Puts old (file_writes target path t (decision_seen decided)) new → AreWrittenFirst (i + 1) new
+  decided_written all i index decided t target path old new are as_many each place target_is path_is so_far puts =
       let Decides : List ℕ → Decided → Type 0 = λ u d. IsDecision u (decision_seen d) in
       let long = AllZip-long Decides texts all are in
       let zipped : i < min (length all) (length texts) = subst (λ (n : ℕ). i < n) (length-zip all texts) place.within in
@@ -128,12 +125,12 @@ module _ (targets : List (String Global)) (paths : List Word) (texts : List (Lis
       let own = zipped_pair Decides texts all i t decided are decided_within text_is (ap (λ (p : Decided × List ℕ). p.0) both) in
       let at_target = target_is ∙ ap (λ (k : ℕ). get_or targets k target) place.index_is in
       let at_path = path_is ∙ ap (λ (k : ℕ). get_or paths k path) place.index_is in
-      file_written i target t target_path path old new (omega (arith, within, as_many, each)) (omega (arith, within, each)) within
-      at_target at_path text_is named so_far (decision_seen decided, own, puts)
+      file_written i target path t old new (omega (arith, within, as_many, each)) (omega (arith, within, each)) within
+      at_target at_path text_is so_far (decision_seen decided, own, puts)
 
   pub all_written : (i : ℕ) (writes : List Written) → length targets ≤ i → length paths ≤ i → length texts ≤ i → AreWrittenFirst i writes
-      → AreFileWrites (words_of targets) paths texts (map write_seen writes)
+      → AreFileWrites targets paths texts (map write_seen writes)
   all_written i writes all_targets all_paths all_texts so_far =
-      subst (λ (ps : List (String Global)). AreFileWrites (words_of ps) paths texts (map write_seen writes)) (take_all i targets all_targets)
-      (subst (λ (fs : List Word). AreFileWrites (words_of (take i targets)) fs texts (map write_seen writes)) (take_all i paths all_paths)
-      (subst (λ (ts : List (List ℕ)). AreFileWrites (words_of (take i targets)) (take i paths) ts (map write_seen writes)) (take_all i texts all_texts) so_far))
+      subst (λ (ps : List Word). AreFileWrites ps paths texts (map write_seen writes)) (take_all i targets all_targets)
+      (subst (λ (fs : List Word). AreFileWrites (take i targets) fs texts (map write_seen writes)) (take_all i paths all_paths)
+      (subst (λ (ts : List (List ℕ)). AreFileWrites (take i targets) (take i paths) ts (map write_seen writes)) (take_all i texts all_texts) so_far))

@@ -11,7 +11,7 @@ ghost use Rattle.jc_command_work.specs.Seen.{words_of};
 use crate::each::{all_made, each_answer};
 use crate::lines::{accepted_line, refused_line};
 use jc_bytes::{Bytes, Fail, Memory, Refusal};
-use jc_command_work::{InputFiles, Stop, Write, read_listed};
+use jc_command_work::{Stop, TargetedFiles, Write, as_texts, read_listed};
 use jc_instrument::{Instrumented, instrument};
 use jc_outside::Files;
 use std::alloc::Global;
@@ -104,12 +104,11 @@ fn put_file<'a>(
 fn all_writes<'a, R: Threads + Sync>(
     rt: &R,
     alloc: Global,
-    targets: &'a [String],
-    inputs: InputFiles<'_>,
+    targeted: TargetedFiles<'a>,
 ) -> Result<Vec<Write<'a>>, Memory>
-    requires { length targets.now ≡ length inputs.paths }
-    ensures { IfOk result (λ writes. AreFileWrites (words_of targets.entry.now) inputs.entry.paths inputs.entry.texts (map write_seen writes.items)) }
+    ensures { IfOk result (λ writes. AreFileWrites targeted.entry.targets targeted.entry.inputs.paths targeted.entry.inputs.texts (map write_seen writes.items)) }
 {
+    let (inputs, targets) = targeted.into_parts();
     let all = decide_all(rt, alloc, inputs.texts())?;
     let (paths, texts) = inputs.into_parts();
     let mut writes = Vec::new(alloc);
@@ -117,7 +116,7 @@ fn all_writes<'a, R: Threads + Sync>(
         put_file(
             alloc,
             &mut writes,
-            targets[index].as_str(),
+            targets[index],
             paths[index],
             bytes,
             decided,
@@ -139,5 +138,7 @@ pub fn prepare_instrument<'a, R: Threads + Sync, F: Files>(
         (InstrumentAnswers (words_of targets.entry.now) (words_of paths.entry.now))) result }
 {
     let inputs = read_listed(alloc, files, paths)?;
-    Ok(all_writes(rt, alloc, targets, inputs)?)
+    let file_targets = as_texts(alloc, targets)?;
+    let targeted = TargetedFiles::new(inputs, file_targets);
+    Ok(all_writes(rt, alloc, targeted)?)
 }

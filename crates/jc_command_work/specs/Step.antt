@@ -28,6 +28,11 @@ pub record FilesRead : Type 0 where
   pub paths : List Word
   pub texts : List (List ℕ)
 
+-- files that were read, and the path that each is written to, in the same order
+pub record FilesTargeted : Type 0 where
+  pub inputs : FilesRead
+  pub targets : List Word
+
 -- ---- the outside
 
 -- what is told of the files and of the texts on `out` and `err`

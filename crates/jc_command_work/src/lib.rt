@@ -10,6 +10,7 @@ mod output;
 mod outside;
 mod status;
 mod stop;
+mod targeted_files;
 
 pub use fault_text::class_refusal_text;
 pub use folders::list_files;
@@ -20,3 +21,4 @@ pub use output::{Write, keep, put_err, put_out, write_all, write_file};
 pub use outside::{Outside, Resources};
 pub use status::{Fault, Status};
 pub use stop::{Stop, class_stop, exec_stop};
+pub use targeted_files::TargetedFiles;

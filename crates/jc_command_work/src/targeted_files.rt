@@ -1,0 +1,46 @@
+//! The files that a command reads, and the paths that it writes them to.
+ghost use Rattle.std.specs.Prelude.{◌≡◌, length};
+ghost use Rattle.jc_command_work.specs.Seen.{texts_of};
+
+use crate::input_files::InputFiles;
+use std::marker::Model;
+
+/// Files that a command has read, and the path that each is written to, in the same order.
+#[derive(Drop)]
+pub struct TargetedFiles<'a> {
+    inputs: InputFiles<'a>,
+    targets: Vec<&'a str>,
+}
+
+impl<'a> Model for TargetedFiles<'a> {
+    ghost use Rattle.std.specs.Prelude.{◌≡◌, length};
+    ghost use Rattle.jc_command_work.specs.Step.{FilesTargeted};
+    ghost use Rattle.jc_command_work.specs.Seen.{texts_of};
+
+    ghost Value = { FilesTargeted };
+
+    ghost view = { λ f. record { inputs = f.inputs; targets = texts_of f.targets.items } };
+
+    ghost invariant = { λ f. length f.targets.items ≡ length f.inputs.texts };
+}
+
+impl<'a> TargetedFiles<'a> {
+    /// These files, and the path that each is written to.
+    pub fn new(inputs: InputFiles<'a>, targets: Vec<&'a str>) -> TargetedFiles<'a>
+        requires { length targets.items ≡ length inputs.texts }
+        ensures inputs { result.inputs ≡ inputs.entry }
+        ensures targets { result.targets ≡ texts_of targets.entry.items }
+    {
+        TargetedFiles { inputs, targets }
+    }
+
+    /// The files as they were read, and the path that each is written to.
+    pub fn into_parts(self) -> (InputFiles<'a>, Vec<&'a str>)
+        ensures inputs { result.0 ≡ self.entry.inputs }
+        ensures targets { texts_of result.1.items ≡ self.entry.targets }
+        ensures each { length result.1.items ≡ length result.0.texts }
+    {
+        let TargetedFiles { inputs, targets } = self;
+        (inputs, targets)
+    }
+}
