@@ -1,11 +1,11 @@
 -- Files that are looked at, and then written one after the other.
-use Rattle.std.proofs.Common.{◌≡◌, ℕ, ◌+◌, ◌<◌, ◌≤◌, List, [], ◌∷◌, ◌++◌, suc, length, drop, get_or, map, Option, None, Result, Ok, Err, Vec, inl, String, string_bytes, refl, sym, ◌∙◌, ap, ap₂, subst, arith, append_assoc, append-nil, drop-cons, add-one}
+use Rattle.std.proofs.Common.{◌≡◌, ℕ, ◌+◌, ◌<◌, ◌≤◌, List, [], ◌∷◌, ◌++◌, suc, length, drop, get_or, map, Option, None, Result, Ok, Err, Vec, inl, refl, sym, ◌∙◌, ap, ap₂, subst, arith, append_assoc, append-nil, drop-cons, add-one}
 use Rattle.std.specs.List.{AllZip}
 use Rattle.std.proofs.lemmas.List.{drop_all, get_or-map, get_or_default, length-map}
 use Rattle.std.specs.declared.alloc.Global.{Global}
 use Rattle.jc_paths.specs.Paths.{in_folder}
 use Rattle.jc_command_work.specs.declared.stop.Stop.{Stop}
-use Rattle.jc_command_work.specs.Seen.{words_of, stop_seen}
+use Rattle.jc_command_work.specs.Seen.{stop_seen}
 use Rattle.jc_command_work.specs.Step.{Word, Outside, Counts, Landed, Write}
 use Rattle.jc_command_work.specs.Part.{End, gives, Part, giving, writing, writing_all, making, never, ◌>>=◌}
 use Rattle.jc_command_work.specs.Ending.{CameTo, Stops, Does}
@@ -80,20 +80,16 @@ pub record IsNext (dest : Word) (looked : List LookedFile) (i : ℕ) (target pat
   pub parts : drop i looked ≡ record { file = path; bytes = t; decision = d } ∷ drop (i + 1) looked
   pub target_is : in_folder dest path ≡ target
 
-named_at : (xs : List (String Global)) (i index : ℕ) (s : String Global) (w : Word) → i < length xs → index ≡ i → s ≡ get_or xs index s → w ≡ string_bytes s → w ≡ get_or (words_of xs) i w
-named_at xs i index s w within index_is at named =
-    named ∙ ap string_bytes (at ∙ ap (λ (k : ℕ). get_or xs k s) index_is) ∙ sym (get_or-map string_bytes xs i s w within)
-
 item_at : (items : List (List ℕ)) (i index : ℕ) (b t : List ℕ) → i < length items → index ≡ i → b ≡ get_or items index [] → t ≡ b → t ≡ get_or items i t
 item_at items i index b t within index_is at same = same ∙ at ∙ ap (λ (k : ℕ). get_or items k []) index_is ∙ get_or_default items i [] t within
 
-module _ (dest : Word) (looked : List LookedFile) (targets : List (String Global)) (paths : List Word) (texts : List (List ℕ)) (all : List Decided)
-    (of : AreOf dest looked (words_of targets) paths texts (map decision_seen all)) where
+module _ (dest : Word) (looked : List LookedFile) (targets paths : List Word) (texts : List (List ℕ)) (all : List Decided)
+    (of : AreOf dest looked targets paths texts (map decision_seen all)) where
   pub as_many_files : length looked ≡ length all
   as_many_files = omega (arith, ap length of.decisions_are, length-map all decision_seen, length-map looked (λ (x : LookedFile). x.decision))
 
   as_many_targets : length targets ≡ length looked
-  as_many_targets = omega (arith, ap length of.targets_are, length-map targets string_bytes, length-map looked (λ (x : LookedFile). in_folder dest x.file))
+  as_many_targets = ap length of.targets_are ∙ length-map looked (λ (x : LookedFile). in_folder dest x.file)
 
   as_many_paths : length paths ≡ length looked
   as_many_paths = ap length of.paths_are ∙ length-map looked (λ (x : LookedFile). x.file)
@@ -102,7 +98,7 @@ module _ (dest : Word) (looked : List LookedFile) (targets : List (String Global
   as_many_texts = ap length of.texts_are ∙ length-map looked (λ (x : LookedFile). x.bytes)
 
   module _ (i : ℕ) (target path : Word) (t : List ℕ) (d : Decision) (inside : i < length looked) where
-    next_file : target ≡ get_or (words_of targets) i target → path ≡ get_or paths i path → t ≡ get_or texts i t → d ≡ get_or (map decision_seen all) i d
+    next_file : target ≡ get_or targets i target → path ≡ get_or paths i path → t ≡ get_or texts i t → d ≡ get_or (map decision_seen all) i d
         → IsNext dest looked i target path t d
     next_file at_target at_path at_text at_decision =
         let l : LookedFile = record { file = path; bytes = t; decision = d } in
@@ -121,14 +117,14 @@ module _ (dest : Word) (looked : List LookedFile) (targets : List (String Global
         }
 
   -- the file of a turn of the loop
-  pub turn_file : (i index : ℕ) (target : String Global) (b t : List ℕ) (decided : Decided) (target_path path : Word) → AtPlace all i index decided
-      → target ≡ get_or targets index target → path ≡ get_or paths index [] → b ≡ get_or texts index [] → target_path ≡ string_bytes target → t ≡ b
-      → IsNext dest looked i target_path path t (decision_seen decided)
-  turn_file i index target b t decided target_path path place at_target at_path at_text named_target same =
+  pub turn_file : (i index : ℕ) (b t : List ℕ) (decided : Decided) (target path : Word) → AtPlace all i index decided
+      → target ≡ get_or targets index [] → path ≡ get_or paths index [] → b ≡ get_or texts index [] → t ≡ b
+      → IsNext dest looked i target path t (decision_seen decided)
+  turn_file i index b t decided target path place at_target at_path at_text same =
       let within = place.within in
       let inside : i < length looked = omega (arith, within, as_many_files) in
-      next_file i target_path path t (decision_seen decided) inside
-      (named_at targets i index target target_path (omega (arith, inside, as_many_targets)) place.index_is at_target named_target)
+      next_file i target path t (decision_seen decided) inside
+      (item_at targets i index target target (omega (arith, inside, as_many_targets)) place.index_is at_target refl)
       (item_at paths i index path path (omega (arith, inside, as_many_paths)) place.index_is at_path refl)
       (item_at texts i index b t (omega (arith, inside, as_many_texts)) place.index_is at_text same)
       (ap decision_seen place.at ∙ sym (get_or-map decision_seen all i decided (decision_seen decided) within))

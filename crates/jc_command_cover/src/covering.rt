@@ -14,7 +14,7 @@ use crate::options::CoverOptions;
 use crate::running::run_accepted;
 use jc_bytes::Bytes;
 use jc_command_run::plan_of;
-use jc_command_work::{Outside, Resources, Stop, as_texts, read_listed};
+use jc_command_work::{Outside, Resources, Stop, TargetedFiles, as_texts, read_listed};
 use jc_outside::{Files, Sink};
 use jc_workers::Gate;
 use std::marker::Sync;
@@ -52,8 +52,10 @@ pub fn cover<'a, R: Threads + Sync, F: Files, O: Sink, E: Sink, G: Gate + Sync>(
     let alloc = resources.alloc;
     let inputs = read_listed(alloc, outside.files, paths)?;
     let plan = plan_of(alloc, options.plan, plan_text)?;
-    let places = instrument_files(resources.rt, alloc, outside, &inputs, targets)?;
     let file_targets = as_texts(alloc, targets)?;
+    let targeted = TargetedFiles::new(inputs, file_targets);
+    let places = instrument_files(resources.rt, alloc, outside, &targeted)?;
+    let (inputs, file_targets) = targeted.into_parts();
     let accepted = accepted_files(alloc, inputs, file_targets, places)?;
     run_accepted(resources, outside, options, &plan, accepted)
 }

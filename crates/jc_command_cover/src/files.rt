@@ -3,14 +3,14 @@ ghost use Rattle.std.specs.Prelude.{◌≡◌, ◌<◌, ◌^◌, ◌++◌, [], l
 ghost use Rattle.jc_command_work.specs.Part.{writing_all};
 ghost use Rattle.jc_command_work.specs.Ending.{Does};
 ghost use Rattle.jc_command_work.specs.Handed.{OnOutside};
-ghost use Rattle.jc_command_work.specs.Seen.{words_of, stop_seen};
+ghost use Rattle.jc_command_work.specs.Seen.{stop_seen};
 ghost use Rattle.jc_command_classes.specs.Instrument.{file_writes, decision_seen};
 ghost use Rattle.jc_headline.specs.CoverWork.{place_if};
 ghost use Rattle.jc_command_cover.specs.Files.{InstrumentsTo, WritesDecided};
 
 use jc_bytes::Memory;
 use jc_command_classes::{Decided, decide_all, decided_line};
-use jc_command_work::{InputFiles, Outside, Stop, put_err, put_out, write_file};
+use jc_command_work::{Outside, Stop, TargetedFiles, put_err, put_out, write_file};
 use jc_outside::{Files, Sink};
 use std::alloc::Global;
 use std::marker::Sync;
@@ -56,15 +56,13 @@ fn keep_place(places: &mut Vec<u32>, place: u32, decided: &Decided) -> Result<()
 fn write_all_decided<'a, F: Files, O: Sink, E: Sink>(
     alloc: Global,
     outside: &mut Outside<'_, '_, '_, F, O, E>,
-    inputs: &InputFiles<'_>,
-    targets: &'a [String],
+    targeted: &TargetedFiles<'a>,
     all: Vec<Decided>,
 ) -> Result<Vec<u32>, Stop<'a>>
-    requires targets { length targets.now ≡ length inputs.now.texts }
-    requires decided { length all.items ≡ length inputs.now.texts }
-    requires few { length inputs.now.texts < 2 ^ 32 }
+    requires decided { length all.items ≡ length targeted.now.inputs.texts }
+    requires few { length targeted.now.inputs.texts < 2 ^ 32 }
     ensures { OnOutside F.Files O.Sink E.Sink outside.old outside.new
-        (WritesDecided F.landed (words_of targets.entry.now) inputs.now.paths inputs.now.texts (map decision_seen all.items))
+        (WritesDecided F.landed targeted.entry.now.targets targeted.entry.now.inputs.paths targeted.entry.now.inputs.texts (map decision_seen all.items))
         result }
 {
     let mut places = Vec::new(alloc);
@@ -72,9 +70,9 @@ fn write_all_decided<'a, F: Files, O: Sink, E: Sink>(
         write_decided(
             alloc,
             outside,
-            targets[index].as_str(),
-            inputs.path(index),
-            inputs.text(index),
+            targeted.target(index),
+            targeted.path(index),
+            targeted.text(index),
             &decided,
         )?;
         keep_place(&mut places, index as u32, &decided)?;
@@ -91,14 +89,12 @@ pub fn instrument_files<'a, R: Threads + Sync, F: Files, O: Sink, E: Sink>(
     rt: &R,
     alloc: Global,
     outside: &mut Outside<'_, '_, '_, F, O, E>,
-    inputs: &InputFiles<'_>,
-    targets: &'a [String],
+    targeted: &TargetedFiles<'a>,
 ) -> Result<Vec<u32>, Stop<'a>>
-    requires targets { length targets.now ≡ length inputs.now.paths }
-    requires few { length inputs.now.paths < 2 ^ 32 }
+    requires { length targeted.now.inputs.paths < 2 ^ 32 }
     ensures { OnOutside F.Files O.Sink E.Sink outside.old outside.new
-        (InstrumentsTo F.landed (words_of targets.entry.now) inputs.now.paths inputs.now.texts) result }
+        (InstrumentsTo F.landed targeted.entry.now.targets targeted.entry.now.inputs.paths targeted.entry.now.inputs.texts) result }
 {
-    let all = decide_all(rt, alloc, inputs.texts())?;
-    write_all_decided(alloc, outside, inputs, targets, all)
+    let all = decide_all(rt, alloc, targeted.texts())?;
+    write_all_decided(alloc, outside, targeted, all)
 }

@@ -33,7 +33,7 @@ impl<'a> Model for InputFiles<'a> {
 }
 
 /// The path at an index.
-fn path_at<'a>(paths: &[&'a str], index: usize) -> &'a str
+pub fn path_at<'a>(paths: &[&'a str], index: usize) -> &'a str
     requires { index < length paths.now }
     ensures { result.now ≡ slice_index_or (texts_of paths.now) index [] }
 {

@@ -1,8 +1,10 @@
 //! The files that a command reads, and the paths that it writes them to.
-ghost use Rattle.std.specs.Prelude.{◌≡◌, length};
+ghost use Rattle.std.specs.Prelude.{◌≡◌, ◌≤◌, ◌<◌, [], All, length, slice_index_or};
+ghost use Rattle.jc_bytes.specs.Reader.{most_read};
 ghost use Rattle.jc_command_work.specs.Seen.{texts_of};
 
-use crate::input_files::InputFiles;
+use crate::input_files::{InputFiles, path_at};
+use jc_bytes::Bytes;
 use std::marker::Model;
 
 /// Files that a command has read, and the path that each is written to, in the same order.
@@ -32,6 +34,39 @@ impl<'a> TargetedFiles<'a> {
         ensures targets { result.targets ≡ texts_of targets.entry.items }
     {
         TargetedFiles { inputs, targets }
+    }
+
+    /// The path of a file.
+    pub fn path(&self, index: usize) -> &'a str
+        requires { index < length self.now.inputs.texts }
+        ensures { result.now ≡ slice_index_or self.now.inputs.paths index [] }
+    {
+        self.inputs.path(index)
+    }
+
+    /// The path that a file is written to.
+    pub fn target(&self, index: usize) -> &'a str
+        requires { index < length self.now.inputs.texts }
+        ensures { result.now ≡ slice_index_or self.now.targets index [] }
+    {
+        path_at(&self.targets, index)
+    }
+
+    /// The bytes of a file, as they were read.
+    pub fn text(&self, index: usize) -> &Bytes
+        requires { index < length self.now.inputs.texts }
+        ensures { result.now ≡ slice_index_or self.now.inputs.texts index [] }
+    {
+        self.inputs.text(index)
+    }
+
+    /// The bytes of the files, in order, as they were read.
+    pub fn texts(&self) -> &[Bytes]
+        ensures texts { result.now ≡ self.now.inputs.texts }
+        ensures each { length result.now ≡ length self.now.inputs.paths }
+        ensures short { All (λ t. length t ≤ most_read) result.now }
+    {
+        self.inputs.texts()
     }
 
     /// The files as they were read, and the path that each is written to.

@@ -25,12 +25,12 @@ writing-preserved g c = (
       let turn = YieldsList-turn (YieldsList-from_enumerate (YieldsList-from_vec all (cc) (search rules)) (cc))
       c.writing.yielded c.writing.index-iterator c.writing.yielded_by c.next.result c.next.new.self item c.in-Some.is c.next.ensures.steps in
       let place = at_place all n c.in-Some.index d turn.0 turn.1 in
-      let next = turn_file dest looked c.args.targets.now c.args.inputs.now.paths c.args.inputs.now.texts all of n c.in-Some.index
-      c.index-targets-index.result c.text.result.now c.deref.result.now d c.as_str.result.now c.path.result.now place
-      c.index-targets-index.is c.path.ensures c.text.ensures.text c.as_str.ensures.value c.deref.ensures in
+      let next = turn_file dest looked c.args.targeted.now.targets c.args.targeted.now.inputs.paths c.args.targeted.now.inputs.texts all of n c.in-Some.index
+      c.text.result.now c.deref.result.now d c.target.result.now c.path.result.now place
+      c.target.ensures c.path.ensures c.text.ensures c.deref.ensures in
       rw (length_push c.writing.yielded item)
       (turn_written g.F.Files.landed dest looked n c.in-Some.index _ _ _ _ _ _ c.writing.places.items c.keep_place.new.places.items
-      c.as_str.result.now c.path.result.now c.deref.result.now (decision_seen d) next place.index_is (c.writing.invariant.1 dest looked of)
+      c.target.result.now c.path.result.now c.deref.result.now (decision_seen d) next place.index_is (c.writing.invariant.1 dest looked of)
       c.in_ok-write_decided.ensures.1 c.in_ok-keep_place.ensures),
 )
 
@@ -45,12 +45,12 @@ writing-preserved-in_ok-keep_place g c = (
       let turn = YieldsList-turn (YieldsList-from_enumerate (YieldsList-from_vec all (cc) (search rules)) (cc))
       c.writing.yielded c.writing.index-iterator c.writing.yielded_by c.next.result c.next.new.self item c.in-Some.is c.next.ensures.steps in
       let place = at_place all n c.in-Some.index d turn.0 turn.1 in
-      let next = turn_file dest looked c.args.targets.now c.args.inputs.now.paths c.args.inputs.now.texts all of n c.in-Some.index
-      c.index-targets-index.result c.text.result.now c.deref.result.now d c.as_str.result.now c.path.result.now place
-      c.index-targets-index.is c.path.ensures c.text.ensures.text c.as_str.ensures.value c.deref.ensures in
+      let next = turn_file dest looked c.args.targeted.now.targets c.args.targeted.now.inputs.paths c.args.targeted.now.inputs.texts all of n c.in-Some.index
+      c.text.result.now c.deref.result.now d c.target.result.now c.path.result.now place
+      c.target.ensures c.path.ensures c.text.ensures c.deref.ensures in
       rw (length_push c.writing.yielded item)
       (turn_written g.F.Files.landed dest looked n c.in-Some.index _ _ _ _ _ _ c.writing.places.items c.keep_place.new.places.items
-      c.as_str.result.now c.path.result.now c.deref.result.now (decision_seen d) next place.index_is (c.writing.invariant.1 dest looked of)
+      c.target.result.now c.path.result.now c.deref.result.now (decision_seen d) next place.index_is (c.writing.invariant.1 dest looked of)
       c.in_ok-write_decided.ensures.1 c.in_ok-keep_place.ensures),
 )
 
@@ -67,11 +67,11 @@ returns-in_err-write_decided g c =
           let turn = YieldsList-turn (YieldsList-from_enumerate (YieldsList-from_vec all (cc) (search rules)) (cc))
           c.writing.yielded c.writing.index-iterator c.writing.yielded_by c.next.result c.next.new.self item c.in-Some.is c.next.ensures.steps in
           let place = at_place all n c.in-Some.index d turn.0 turn.1 in
-          let next = turn_file dest looked c.args.targets.now c.args.inputs.now.paths c.args.inputs.now.texts all of n c.in-Some.index
-          c.index-targets-index.result c.text.result.now c.deref.result.now d c.as_str.result.now c.path.result.now place
-          c.index-targets-index.is c.path.ensures c.text.ensures.text c.as_str.ensures.value c.deref.ensures in
+          let next = turn_file dest looked c.args.targeted.now.targets c.args.targeted.now.inputs.paths c.args.targeted.now.inputs.texts all of n c.in-Some.index
+          c.text.result.now c.deref.result.now d c.target.result.now c.path.result.now place
+          c.target.ensures c.path.ensures c.text.ensures c.deref.ensures in
           file_failed g.F.Files.landed dest looked n _ _ _ _ _ _ c.writing.places.items (c.writing.invariant.1 dest looked of)
-          c.as_str.result.now c.path.result.now c.deref.result.now (decision_seen d) next _ c.in_err-write_decided.ensures.1,
+          c.target.result.now c.path.result.now c.deref.result.now (decision_seen d) next _ c.in_err-write_decided.ensures.1,
     )
 
 pub returns-in_err-keep_place : goal.returns-in_err-keep_place
@@ -87,11 +87,11 @@ returns-in_err-keep_place g c =
           let turn = YieldsList-turn (YieldsList-from_enumerate (YieldsList-from_vec all (cc) (search rules)) (cc))
           c.writing.yielded c.writing.index-iterator c.writing.yielded_by c.next.result c.next.new.self item c.in-Some.is c.next.ensures.steps in
           let place = at_place all n c.in-Some.index d turn.0 turn.1 in
-          let next = turn_file dest looked c.args.targets.now c.args.inputs.now.paths c.args.inputs.now.texts all of n c.in-Some.index
-          c.index-targets-index.result c.text.result.now c.deref.result.now d c.as_str.result.now c.path.result.now place
-          c.index-targets-index.is c.path.ensures c.text.ensures.text c.as_str.ensures.value c.deref.ensures in
+          let next = turn_file dest looked c.args.targeted.now.targets c.args.targeted.now.inputs.paths c.args.targeted.now.inputs.texts all of n c.in-Some.index
+          c.text.result.now c.deref.result.now d c.target.result.now c.path.result.now place
+          c.target.ensures c.path.ensures c.text.ensures c.deref.ensures in
           file_lost g.F.Files.landed dest looked n _ _ _ _ _ _ c.writing.places.items (c.writing.invariant.1 dest looked of)
-          c.as_str.result.now c.path.result.now c.deref.result.now (decision_seen d) next None refl c.in_ok-write_decided.ensures.1,
+          c.target.result.now c.path.result.now c.deref.result.now (decision_seen d) next None refl c.in_ok-write_decided.ensures.1,
     )
 
 pub returns : goal.returns
@@ -101,7 +101,7 @@ returns g c = (
       let all = c.args.all.items in
       let end = YieldsList-end (YieldsList-from_enumerate (YieldsList-from_vec all (cc) (search rules)) (cc))
       c.writing.yielded c.writing.index-iterator c.writing.yielded_by c.next.result c.next.new.self c.in-None.is c.next.ensures.steps in
-      let many = as_many_files dest looked c.args.targets.now c.args.inputs.now.paths c.args.inputs.now.texts all of in
+      let many = as_many_files dest looked c.args.targeted.now.targets c.args.targeted.now.inputs.paths c.args.targeted.now.inputs.texts all of in
       files_written g.F.Files.landed dest looked (length c.writing.yielded) (omega (arith, end.1, length-enumerate_from 0 all, many)) _ _ _ _ c.writing.places.items
       (c.writing.invariant.1 dest looked of),
 )

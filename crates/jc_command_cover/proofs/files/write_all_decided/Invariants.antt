@@ -1,7 +1,6 @@
 use Rattle.std.proofs.Common.{List, length, map}
 use Rattle.jc_command_work.specs.Step.{Word, outside, counts}
 use Rattle.jc_command_work.specs.Handed.{SameReferences}
-use Rattle.jc_command_work.specs.Seen.{words_of}
 use Rattle.jc_command_classes.specs.Instrument.{decision_seen}
 use Rattle.jc_headline.specs.CoverWork.{LookedFile}
 use Rattle.jc_command_cover.specs.Files.{AreOf}
@@ -15,7 +14,7 @@ invariant-writing g l =
     let O = g.O.Sink in
     let E = g.E.Sink in
     SameReferences l.fn.outside l.outside
-    × ((dest : Word) (looked : List LookedFile) → AreOf dest looked (words_of l.targets) l.inputs.paths l.inputs.texts (map decision_seen l.fn.all.items)
+    × ((dest : Word) (looked : List LookedFile) → AreOf dest looked l.targeted.targets l.targeted.inputs.paths l.targeted.inputs.texts (map decision_seen l.fn.all.items)
     → WroteFirst F.landed dest looked (length l.yielded)
     (outside (F.contents l.fn.outside.files.now) (O.told l.fn.outside.out.now) (E.told l.fn.outside.err.now))
     (outside (F.contents l.outside.files.now) (O.told l.outside.out.now) (E.told l.outside.err.now))
