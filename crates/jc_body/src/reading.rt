@@ -5,9 +5,7 @@ ghost use Rattle.jc_methods.specs.VerificationTypes.{Names as AllNames, Grows};
 ghost use Rattle.jc_methods.specs.WellMade.{IsCounted, IsWellMade};
 ghost use Rattle.jc_bytes.specs.Reader.{most_read};
 ghost use Rattle.jc_pool.specs.Lookup.{class_name_of};
-ghost use Rattle.jc_body.specs.StackMap.{HasNumberedFrames};
 ghost use Rattle.jc_methods.specs.declared.body.Body.{Body as BodyValue};
-ghost use Rattle.jc_methods.specs.declared.body.FrameAt.{FrameAt as Frame};
 ghost use Rattle.jc_bytes.specs.declared.refusal.Refusal.{Refusal as Reason};
 ghost use Rattle.jc_class.specs.ClassFormat.{HasText, HasClass, HasMethodDescriptor};
 ghost use Rattle.jc_class.specs.Writable.{IsClassFile};
@@ -18,7 +16,7 @@ ghost use Rattle.jc_body.specs.Coded.{HasNoCode, IsCoded};
 ghost use Rattle.jc_body.specs.Numbering.{Numbers};
 ghost use Rattle.jc_body.specs.Answers.{IsRefusal};
 ghost use Rattle.jc_bytes.specs.Failing.{Said};
-ghost use Rattle.jc_body.specs.BodyOf.{HasPartsWith, IsNamed, IsBody, BodyOf, Bodiless, FaultOf};
+ghost use Rattle.jc_body.specs.BodyOf.{TakesParts, IsNamed, IsBody, BodyOf, Bodiless, FaultOf};
 ghost use Rattle.jc_body.specs.Sizes.{HasShortParts, HasSmallParts};
 
 use crate::code::{bad_code, read_coded};
@@ -48,9 +46,8 @@ fn assembled(
     requires desc { HasMethodDescriptor method.now.class.now.pool method.now.member.now.desc }
     requires arguments { IsNowhere (ArgumentsOutside method.now.class.now.pool method.now.member.now coded) }
     requires offsets { Numbers coded offsets.now }
-    ensures parts { (names : AllNames) (frames : Seq Frame)
-        → HasNumberedFrames names method.now.class.now.pool method.now.owner.now method.now.member.now coded frames
-        → IfOk result (HasPartsWith names method.now.class.now method.now.number method.now.member.now coded tables.now frames) }
+    ensures parts { (names : AllNames)
+        → IfOk result (TakesParts names method.now.class.now method.now.owner.now method.now.number method.now.member.now coded tables.now) }
     ensures texts { IfOk result HasShortParts }
 {
     let pool = &method.class.pool;

@@ -24,8 +24,9 @@ use Rattle.jc_command_work.specs.declared.stop.Stop.{Stop}
 use Rattle.jc_command_work.specs.declared.stop.Stop.TheVariants as stops
 use Rattle.jc_command_work.specs.Seen.{write_seen}
 use Rattle.jc_command_classes.specs.Report.{ReportedFile, refused_class, unchanged_class, changed_class, IsItem, AreItems, lines_of, changed_of}
-use Rattle.jc_command_classes.specs.Report.{record_of, hits_of, clash_with, clash_of, first_clash, first_of_each_id, counted_with, report_text}
+use Rattle.jc_command_classes.specs.Report.{record_of, hits_of, clash_with, clash_of, first_clash, first_of_each_id, counted_with, report_text, ReportAnswers}
 use Rattle.jc_command_classes.specs.Lines.{refused_line}
+use Rattle.jc_command_work.specs.Answered.{Answer}
 use Rattle.jc_command_work.specs.Step.{Word}
 use Rattle.jc_command_work.specs.Step.{to_file, to_err}
 
@@ -43,6 +44,10 @@ exec_path (Some e) = Some e.path.now
 abbrev pub exec_texts : Option ExecInput → List (List ℕ)
 exec_texts None = []
 exec_texts (Some e) = e.bytes ∷ []
+
+-- the answer of a report by the execution data that was read, if any
+abbrev pub ReportBy : (csv name : Word) → Option ExecInput → (paths : List Word) → (texts : List (List ℕ)) → Answer → Type 0
+ReportBy csv name exec paths texts = ReportAnswers csv name (exec_path exec) paths (exec_texts exec ++ texts)
 
 abbrev pub data_path : Option (Bor Data) → Option Word
 data_path None = None

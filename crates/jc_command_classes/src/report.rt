@@ -2,7 +2,7 @@
 ghost use Rattle.std.specs.Prelude.{◌≡◌, ◌≤◌, ◌<◌, ◌^◌, ◌∷◌, ◌++◌, [], Some, None, length, map, IfOk, IfSome};
 ghost use Rattle.jc_bytes.specs.Reader.{most_read};
 ghost use Rattle.jc_command_classes.specs.Report.{report_text, ReportAnswers};
-ghost use Rattle.jc_command_classes.specs.ReportSteps.{data_records, data_path, exec_path, exec_texts, CountsFiles, ReportsWith};
+ghost use Rattle.jc_command_classes.specs.ReportSteps.{data_records, data_path, ReportBy, CountsFiles, ReportsWith};
 ghost use Rattle.jc_command_work.specs.Seen.{words_of};
 ghost use Rattle.jc_command_work.specs.Answered.{AnswersWith, Prepares};
 ghost use Rattle.jc_command_work.specs.Handed.{BetweenFiles};
@@ -124,7 +124,7 @@ fn reported_of<'a, R: Threads + Sync>(
     inputs: &InputFiles<'_>,
 ) -> Result<Vec<Write<'a>>, Stop<'a>>
     requires { IfSome exec (λ e. length e.bytes ≤ most_read) }
-    ensures { AnswersWith (ReportAnswers options.entry.now.csv.now options.entry.now.name.now (exec_path exec.entry) inputs.now.paths (exec_texts exec.entry ++ inputs.now.texts)) result }
+    ensures { AnswersWith (ReportBy options.entry.now.csv.now options.entry.now.name.now exec.entry inputs.now.paths inputs.now.texts) result }
 {
     match exec {
         None => reported_without_data(rt, alloc, options, inputs),
@@ -143,8 +143,7 @@ pub fn prepare_report<'a, R: Threads + Sync, F: Files>(
 ) -> Result<Vec<Write<'a>>, Stop<'a>>
     requires { IfSome exec (λ e. length e.bytes ≤ most_read) }
     ensures { BetweenFiles F.Files files.old files.new (Prepares F.landed (words_of paths.entry.now)
-        (λ read. ReportAnswers options.entry.now.csv.now options.entry.now.name.now (exec_path exec.entry) (words_of paths.entry.now)
-        (exec_texts exec.entry ++ read))) result }
+        (ReportBy options.entry.now.csv.now options.entry.now.name.now exec.entry (words_of paths.entry.now))) result }
 {
     let inputs = read_listed(alloc, files, paths)?;
     reported_of(rt, alloc, options, exec, &inputs)

@@ -97,17 +97,19 @@ module _ (b : Body) (first : ℕ) where
       let short = ap length f ∙ length-map (twin_items b first narrow) (insn_of other b.arg_slots) ∙ length_twin b first narrow in
       items_same (omega (arith, long, short, total_more (length b.code)))
 
-  one_items : (w u : Bool) (code : List Insn) (named other : TwinPlaces) → code ≡ map (insn_of named b.arg_slots) (twin_items b first (layout_form w))
-      → code ≡ map (insn_of other b.arg_slots) (twin_items b first (layout_form u))
-      → twin_items b first (layout_form w) ≡ twin_items b first (layout_form u)
+  -- the code has the instructions of the items in this form
+  abbrev IsCodeIn : TwinForm → TwinPlaces → List Insn → Type 0
+  IsCodeIn form named code = code ≡ map (insn_of named b.arg_slots) (twin_items b first form)
+
+  one_items : (w u : Bool) (code : List Insn) (named other : TwinPlaces) → IsCodeIn (layout_form w) named code
+      → IsCodeIn (layout_form u) other code → twin_items b first (layout_form w) ≡ twin_items b first (layout_form u)
   one_items true true code named other e f = refl
   one_items true false code named other e f = both_layouts code named other e f
   one_items false true code named other e f = sym (both_layouts code other named f e)
   one_items false false code named other e f = refl
 
-  one_forms : (x y : TwinForm) → IsUniform x → IsUniform y → (code : List Insn) (named other : TwinPlaces)
-      → code ≡ map (insn_of named b.arg_slots) (twin_items b first x) → code ≡ map (insn_of other b.arg_slots) (twin_items b first y)
-      → twin_items b first x ≡ twin_items b first y
+  one_forms : (x y : TwinForm) → IsUniform x → IsUniform y → (code : List Insn) (named other : TwinPlaces) → IsCodeIn x named code
+      → IsCodeIn y other code → twin_items b first x ≡ twin_items b first y
   one_forms x y w u code named other e f =
       ap (twin_items b first) w.1
       ∙ one_items w.0 u.0 code named other (subst (λ z. code ≡ map (insn_of named b.arg_slots) (twin_items b first z)) w.1 e)

@@ -20,7 +20,7 @@ use Rattle.jc_plan.specs.Probed.{probe_of, id_if, is_probed, id_of}
 use Rattle.jc_plan.proofs.OneIdLaws.{one_edge}
 use Rattle.jc_plan.proofs.FlowLaws.{IsAt, all_at}
 use Rattle.jc_emit.specs.Sizes.{TwinForm, is_wide, insn_at, late_by, late_probe, arms_by, arms_at, hop_size}
-use Rattle.jc_emit.specs.Marks.{TwinPlaces, Marks, IsProbe, aload, invokestatic, prelude_size, push, image_place, land_place, lead_place}
+use Rattle.jc_emit.specs.Marks.{TwinPlaces, Marks, IsProbe, HasEachIdOnce, aload, invokestatic, prelude_size, push, image_place, land_place, lead_place}
 use Rattle.jc_emit.specs.TwinCode.{to_of, Sentences, IsTwinCode, ProbedEdge, InProbe, IsWideGoto, IsAdded, HasGotoBehind, HasTest, HasHop, HasArm, HasArms, IsProbeOf, IsProbeIn, arm, probe_place, probe_place_by}
 use Rattle.jc_emit.proofs.OthersLaws.{Arms, arm_way, Agrees, agrees_first, agrees_rest, arms_by_list, at_found, tests_target, jumps_target}
 
@@ -226,6 +226,6 @@ probe_in b first form named code m is_code is q id at p =
 
 pub one_probe : (b : Body) (first : ℕ) (form : TwinForm) (named : TwinPlaces) (code : List Insn) (m : Marks) → IsCode b.code
     → IsTwinCode b first form named code m
-    → (q r id at to : ℕ) → IsProbe code m b.arg_slots q id at → IsProbe code m b.arg_slots r id to → q ≡ r
+    → HasEachIdOnce code m b.arg_slots
 one_probe b first form named code m is_code is q r id at to p k =
     probe_once b first form code m (image_place m.own) (land_place b first m.own) (lead_place b first m.own) named is_code is q r id at to p k

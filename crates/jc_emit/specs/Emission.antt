@@ -10,6 +10,7 @@ use Rattle.jc_methods.specs.declared.insn.Flow.{Flow}
 use Rattle.jc_methods.specs.declared.kind.State.{State}
 use Rattle.jc_methods.specs.declared.body.Body.{Body}
 use Rattle.jc_methods.specs.declared.body.FrameAt.{FrameAt}
+use Rattle.jc_methods.specs.declared.body.Handler.{Handler}
 use Rattle.jc_methods.specs.declared.emitted.Emitted.{Emitted}
 use Rattle.jc_plan.specs.declared.branch.Branch.{Branch}
 use Rattle.jc_plan.specs.Probed.{probe_of}
@@ -22,6 +23,10 @@ use Rattle.jc_emit.specs.TwinTables.{moved_row, moved_line, moved_var}
 use Rattle.jc_emit.specs.TwinFrames.{state_at, left_by, state_behind, IsFrame, AreTwinFrames}
 use Rattle.jc_emit.specs.Items.{Item, insn_of, at_of, own_of, extra_of, lead_of, land_of, image_of, twin_items}
 use Rattle.jc_methods.specs.declared.insn.Flow.TheVariants as flows
+
+-- a row of the exception table of a twin in this form
+abbrev pub twin_row : Body → (first : ℕ) → TwinForm → Handler → Handler
+twin_row b first form = moved_row (lead_of b first form) (land_of b first form)
 
 -- the states at the instructions of frames are those of the frames
 abbrev pub HasFrameStates : Body → List State → Type 0
@@ -102,7 +107,7 @@ module _ (b : Body) (first : ℕ) (states : List State) (array : ℕ) where
     at = map at_of items;
     own = map own_of items;
     extra = map extra_of items;
-    handlers = map (moved_row (lead_of b first narrow) (land_of b first narrow)) b.handlers;
+    handlers = map (twin_row b first narrow) b.handlers;
     lines = map (moved_line (land_of b first narrow)) b.lines;
     vars = map (moved_var b.arg_slots (land_of b first narrow)) b.vars;
     kind_vars = map (moved_var b.arg_slots (land_of b first narrow)) b.kind_vars;

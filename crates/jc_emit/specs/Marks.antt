@@ -86,6 +86,10 @@ pub record IsProbe (code : List Insn) (m : Marks) (v q id at : ℕ) : Type 0 whe
   pub one : HasInsn code m (q + 2) iconst_1 at false 2
   pub store : HasInsn code m (q + 3) bastore at false 3
 
+-- no two probes have one id
+abbrev pub HasEachIdOnce : List Insn → Marks → (v : ℕ) → Type 0
+HasEachIdOnce code m v = (q r id at to : ℕ) → IsProbe code m v q id at → IsProbe code m v r id to → q ≡ r
+
 -- ---- where instructions of the body stand
 
 -- The place of the image of an instruction: the own instructions are the images, in order. Behind the last one

@@ -8,9 +8,9 @@ use Rattle.jc_methods.specs.declared.insn.Insn.{Insn}
 use Rattle.jc_methods.specs.declared.kind.State.{State}
 use Rattle.jc_emit.specs.Marks.{unplaced}
 use Rattle.jc_emit.specs.Sizes.{narrow}
-use Rattle.jc_emit.specs.Items.{insn_of, lead_of, land_of, twin_items}
-use Rattle.jc_emit.specs.TwinTables.{moved_row, moved_line, moved_var}
-use Rattle.jc_emit.specs.Emission.{IsArrayNumber, HasFrameStates, frames_at, wide_frames_at}
+use Rattle.jc_emit.specs.Items.{insn_of, land_of, twin_items}
+use Rattle.jc_emit.specs.TwinTables.{moved_line, moved_var}
+use Rattle.jc_emit.specs.Emission.{twin_row, IsArrayNumber, HasFrameStates, frames_at, wide_frames_at}
 use Rattle.jc_emit.specs.declared.tables.MovedTables.{MovedTables}
 
 -- the code, where the place of the call in the pool stands as 0
@@ -20,7 +20,7 @@ emitted_code b first = map (insn_of unplaced b.arg_slots) (twin_items b first na
 -- the tables and the sizes
 abbrev pub moved_tables : Body → (first : ℕ) → MovedTables
 moved_tables b first = record {
-  handlers = map (moved_row (lead_of b first narrow) (land_of b first narrow)) b.handlers;
+  handlers = map (twin_row b first narrow) b.handlers;
   lines = map (moved_line (land_of b first narrow)) b.lines;
   vars = map (moved_var b.arg_slots (land_of b first narrow)) b.vars;
   kind_vars = map (moved_var b.arg_slots (land_of b first narrow)) b.kind_vars;

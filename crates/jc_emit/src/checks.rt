@@ -15,8 +15,8 @@ ghost use Rattle.jc_emit.specs.TwinProgram.{TwinProgram};
 
 /// The twin of a body that passes the kind check passes it too.
 pub fn each_twin_is_verified()
-    ensures { (names new_names : Names) (states : List State) (owner : List ℕ) (first : ℕ) (b b' : Body) → IsWellMadeOfAnySize b → Checked names b
-        → AreStates names b states → NoneStraddles b → Twin names new_names states owner first b b' → Checked new_names b' }
+    ensures { (names names' : Names) (states : List State) (owner : List ℕ) (first : ℕ) (b b' : Body) → IsWellMadeOfAnySize b → Checked names b
+        → AreStates names b states → NoneStraddles b → Twin names names' states owner first b b' → Checked names' b' }
 {}
 
 /// The method that is added to a class passes the kind check.

@@ -13,17 +13,16 @@ ghost use Rattle.jc_methods.specs.declared.kind.State.{State};
 ghost use Rattle.jc_plan.specs.declared.branch.Branch.{Branch};
 ghost use Rattle.jc_plan.specs.Probed.{probe_of, probe_count};
 ghost use Rattle.jc_emit.specs.Sizes.{TwinForm, narrow, widest};
-ghost use Rattle.jc_emit.specs.Emission.{emission, HasFrameStates, IsArrayNumber, CanEmit, AreFramesInForm, AreWidened};
+ghost use Rattle.jc_emit.specs.Emission.{twin_row, emission, HasFrameStates, IsArrayNumber, CanEmit, AreFramesInForm, AreWidened};
 ghost use Rattle.jc_emit.specs.Items.{Item, own_of, insn_of, twin_items, image_of, land_of, lead_of, marks_of_items};
 ghost use Rattle.jc_emit.specs.Local.{AllOk, OkRow, IsOfBranch, id_in, no_ids, unchanged_items};
-ghost use Rattle.jc_emit.specs.Marks.{TwinPlaces, Marks, IsProbe, image_place, land_place, lead_place};
+ghost use Rattle.jc_emit.specs.Marks.{TwinPlaces, Marks, IsProbe, HasEachIdOnce, image_place, land_place, lead_place};
 ghost use Rattle.jc_emit.specs.Ranks.{IsRanked};
 ghost use Rattle.jc_emit.specs.Seen.{IsSeen, IsSeenUnchanged, unchanged_marks};
 ghost use Rattle.jc_emit.specs.TwinProgram.{IsSameBody};
 ghost use Rattle.jc_emit.specs.Twin.{Twin, AreTwinMarks, IsEmitted};
 ghost use Rattle.jc_emit.specs.TwinBody.{twin_body};
 ghost use Rattle.jc_emit.specs.TwinCode.{IsTwinCode, IsProbeIn};
-ghost use Rattle.jc_emit.specs.TwinTables.{moved_row};
 
 /// A twin is seen from each of its instructions: each goes on where it should, and the exception rows are kept. So is
 /// a body of an unchanged class.
@@ -64,8 +63,7 @@ pub fn each_probe_is_once()
         → IsTwinCode b first form named code m → (q id at : ℕ) → IsProbe code m b.arg_slots q id at
         → IsProbeIn b first form code m q id at }
     ensures once { (b : Body) (first : ℕ) (form : TwinForm) (named : TwinPlaces) (code : List Insn) (m : Marks) → IsCode b.code
-        → IsTwinCode b first form named code m → (q r id at to : ℕ) → IsProbe code m b.arg_slots q id at
-        → IsProbe code m b.arg_slots r id to → q ≡ r }
+        → IsTwinCode b first form named code m → HasEachIdOnce code m b.arg_slots }
 {}
 
 /// A twin goes on where it should, at each of its instructions, in either layout.
@@ -78,7 +76,7 @@ pub fn each_twin_goes_on()
 pub fn each_row_is_kept()
     ensures { (b : Body) (first : ℕ) (form : TwinForm) → IsCode b.code → (h : Handler) → IsHandler (length b.code) h
         → OkRow b.code (Some b.arg_slots) (probe_of b first) (twin_items b first form) h
-        (moved_row (lead_of b first form) (land_of b first form) h) }
+        (twin_row b first form h) }
 {}
 
 /// An unchanged body goes on where it should, at each of its instructions, and so do its exception rows.

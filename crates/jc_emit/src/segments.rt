@@ -9,10 +9,10 @@ ghost use Rattle.jc_methods.specs.declared.body.Body.{Body as MethodBody};
 ghost use Rattle.jc_methods.specs.declared.insn.Flow.TheVariants as flows;
 ghost use Rattle.jc_plan.specs.Plan.{plan_of};
 ghost use Rattle.jc_emit.specs.Branching.{IsPushed, test_image};
-ghost use Rattle.jc_emit.specs.Items.{tests_part, image_part, segment, twin_items};
+ghost use Rattle.jc_emit.specs.Items.{tests_part, segment, twin_items};
 ghost use Rattle.jc_emit.specs.Placing.{HasPlan, ArePlaces};
 ghost use Rattle.jc_emit.specs.Sizes.{narrow, insn_at};
-ghost use Rattle.jc_emit.specs.Writing.{Grows, CanWrite};
+ghost use Rattle.jc_emit.specs.Writing.{Grows, GrowsByImage, CanWrite};
 ghost use Rattle.jc_emit.specs.Written.{Shows};
 
 use crate::image::{inverted, jump_target, led, moved};
@@ -98,8 +98,7 @@ fn put_switch(
     requires table { length table.old ≡ length source.body.now.code + 1 }
     ensures table { length table.new ≡ length table.old }
     ensures code { (first : ℕ) → source.entry.plan.now ≡ plan_of source.entry.body.now first
-        → OnOk result (Grows source.entry.body.now.arg_slots written.old written.new
-        (image_part source.entry.body.now first narrow at (insn_at source.entry.body.now.code at) flows.Switches)) }
+        → OnOk result (GrowsByImage source.entry.body.now first at flows.Switches written.old written.new) }
 {
     let insn = &source.body.code[at];
     let ids = source.plan.out[at].as_slice();
@@ -142,8 +141,7 @@ fn put_main(
     requires table { length table.old ≡ length source.body.now.code + 1 }
     ensures table { length table.new ≡ length table.old }
     ensures code { (first : ℕ) → source.entry.plan.now ≡ plan_of source.entry.body.now first
-        → OnOk result (Grows source.entry.body.now.arg_slots written.old written.new
-        (image_part source.entry.body.now first narrow at (insn_at source.entry.body.now.code at) (flow_of (insn_at source.entry.body.now.code at)))) }
+        → OnOk result (GrowsByImage source.entry.body.now first at (flow_of (insn_at source.entry.body.now.code at)) written.old written.new) }
 {
     let insn = &source.body.code[at];
     match insn.flow() {

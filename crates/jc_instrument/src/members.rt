@@ -77,12 +77,12 @@ pub fn put_codes(
 ) -> Result<List<Member>, Fail<PoolFull>>
     requires ready { AreReadyFrom names.old all.source.now all.bodies }
     requires coded { AreCoded pool.old methods all.bodies }
-    ensures put { (others : ClassNames) (array : ℕ) (works : Seq BodyWithStates)
-        → ArePlannedWorks names.old others array all.entry.source.now all.entry.bodies works
-        → IfOk result (ArePut pool.old places.now others array works methods pool.new) }
-    ensures refused { (others : ClassNames) (array : ℕ) (works : Seq BodyWithStates)
-        → ArePlannedWorks names.old others array all.entry.source.now all.entry.bodies works
-        → IfErr result (RefusesClasses pool.old (named_by_all (all_frames others array works)) pool.new) }
+    ensures put { (other : ClassNames) (array : ℕ) (work : Seq BodyWithStates)
+        → ArePlannedWorks names.old other array all.entry.source.now all.entry.bodies work
+        → IfOk result (ArePut pool.old places.now other array work methods pool.new) }
+    ensures refused { (other : ClassNames) (array : ℕ) (work : Seq BodyWithStates)
+        → ArePlannedWorks names.old other array all.entry.source.now all.entry.bodies work
+        → IfErr result (RefusesClasses pool.old (named_by_all (all_frames other array work)) pool.new) }
 {
     let PlannedBodies { bodies, source } = all;
     let mut methods = methods.into_vec();

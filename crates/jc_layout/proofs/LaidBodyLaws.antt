@@ -114,9 +114,18 @@ module _ (b : Body) (first : ℕ) (states : List State) (array : ℕ) (names : L
   lands_in : (wide : Bool) → (λ i. laid_place wide (code_in b first) (land_of b first narrow i)) ≡ land_of b first (layout_form wide)
   lands_in wide = λ k i. land_in wide i k
 
+  -- where images, jumps and fall-throughs lead in a layout
+  abbrev images : Bool → ℕ → ℕ
+  images wide = image_of b first (layout_form wide)
+
+  abbrev lands : Bool → ℕ → ℕ
+  lands wide = land_of b first (layout_form wide)
+
+  abbrev leads : Bool → ℕ → ℕ
+  leads wide = lead_of b first (layout_form wide)
+
   -- what holds of the function's places holds of those that the own instructions tell
-  at_own : (wide : Bool) (P : (image land lead : ℕ → ℕ) → Type 0)
-      → P (image_of b first (layout_form wide)) (land_of b first (layout_form wide)) (lead_of b first (layout_form wide))
+  at_own : (wide : Bool) (P : (image land lead : ℕ → ℕ) → Type 0) → P (images wide) (lands wide) (leads wide)
       → let own = own_in b first wide in P (image_place own) (land_place b first own) (lead_place b first own)
   at_own wide P h =
       subst (λ f. P (image_place (own_in b first wide)) (land_place b first (own_in b first wide)) f) (sym (leads_are b first (layout_form wide) well.code))
@@ -129,7 +138,7 @@ module _ (b : Body) (first : ℕ) (states : List State) (array : ℕ) (names : L
 
   rows_laid : (wide : Bool)
       → map (moved_row (placed wide) (placed wide)) (map (moved_row (lead_of b first narrow) (land_of b first narrow)) b.handlers)
-      ≡ map (moved_row (lead_of b first (layout_form wide)) (land_of b first (layout_form wide))) b.handlers
+      ≡ map (moved_row (leads wide) (lands wide)) b.handlers
   rows_laid wide =
       rows_twice (laid_place wide (code_in b first)) (lead_of b first narrow) (land_of b first narrow) b.handlers
       ∙ ap₂ (λ lead land. map (moved_row lead land) b.handlers) (leads_in wide) (lands_in wide)

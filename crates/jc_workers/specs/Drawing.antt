@@ -2,8 +2,12 @@
 use Rattle.std.specs.Prelude.{◌≡◌, ℕ, ◌+◌, ◌<◌, ◌≤◌, List, [], length, Contains, slice_index_or, IfOk, Result}
 use Rattle.atomic_table.specs.Seated.{TableId}
 use Rattle.jc_bytes.specs.declared.fail.Memory.{Memory}
+use Rattle.jc_programs.specs.declared.program.Program.{Program}
+use Rattle.jc_programs.specs.declared.run_plan.RunPlan.{RunPlan}
+use Rattle.jc_programs.specs.declared.run_end.CaseEnd.{CaseEnd}
 use Rattle.jc_workers.specs.declared.pool.Turn.{Turn}
 use Rattle.jc_workers.specs.declared.pool.Drew.{Drew}
+use Rattle.jc_workers.specs.Cases.{case_at, end_under, HitBy}
 use Rattle.jc_workers.specs.Ran.{EndsOf, HitsOf}
 
 -- a number of the list is the count or more
@@ -26,3 +30,7 @@ DidDraw board claims cases end_of hits d = (d.seat.table ≡ board) × (d.seat.p
 abbrev pub AllDrew : {E : Type 0} → TableId → TableId → (cases : ℕ) → (ℕ → E) → (ℕ → ℕ → ℕ → Type 0) → List (Result (Drew E) Memory) → Type 0
 AllDrew {E} board claims cases end_of hits gave = (w : ℕ) (d : Result (Drew E) Memory) → w < length gave
     → IfOk (slice_index_or gave w d) (DidDraw board claims cases end_of hits)
+
+-- all drew cases of the run plan, and what they give back is what the program leaves under these
+abbrev pub AllRan : TableId → TableId → (cases : ℕ) → Program → RunPlan → List (Result (Drew CaseEnd) Memory) → Type 0
+AllRan board claims cases program plan = AllDrew board claims cases (λ k. end_under program (case_at plan k)) (HitBy program plan)

@@ -3,8 +3,8 @@ ghost use Rattle.std.specs.Prelude.{◌≡◌, ◌+◌, ◌*◌, ◌<◌, ◌≤
 ghost use Rattle.jc_programs.specs.Turns.{IsRunPlan};
 ghost use Rattle.jc_machine_model.specs.Programs.{IsProgram};
 ghost use Rattle.jc_machine.specs.Hits.{probe_counts};
-ghost use Rattle.jc_workers.specs.Cases.{HaveEntries, IsRunnable, case_at, end_under, ends_under, HitBy, AreHits};
-ghost use Rattle.jc_workers.specs.Drawing.{AreTurns, AllDrew};
+ghost use Rattle.jc_workers.specs.Cases.{HaveEntries, IsRunnable, ends_under, AreHits};
+ghost use Rattle.jc_workers.specs.Drawing.{AreTurns, AllRan};
 
 use crate::plan_runner::PlanRunner;
 use crate::pool::{Drew, Turn, Work, deal, take_turn};
@@ -32,8 +32,7 @@ fn take_turns<R: Threads + Sync, G: Gate + Sync>(
     requires cases { (work.now.cases ≡ length runner.now.plan.now.cases) × (work.now.cases ≤ 256) }
     requires counts { work.now.board.now.counts ≡ probe_counts runner.now.program.now }
     ensures { IfOk result (λ gave. (vec_len gave ≡ vec_len turns)
-        × AllDrew work.now.board.now.table work.now.claims.now.table work.now.cases (λ k. end_under runner.now.program.now (case_at runner.now.plan.now k))
-        (HitBy runner.now.program.now runner.now.plan.now) gave.items) }
+        × AllRan work.now.board.now.table work.now.claims.now.table work.now.cases runner.now.program.now runner.now.plan.now gave.items) }
 {
     Ok(thread::map_vec(
         rt,
