@@ -58,6 +58,14 @@ impl<'a> InputFiles<'a> {
         self.texts().len()
     }
 
+    /// The paths of the files, in order.
+    pub fn paths(&self) -> &[&'a str]
+        ensures paths { texts_of result.now ≡ self.now.paths }
+        ensures each { length result.now ≡ length self.now.texts }
+    {
+        &self.paths
+    }
+
     /// The path of a file.
     pub fn path(&self, index: usize) -> &'a str
         requires { index < length self.now.texts }
@@ -98,7 +106,7 @@ impl<'a> InputFiles<'a> {
 }
 
 /// The same paths.
-fn copy_of<'a>(alloc: Global, paths: &[&'a str]) -> Result<Vec<&'a str>, Memory>
+pub fn copy_of<'a>(alloc: Global, paths: &[&'a str]) -> Result<Vec<&'a str>, Memory>
     ensures { IfOk result (λ copy. copy.items ≡ paths.entry.now) }
 {
     Ok(Vec::from_slice(alloc, paths)?)
@@ -113,7 +121,7 @@ fn keep(texts: &mut Vec<Bytes>, text: Bytes) -> Result<(), Memory>
 }
 
 /// The bytes of the files at the paths, in order.
-fn read_texts<'a, F: Files>(
+pub fn read_texts<'a, F: Files>(
     alloc: Global,
     files: &mut F,
     paths: &[&'a str],
@@ -165,20 +173,4 @@ pub fn read_listed<'a, F: Files>(
 {
     let named = as_texts(alloc, paths)?;
     read_at(alloc, files, named)
-}
-
-/// Reads files at other paths, each under the path of one of the inputs, in order.
-pub fn read_again<'a, F: Files>(
-    alloc: Global,
-    files: &mut F,
-    inputs: &InputFiles<'a>,
-    targets: &[&'a str],
-) -> Result<InputFiles<'a>, Stop<'a>>
-    requires { length targets.now ≡ length inputs.now.paths }
-    ensures does { BetweenFiles F.Files files.old files.new (DoesFiles F.landed (reading_all (texts_of targets.entry.now)) (λ again. again.texts) stop_seen) result }
-    ensures paths { IfOk result (λ again. again.paths ≡ inputs.entry.now.paths) }
-{
-    let paths = copy_of(alloc, &inputs.paths)?;
-    let texts = read_texts(alloc, files, targets)?;
-    Ok(InputFiles { paths, texts })
 }

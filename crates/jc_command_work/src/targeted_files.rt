@@ -1,10 +1,16 @@
 //! The files that a command reads, and the paths that it writes them to.
-ghost use Rattle.std.specs.Prelude.{◌≡◌, ◌≤◌, ◌<◌, [], All, length, slice_index_or};
+ghost use Rattle.std.specs.Prelude.{◌≡◌, ◌≤◌, ◌<◌, [], All, length, slice_index_or, IfOk};
 ghost use Rattle.jc_bytes.specs.Reader.{most_read};
-ghost use Rattle.jc_command_work.specs.Seen.{texts_of};
+ghost use Rattle.jc_command_work.specs.Part.{reading_all};
+ghost use Rattle.jc_command_work.specs.Ending.{DoesFiles};
+ghost use Rattle.jc_command_work.specs.Handed.{BetweenFiles};
+ghost use Rattle.jc_command_work.specs.Seen.{texts_of, stop_seen};
 
-use crate::input_files::{InputFiles, path_at};
+use crate::input_files::{InputFiles, copy_of, path_at, read_texts};
+use crate::stop::Stop;
 use jc_bytes::Bytes;
+use jc_outside::Files;
+use std::alloc::Global;
 use std::marker::Model;
 
 /// Files that a command has read, and the path that each is written to, in the same order.
@@ -34,6 +40,13 @@ impl<'a> TargetedFiles<'a> {
         ensures targets { result.targets ≡ texts_of targets.entry.items }
     {
         TargetedFiles { inputs, targets }
+    }
+
+    /// The files as they were read.
+    pub fn inputs(&self) -> &InputFiles<'a>
+        ensures { result.now ≡ self.now.inputs }
+    {
+        &self.inputs
     }
 
     /// The path of a file.
@@ -78,4 +91,18 @@ impl<'a> TargetedFiles<'a> {
         let TargetedFiles { inputs, targets } = self;
         (inputs, targets)
     }
+}
+
+/// Reads what stands at the paths that files were written to, each under the path of its file, in order.
+pub fn read_again<'a, F: Files>(
+    alloc: Global,
+    files: &mut F,
+    targeted: &TargetedFiles<'a>,
+) -> Result<InputFiles<'a>, Stop<'a>>
+    ensures does { BetweenFiles F.Files files.old files.new (DoesFiles F.landed (reading_all targeted.entry.now.targets) (λ again. again.texts) stop_seen) result }
+    ensures paths { IfOk result (λ again. again.paths ≡ targeted.entry.now.inputs.paths) }
+{
+    let paths = copy_of(alloc, targeted.inputs.paths())?;
+    let texts = read_texts(alloc, files, &targeted.targets)?;
+    Ok(InputFiles::new(paths, texts))
 }
