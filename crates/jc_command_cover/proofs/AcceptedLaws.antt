@@ -1,12 +1,11 @@
 -- The files that weren't refused, by their places among all files.
 use Rattle.std.proofs.Common.{◌≡◌, ℕ, suc, ◌+◌, ◌<◌, ◌≤◌, ◌^◌, List, [], ◌∷◌, length, map, get_or, refl, sym, ◌∙◌, ap, subst₂, arith}
 use Rattle.std.proofs.lemmas.List.{get_or-map, length-map}
-use Rattle.std.proofs.lemmas.Simd.{map-map}
 use Rattle.std.specs.Borrow.{Bor}
 use Rattle.jc_paths.specs.Paths.{in_folder}
 use Rattle.jc_command_work.specs.Seen.{texts_of}
-use Rattle.jc_command_work.specs.Step.{Word, AreTexts}
-use Rattle.jc_command_cover.specs.Accepted.{AreAccepted, AreWhole}
+use Rattle.jc_command_work.specs.Step.{Word, AreTexts, FilesTargeted}
+use Rattle.jc_command_cover.specs.Accepted.{AreAccepted, AreOfAll}
 use Rattle.jc_command_cover.specs.declared.accepted.Accepted.{Accepted}
 use Rattle.jc_command_classes.specs.Instrument.{Decision, refused_file, accepted_file}
 use Rattle.jc_headline.specs.CoverWork.{LookedFile, accepted, kept_if, place_if, places_from, path_of, paths_in, texts_in, accepted_texts}
@@ -62,6 +61,14 @@ pub kept_texts : (looked : List LookedFile) (paths kept_paths : List Word) (text
 kept_texts looked paths kept_paths texts kept paths_are texts_are kept_paths_are kept_are read =
     subst₂ AreTexts (sym kept_paths_are) (sym kept_are) (read_accepted looked (subst₂ AreTexts paths_are texts_are read))
 
+-- a target is kept of each file that is kept
+pub kept_targets : (dest : Word) (looked : List LookedFile) (written_to : List (Bor (List ℕ))) (kept : List (List ℕ))
+    → texts_of written_to ≡ map (λ (l : LookedFile). in_folder dest l.file) (accepted looked) → kept ≡ accepted_texts looked → length written_to ≡ length kept
+kept_targets dest looked written_to kept targets_are kept_are =
+    let ls = accepted looked in
+    sym (length-map written_to (λ (t : Bor (List ℕ)). t.now)) ∙ ap length targets_are ∙ length-map ls (λ (l : LookedFile). in_folder dest l.file)
+    ∙ sym (ap length kept_are ∙ length-map ls (λ (l : LookedFile). l.bytes))
+
 as_few : (ls : List LookedFile) → length (accepted ls) ≤ length ls
 as_few [] = omega arith
 as_few (l ∷ ls) = by l.decision (as_few ls)
@@ -70,23 +77,11 @@ as_few (l ∷ ls) = by l.decision (as_few ls)
     by (refused_file why) less = omega (arith, less)
     by (accepted_file a) less = omega (arith, less)
 
-pub are_accepted : (dest : Word) (looked : List LookedFile) (those : Accepted) (paths : List Word) → length paths < 2 ^ 32 → paths ≡ paths_in looked
-    → those.places.items ≡ places_from 0 looked → those.inputs.paths ≡ paths_in (accepted looked)
-    → texts_of those.targets.items ≡ map (λ (l : LookedFile). in_folder dest l.file) (accepted looked) → those.inputs.texts ≡ accepted_texts looked
-    → AreWhole those × AreAccepted dest looked those
-are_accepted dest looked those paths few all places_are paths_are targets_are kept =
+-- no more are accepted than there are
+pub few_accepted : (dest : Word) (looked : List LookedFile) (files : FilesTargeted) (places : List ℕ) (those : Accepted)
+    → AreOfAll dest looked files places → AreAccepted dest looked those → length files.inputs.paths < 2 ^ 32 → length those.files.inputs.paths < 2 ^ 32
+few_accepted dest looked files places those all are few =
     let ls = accepted looked in
-    let many : length those.inputs.paths ≡ length ls = ap length paths_are ∙ length-map ls (λ (l : LookedFile). l.file) in
-    let some : length paths ≡ length looked = ap length all ∙ length-map looked (λ (l : LookedFile). l.file) in
-    let at_most = as_few looked in (
-      record {
-        few = omega (arith, few, many, some, at_most);
-        targets = sym (length-map those.targets.items (λ (t : Bor (List ℕ)). t.now)) ∙ ap length targets_are ∙ length-map ls (λ (l : LookedFile). in_folder dest l.file) ∙ sym many;
-      },
-      record {
-        places = places_are;
-        paths = paths_are;
-        targets = targets_are ∙ sym (map-map (in_folder dest) (λ (l : LookedFile). l.file) ls);
-        texts = kept;
-      },
-    )
+    let many : length those.files.inputs.paths ≡ length ls = ap length are.paths ∙ length-map ls (λ (l : LookedFile). l.file) in
+    let some : length files.inputs.paths ≡ length looked = ap length all.paths_are ∙ length-map looked (λ (l : LookedFile). l.file) in
+    let at_most = as_few looked in omega (arith, few, many, some, at_most)

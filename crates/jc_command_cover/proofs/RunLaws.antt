@@ -6,15 +6,16 @@ use Rattle.jc_run_plans.specs.Plans.{IsPlanText}
 use Rattle.jc_programs.specs.declared.program.Program.{Program}
 use Rattle.jc_programs.specs.declared.run_plan.RunPlan.{RunPlan}
 use Rattle.jc_command_run.specs.RunAnswers.{IsPlanEnd, IsRunProgram}
-use Rattle.jc_command_work.specs.Step.{Word, Outside, Counts, Landed, IsFile}
+use Rattle.jc_command_work.specs.Step.{Word, FilesTargeted, Outside, Counts, Landed, IsFile}
 use Rattle.jc_command_work.specs.Part.{End, gives, Command, deciding, reading_all, ◌>>=◌}
 use Rattle.jc_command_work.specs.Ending.{CameTo, Stops, Ran}
 use Rattle.jc_command_work.specs.Seen.{stop_seen}
 use Rattle.jc_command_work.specs.declared.stop.Stop.{Stop}
 use Rattle.jc_command_work.specs.declared.stop.Stop.TheVariants as stops
 use Rattle.jc_command_work.proofs.AnsweredLaws.{texts_read, all_files}
-use Rattle.jc_headline.specs.CoverWork.{Cover, LookedFile, paths_in, texts_in, targets, HaveEntries, IsEntryEnd, IsLinkEnd, instrumenting, running, covering}
+use Rattle.jc_headline.specs.CoverWork.{Cover, LookedFile, targets, HaveEntries, IsEntryEnd, IsLinkEnd, instrumenting, running, covering}
 use Rattle.jc_headline.proofs.DistinctLaws.{looked_files}
+use Rattle.jc_command_cover.specs.Accepted.{AreOfAll}
 use Rattle.jc_command_cover.specs.Files.{Instrumented}
 use Rattle.jc_command_cover.proofs.LookedLaws.{looked_texts}
 use Rattle.jc_paths.specs.Paths.{in_folder}
@@ -135,15 +136,17 @@ module _ (landed : Landed) (c : Cover) (plan_text : List ℕ) (paths : List Word
         pub none_covered : Stops landed (covering c plan_text paths) old stands f h None
         none_covered = has_covered stands h (Err stops.Memory) (not_begun landed (running c plan made.looked) stands h)
 
--- ---- the accepted files
+-- ---- the files that were instrumented
 
-module _ (landed : Landed) (dest : Word) (paths : List Word) (read : List (List ℕ)) (old new : Outside) (f f' : Counts) (places : List ℕ)
-    (made : Instrumented landed dest paths read old new f f' places) where
-  pub paths_looked : (words : List Word) → words ≡ paths → words ≡ paths_in made.looked
-  paths_looked words are = are ∙ sym (looked_files paths read made.looked made.looked_at)
-
-  pub targets_looked : (words : List Word) → words ≡ map (in_folder dest) paths → words ≡ map (in_folder dest) (paths_in made.looked)
-  targets_looked words are = are ∙ ap (map (in_folder dest)) (sym (looked_files paths read made.looked made.looked_at))
-
-  pub texts_looked : (texts : List (List ℕ)) → read ≡ texts → texts ≡ texts_in made.looked
-  texts_looked texts are = sym are ∙ sym (looked_texts paths read made.looked made.looked_at)
+-- all were looked at
+pub instrumented_all : (landed : Landed) (dest : Word) (files : FilesTargeted) (old new : Outside) (f f' : Counts) (places : List ℕ)
+    → files.targets ≡ map (in_folder dest) files.inputs.paths → (made : Instrumented landed dest files.inputs.paths files.inputs.texts old new f f' places)
+    → AreOfAll dest made.looked files places
+instrumented_all landed dest files old new f f' places in_dest made =
+    let named = sym (looked_files files.inputs.paths files.inputs.texts made.looked made.looked_at) in
+    record {
+      paths_are = named;
+      targets_are = in_dest ∙ ap (map (in_folder dest)) named;
+      texts_are = sym (looked_texts files.inputs.paths files.inputs.texts made.looked made.looked_at);
+      places_are = made.accepted;
+    }

@@ -1,5 +1,5 @@
 -- The class files that weren't refused, and a run of them.
-use Rattle.std.specs.Prelude.{◌≡◌, ◌<◌, ◌^◌, ℕ, List, length, map}
+use Rattle.std.specs.Prelude.{◌≡◌, ℕ, List, map}
 use Rattle.jc_paths.specs.Paths.{in_folder}
 use Rattle.jc_programs.specs.declared.program.Program.{Program}
 use Rattle.jc_programs.specs.declared.run_plan.RunPlan.{RunPlan}
@@ -8,35 +8,28 @@ use Rattle.jc_command_run.specs.RunStore.{run_store}
 use Rattle.jc_command_run.specs.declared.program.Ran.{Ran}
 use Rattle.jc_headline.specs.CoverWork.{LookedFile, accepted, accepted_texts, paths_in, places_from, targets, texts_in}
 use Rattle.jc_command_cover.specs.declared.accepted.Accepted.{Accepted}
-use Rattle.jc_command_work.specs.Seen.{texts_of}
-use Rattle.jc_command_work.specs.Step.{Word}
+use Rattle.jc_command_work.specs.Step.{Word, FilesTargeted}
 
--- these are of all files that were looked at, in order: their paths, those that they were written to, their bytes as they were
--- read, and the places of the accepted ones
-pub record AreOfAll (dest : Word) (looked : List LookedFile) (paths written_to : List Word) (texts : List (List ℕ)) (places : List ℕ)
-    : Type 0 where
-  pub paths_are : paths ≡ paths_in looked
-  pub targets_are : written_to ≡ map (in_folder dest) (paths_in looked)
-  pub texts_are : texts ≡ texts_in looked
+-- these are all files that were looked at, in order: their paths, their bytes as they were read, and the paths that they were written
+-- to; and these are the places of the accepted ones
+pub record AreOfAll (dest : Word) (looked : List LookedFile) (files : FilesTargeted) (places : List ℕ) : Type 0 where
+  pub paths_are : files.inputs.paths ≡ paths_in looked
+  pub targets_are : files.targets ≡ map (in_folder dest) (paths_in looked)
+  pub texts_are : files.inputs.texts ≡ texts_in looked
   pub places_are : places ≡ places_from 0 looked
 
 -- so of some files
-pub record AreOfSome (paths written_to : List Word) (texts : List (List ℕ)) (places : List ℕ) : Type 0 where
+pub record AreOfSome (files : FilesTargeted) (places : List ℕ) : Type 0 where
   pub dest : Word
   pub looked : List LookedFile
-  pub of : AreOfAll dest looked paths written_to texts places
+  pub of : AreOfAll dest looked files places
 
 -- these are the accepted ones of the files that were looked at
 pub record AreAccepted (dest : Word) (looked : List LookedFile) (those : Accepted) : Type 0 where
   pub places : those.places.items ≡ places_from 0 looked
-  pub paths : those.inputs.paths ≡ paths_in (accepted looked)
-  pub targets : texts_of those.targets.items ≡ targets dest looked
-  pub texts : those.inputs.texts ≡ accepted_texts looked
-
--- each was written to a path
-pub record AreWhole (those : Accepted) : Type 0 where
-  pub few : length those.inputs.paths < 2 ^ 32
-  pub targets : length those.targets.items ≡ length those.inputs.paths
+  pub paths : those.files.inputs.paths ≡ paths_in (accepted looked)
+  pub targets : those.files.targets ≡ targets dest looked
+  pub texts : those.files.inputs.texts ≡ accepted_texts looked
 
 -- ---- a run of them
 

@@ -55,7 +55,6 @@ pub fn cover<'a, R: Threads + Sync, F: Files, O: Sink, E: Sink, G: Gate + Sync>(
     let file_targets = as_texts(alloc, targets)?;
     let targeted = TargetedFiles::new(inputs, file_targets);
     let places = instrument_files(resources.rt, alloc, outside, &targeted)?;
-    let (inputs, file_targets) = targeted.into_parts();
-    let accepted = accepted_files(alloc, inputs, file_targets, places)?;
+    let accepted = accepted_files(alloc, targeted, places)?;
     run_accepted(resources, outside, options, &plan, accepted)
 }

@@ -91,7 +91,7 @@ pub fn instrument_files<'a, R: Threads + Sync, F: Files, O: Sink, E: Sink>(
     outside: &mut Outside<'_, '_, '_, F, O, E>,
     targeted: &TargetedFiles<'a>,
 ) -> Result<Vec<u32>, Stop<'a>>
-    requires { length targeted.now.inputs.paths < 2 ^ 32 }
+    requires few { length targeted.now.inputs.paths < 2 ^ 32 }
     ensures { OnOutside F.Files O.Sink E.Sink outside.old outside.new
         (InstrumentsTo F.landed targeted.entry.now.targets targeted.entry.now.inputs.paths targeted.entry.now.inputs.texts) result }
 {

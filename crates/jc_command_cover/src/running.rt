@@ -1,8 +1,7 @@
 //! The accepted files as they are read back.
-ghost use Rattle.std.specs.Prelude.{◌≤◌, List};
+ghost use Rattle.std.specs.Prelude.{◌≤◌, ◌<◌, ◌^◌, List, length};
 ghost use Rattle.jc_paths.specs.Paths.{FileText};
 ghost use Rattle.jc_programs.specs.Turns.{IsRunPlan};
-ghost use Rattle.jc_command_cover.specs.Accepted.{AreWhole};
 ghost use Rattle.jc_command_cover.specs.CoverSeen.{cover_seen};
 ghost use Rattle.jc_command_cover.specs.Runs.{RunsAccepted};
 ghost use Rattle.jc_command_work.specs.Handed.{OnOutside};
@@ -30,13 +29,14 @@ pub fn run_accepted<'a, R: Threads + Sync, F: Files, O: Sink, E: Sink, G: Gate +
 ) -> Result<(), Stop<'a>>
     requires workers { (1 ≤ options.now.workers) × (options.now.workers ≤ 16) }
     requires plan { IsRunPlan plan.now }
-    requires whole { AreWhole accepted }
+    requires few { length accepted.files.inputs.paths < 2 ^ 32 }
     ensures { (named : List FileText) → OnOutside F.Files O.Sink E.Sink outside.old outside.new (RunsAccepted F.landed (cover_seen options.entry.now named) plan.now accepted.entry) result }
 {
     let alloc = resources.alloc;
-    let written = read_again(alloc, outside.files, &accepted.inputs, &accepted.targets)?;
+    let written = read_again(alloc, outside.files, &accepted.files)?;
     let program = program_of(alloc, &accepted.places, &written)?;
     check_entries(options.plan, &program, plan)?;
     let ran = run_program(resources, &program, plan, options.workers)?;
-    write_results(resources.rt, alloc, outside, options, &accepted.inputs, ran)
+    let originals = accepted.files.inputs();
+    write_results(resources.rt, alloc, outside, options, originals, ran)
 }

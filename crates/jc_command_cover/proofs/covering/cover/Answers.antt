@@ -1,4 +1,4 @@
-use Rattle.std.proofs.Common.{ℕ, List, Bor, None, ◌∙◌, length, map, ap, refl, string_bytes, sym, arith}
+use Rattle.std.proofs.Common.{◌≡◌, ℕ, List, Bor, None, ◌∙◌, length, map, ap, refl, string_bytes, sym, arith}
 use Rattle.std.proofs.lemmas.List.{length-map}
 use Rattle.std.proofs.lemmas.Result.{err_from_is_err_and}
 use Rattle.jc_paths.specs.Paths.{in_folder}
@@ -10,7 +10,8 @@ use Rattle.jc_command_work.proofs.Leaves.{nothing_yet}
 use Rattle.jc_command_work.proofs.References.{references_then}
 use Rattle.jc_headline.specs.CoverWork.{instrumenting}
 use Rattle.jc_command_cover.specs.CoverSeen.{cover_seen}
-use Rattle.jc_command_cover.proofs.RunLaws.{none_read, not_planned, not_instrumented, none_covered, has_covered, paths_looked, targets_looked, texts_looked}
+use Rattle.jc_command_cover.proofs.AcceptedLaws.{few_accepted}
+use Rattle.jc_command_cover.proofs.RunLaws.{none_read, not_planned, not_instrumented, none_covered, has_covered, instrumented_all}
 use Rattle.jc_command_cover.proofs.covering.cover.Goals as goal
 
 pub new-targeted-requires : goal.new-targeted-requires
@@ -21,36 +22,19 @@ new-targeted-requires g c =
     sym (length-map c.in_ok-file_targets.file_targets.items (λ (t : Bor (List ℕ)). t.now)) ∙ ap length c.in_ok-file_targets.ensures
     ∙ ap length c.requires.targets ∙ length-map words (in_folder dest) ∙ as_many_texts words c.in_ok-inputs.inputs.texts read
 
-pub instrument_files-requires : goal.instrument_files-requires
-instrument_files-requires g c =
+pub instrument_files-requires-clause-few : goal.instrument_files-requires-clause-few
+instrument_files-requires-clause-few g c =
     let many = ap (λ (f : FilesRead). length f.paths) c.new-targeted.ensures.inputs ∙ ap length c.in_ok-inputs.ensures.paths ∙ length-map c.args.paths.now string_bytes in
     omega (arith, many, c.requires.few)
 
-pub accepted_files-requires-clause-few : goal.accepted_files-requires-clause-few
-accepted_files-requires-clause-few g c =
-    let same = c.into_parts-inputs.ensures.inputs ∙ c.new-targeted.ensures.inputs in
-    let many = ap (λ (f : FilesRead). length f.paths) same ∙ ap length c.in_ok-inputs.ensures.paths ∙ length-map c.args.paths.now string_bytes in
-    omega (arith, many, c.requires.few)
-
-pub accepted_files-requires-clause-some : goal.accepted_files-requires-clause-some
-accepted_files-requires-clause-some g c =
+pub accepted_files-requires : goal.accepted_files-requires
+accepted_files-requires g c =
     let dest = c.args.options.now.dest.now in
     let targeted = c.new-targeted.result in
     let names = ap (λ (f : FilesRead). f.paths) c.new-targeted.ensures.inputs ∙ c.in_ok-inputs.ensures.paths in
     let in_dest = c.new-targeted.ensures.targets ∙ c.in_ok-file_targets.ensures ∙ c.requires.targets ∙ ap (map (in_folder dest)) (sym names) in
     let made = c.in_ok-places.ensures.1 dest in_dest in
-    let inputs = c.into_parts-inputs.result.0 in
-    let back = c.into_parts-inputs.ensures.inputs in
-    record {
-      dest = dest;
-      looked = made.looked;
-      of = record {
-        paths_are = paths_looked g.F.Files.landed dest targeted.inputs.paths targeted.inputs.texts _ _ _ _ _ made inputs.paths (ap (λ (f : FilesRead). f.paths) back);
-        targets_are = targets_looked g.F.Files.landed dest targeted.inputs.paths targeted.inputs.texts _ _ _ _ _ made _ (c.into_parts-inputs.ensures.targets ∙ in_dest);
-        texts_are = texts_looked g.F.Files.landed dest targeted.inputs.paths targeted.inputs.texts _ _ _ _ _ made inputs.texts (sym (ap (λ (f : FilesRead). f.texts) back));
-        places_are = made.accepted;
-      };
-    }
+    record { dest = dest; looked = made.looked; of = instrumented_all g.F.Files.landed dest targeted _ _ _ _ _ in_dest made }
 
 pub returns-in_err-inputs : goal.returns-in_err-inputs
 returns-in_err-inputs g c named =
@@ -127,21 +111,16 @@ returns-in_err-accepted g c named =
           c.in_ok-plan.plan c.in_ok-plan.ensures.plan targeted.inputs.texts (ap (λ (f : FilesRead). f.texts) c.new-targeted.ensures.inputs) _ _ c.in_ok-places.places.items made,
     )
 
-pub run_accepted-requires-clause-whole : goal.run_accepted-requires-clause-whole
-run_accepted-requires-clause-whole g c lifetimes outlive =
+pub run_accepted-requires-clause-few : goal.run_accepted-requires-clause-few
+run_accepted-requires-clause-few g c lifetimes outlive =
     let dest = c.args.options.now.dest.now in
     let targeted = c.new-targeted.result in
     let names = ap (λ (f : FilesRead). f.paths) c.new-targeted.ensures.inputs ∙ c.in_ok-inputs.ensures.paths in
     let in_dest = c.new-targeted.ensures.targets ∙ c.in_ok-file_targets.ensures ∙ c.requires.targets ∙ ap (map (in_folder dest)) (sym names) in
     let made = c.in_ok-places.ensures.1 dest in_dest in
-    let inputs = c.into_parts-inputs.result.0 in
-    let back = c.into_parts-inputs.ensures.inputs in
-    (c.in_ok-accepted.ensures dest made.looked (record {
-      paths_are = paths_looked g.F.Files.landed dest targeted.inputs.paths targeted.inputs.texts _ _ _ _ _ made inputs.paths (ap (λ (f : FilesRead). f.paths) back);
-      targets_are = targets_looked g.F.Files.landed dest targeted.inputs.paths targeted.inputs.texts _ _ _ _ _ made _ (c.into_parts-inputs.ensures.targets ∙ in_dest);
-      texts_are = texts_looked g.F.Files.landed dest targeted.inputs.paths targeted.inputs.texts _ _ _ _ _ made inputs.texts (sym (ap (λ (f : FilesRead). f.texts) back));
-      places_are = made.accepted;
-    })).0
+    let all = instrumented_all g.F.Files.landed dest targeted _ _ _ _ _ in_dest made in
+    let many : length targeted.inputs.paths ≡ length c.args.paths.now = ap length names ∙ length-map c.args.paths.now string_bytes in
+    few_accepted dest made.looked targeted _ _ all (c.in_ok-accepted.ensures dest made.looked all) (omega (arith, many, c.requires.few))
 
 pub returns : goal.returns
 returns g c named =
@@ -152,14 +131,7 @@ returns g c named =
     let names = ap (λ (f : FilesRead). f.paths) c.new-targeted.ensures.inputs ∙ c.in_ok-inputs.ensures.paths in
     let in_dest = c.new-targeted.ensures.targets ∙ c.in_ok-file_targets.ensures ∙ c.requires.targets ∙ ap (map (in_folder dest)) (sym names) in
     let made = c.in_ok-places.ensures.1 dest in_dest in
-    let inputs = c.into_parts-inputs.result.0 in
-    let back = c.into_parts-inputs.ensures.inputs in
-    let are = (c.in_ok-accepted.ensures dest made.looked (record {
-      paths_are = paths_looked g.F.Files.landed dest targeted.inputs.paths targeted.inputs.texts _ _ _ _ _ made inputs.paths (ap (λ (f : FilesRead). f.paths) back);
-      targets_are = targets_looked g.F.Files.landed dest targeted.inputs.paths targeted.inputs.texts _ _ _ _ _ made _ (c.into_parts-inputs.ensures.targets ∙ in_dest);
-      texts_are = texts_looked g.F.Files.landed dest targeted.inputs.paths targeted.inputs.texts _ _ _ _ _ made inputs.texts (sym (ap (λ (f : FilesRead). f.texts) back));
-      places_are = made.accepted;
-    })).1 in
+    let are = c.in_ok-accepted.ensures dest made.looked (instrumented_all g.F.Files.landed dest targeted _ _ _ _ _ in_dest made) in
     rw (← names) (
       references_then c.in_ok-places.ensures.0 (c.run_accepted.ensures named).0,
       has_covered g.F.Files.landed (cover_seen c.args.options.now named) c.args.plan_text.now targeted.inputs.paths _ _ (words_of c.args.paths.now)
