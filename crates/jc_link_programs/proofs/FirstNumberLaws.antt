@@ -1,16 +1,15 @@
 -- The numbers with which static fields begin are values of their types.
-use Rattle.std.proofs.Common.{◌≡◌, ℕ, ◌≤◌, ℤ, pos, negsuc, true, ◌&&◌, Some, List, [], ◌∷◌, ◌++◌, if◌then◌else◌, SFits, w32, w64, refl, sym, ◌∙◌, ap, ap₂, subst, arith}
+use Rattle.std.proofs.Common.{◌≡◌, ℕ, ◌≤◌, ℤ, pos, negsuc, true, ◌&&◌, Some, List, [], ◌∷◌, ◌++◌, if◌then◌else◌, SFits, w32, refl, sym, ◌∙◌, ap, ap₂, subst, arith}
 use Rattle.std.specs.Prelude.{◌≢◌, map, not}
 use Rattle.std.specs.Int.Bits.{bit_and}
 use Rattle.std.proofs.lemmas.Bool.{le-leb, ne_eqb}
 use Rattle.std.proofs.lemmas.Grind.{flat_map-append}
 use Rattle.std.proofs.lemmas.List.{append-nil, map-append}
 use Rattle.std.proofs.lemmas.List.Concat.{flat_map-cons}
-use Rattle.jc_bytes.specs.Descriptor.{FieldType, Byte, Char, Int, Long, Short, Boolean}
+use Rattle.jc_bytes.specs.Descriptor.{FieldType, Byte, Char, Int, Short, Boolean}
+use Rattle.jc_bytes.proofs.OptionLaws.{none_some, some_is}
 use Rattle.jc_methods.specs.DescriptorTypes.{field_type_in}
 use Rattle.jc_methods.specs.EntryState.{is_static}
-use Rattle.jc_methods.specs.ValueTypes.{type_of, Says}
-use Rattle.jc_methods.specs.declared.value_type.ValueType.{ValueType}
 use Rattle.jc_programs.specs.Entries.{is_between}
 use Rattle.jc_programs.specs.Narrowing.{narrowed}
 use Rattle.jc_programs.specs.declared.program.StaticField.{StaticField}
@@ -18,20 +17,18 @@ use Rattle.jc_pool.specs.Lookup.{utf8_of}
 use Rattle.jc_pool.specs.Pool.{PoolValue}
 use Rattle.jc_class.specs.declared.class_file.Attribute.{Attribute}
 use Rattle.jc_class.specs.declared.class_file.Member.{Member}
-use Rattle.jc_machine_model.specs.Arithmetic.{FitsBits, FitsInt, FitsLong}
+use Rattle.jc_machine_model.specs.Arithmetic.{FitsBits, FitsInt}
 use Rattle.jc_machine_model.specs.Programs.{IsFirstOf}
 use Rattle.jc_machine_model.proofs.ArithmeticLaws.{narrows}
-use Rattle.jc_link_programs.specs.Statics.{int_at, long_at, number_at, first_by, first_number, constant_place, static_with, static_of, statics_among}
+use Rattle.jc_machine_numbers.specs.Narrowings.{narrowing_of}
+use Rattle.jc_machine_numbers.specs.declared.narrowing.Narrowing.{Narrowing}
+use Rattle.jc_link_programs.specs.Statics.{int_at, int_narrowing, number_at, first_by, first_number, constant_place, static_with, static_of, statics_among}
 
 -- ---- ranges
 
 pub fits_int : (z : ℤ) → SFits w32 z → FitsInt z
 fits_int (pos n) f = f.sfits
 fits_int (negsuc n) f = f.sfits
-
-pub fits_long : (z : ℤ) → SFits w64 z → FitsLong z
-fits_long (pos n) f = f.sfits
-fits_long (negsuc n) f = f.sfits
 
 between_0 : (m n : ℕ) → n ≤ m → is_between (pos 0) (pos m) (pos n) ≡ true
 between_0 m n le = ap₂ (λ s t. s && t) (le-leb 0 n (omega arith)) (le-leb n m le)
@@ -48,54 +45,41 @@ between_31 : (z : ℤ) → FitsInt z → is_between (negsuc 2147483647) (pos 214
 between_31 (pos n) f = le-leb n 2147483647 (omega (arith, f))
 between_31 (negsuc n) f = ap (λ t. t && true) (le-leb n 2147483647 (omega (arith, f)))
 
-between_63 : (z : ℤ) → FitsLong z → is_between (negsuc 9223372036854775807) (pos 9223372036854775807) z ≡ true
-between_63 (pos n) f = le-leb n 9223372036854775807 (omega (arith, f))
-between_63 (negsuc n) f = ap (λ t. t && true) (le-leb n 9223372036854775807 (omega (arith, f)))
-
 -- ---- numbers
 
-pub boolean_fits : (x : ℤ) → FitsInt x → IsFirstOf (Some Boolean) (narrowed Boolean x)
+boolean_fits : (x : ℤ) → FitsInt x → IsFirstOf (Some Boolean) (narrowed Boolean x)
 boolean_fits x p =
     let n = (narrows x p).boolean in
     let less = n.within in
     subst (λ z. is_between (pos 0) (pos 1) z ≡ true) (sym n.is) (between_0 1 n.number (omega (arith, less)))
 
-pub char_fits : (x : ℤ) → FitsInt x → IsFirstOf (Some Char) (narrowed Char x)
+char_fits : (x : ℤ) → FitsInt x → IsFirstOf (Some Char) (narrowed Char x)
 char_fits x p =
     let n = (narrows x p).char in
     let less = n.within in
     subst (λ z. is_between (pos 0) (pos 65535) z ≡ true) (sym n.is) (between_0 65535 n.number (omega (arith, less)))
 
-pub byte_fits : (x : ℤ) → FitsInt x → IsFirstOf (Some Byte) (narrowed Byte x)
+byte_fits : (x : ℤ) → FitsInt x → IsFirstOf (Some Byte) (narrowed Byte x)
 byte_fits x p = between_7 (narrowed Byte x) (narrows x p).byte.fits
 
-pub short_fits : (x : ℤ) → FitsInt x → IsFirstOf (Some Short) (narrowed Short x)
+short_fits : (x : ℤ) → FitsInt x → IsFirstOf (Some Short) (narrowed Short x)
 short_fits x p = between_15 (narrowed Short x) (narrows x p).short.fits
 
-pub int_fits : (x : ℤ) → FitsInt x → IsFirstOf (Some Int) (narrowed Int x)
+int_fits : (x : ℤ) → FitsInt x → IsFirstOf (Some Int) (narrowed Int x)
 int_fits x p = between_31 x p
 
-pub number_fits : (pool : PoolValue) (type : FieldType) (place : ℕ) → SFits w32 (int_at pool place) → SFits w64 (long_at pool place)
-    → IsFirstOf (Some type) (number_at pool type place)
-number_fits pool Boolean place i l = boolean_fits (int_at pool place) (fits_int (int_at pool place) i)
-number_fits pool Byte place i l = byte_fits (int_at pool place) (fits_int (int_at pool place) i)
-number_fits pool Short place i l = short_fits (int_at pool place) (fits_int (int_at pool place) i)
-number_fits pool Char place i l = char_fits (int_at pool place) (fits_int (int_at pool place) i)
-number_fits pool Int place i l = between_31 (int_at pool place) (fits_int (int_at pool place) i)
-number_fits pool Long place i l = between_63 (long_at pool place) (fits_long (long_at pool place) l)
-number_fits pool other place i l = refl
+-- ---- by how an Integer is stored
 
--- ---- by the value that says the type
-
-pub says_type : (kind v : ValueType) (type : FieldType) → kind ≡ v → Says kind type → type_of v ≡ type
-says_type kind v type e s = sym (ap type_of e) ∙ s.type_is
-
--- the type's values are integral, and its number is what was found
-pub number_of_type : (pool : PoolValue) (own type : FieldType) (place : ℕ) (r : ℤ) → own ≡ type → r ≡ number_at pool own place → r ≡ number_at pool type place
-number_of_type pool own type place r e n = subst (λ t. r ≡ number_at pool t place) e n
-
-pub stored_fits : (own type : FieldType) (z r : ℤ) → r ≡ z → own ≡ type → IsFirstOf (Some own) z → IsFirstOf (Some type) r
-stored_fits own type z r e same fits = subst (λ t. IsFirstOf (Some t) r) same (subst (IsFirstOf (Some own)) (sym e) fits)
+-- The type's values are ints, and it is stored as its narrowing says.
+pub by_int : (pool : PoolValue) (type : FieldType) (place : ℕ) (n : Narrowing) → int_narrowing type ≡ Some n
+    → (narrowing_of type ≡ n) × (narrowed type (int_at pool place) ≡ number_at pool type place)
+    × (FitsInt (int_at pool place) → IsFirstOf (Some type) (number_at pool type place))
+by_int pool Boolean place n e = (some_is e, refl, boolean_fits (int_at pool place))
+by_int pool Byte place n e = (some_is e, refl, byte_fits (int_at pool place))
+by_int pool Char place n e = (some_is e, refl, char_fits (int_at pool place))
+by_int pool Short place n e = (some_is e, refl, short_fits (int_at pool place))
+by_int pool Int place n e = (some_is e, refl, int_fits (int_at pool place))
+by_int pool type place n e = absurd (none_some e)
 
 -- ---- by the field's descriptor and attributes
 

@@ -11,7 +11,7 @@ ghost use Rattle.jc_programs.specs.Narrowing.{narrowed};
 ghost use Rattle.jc_body.specs.Attributes.{bodies_of};
 ghost use Rattle.jc_class.specs.ClassFormat.{HasText, HasFieldDescriptor};
 ghost use Rattle.jc_class.specs.Writable.{IsClassFile, IsMember};
-ghost use Rattle.jc_link_programs.specs.Statics.{as_static, constant_place, first_number, has_clinit, int_at, is_clinit, long_at, number_at, place_in, single, statics_of};
+ghost use Rattle.jc_link_programs.specs.Statics.{as_static, constant_place, first_number, has_clinit, int_at, int_narrowing, is_clinit, long_at, number_at, place_in, single, statics_of};
 
 use jc_body::has_name;
 use jc_bytes::{Bytes, List, Memory};
@@ -90,19 +90,30 @@ fn stored_int(pool: &Pool, narrowing: Narrowing, place: u16) -> i64
     i64::from(narrowing.narrowed(int_at(pool, place)))
 }
 
+/// How an Integer is stored with which a field of a type begins, where it begins with one (JVM Specification 4.7.2, table
+/// 4.7.2-A).
+fn int_narrowing(kind: ValueType<'_>) -> Option<Narrowing>
+    ensures { (type : FieldType) → Says kind.entry type → result ≡ int_narrowing type }
+{
+    match kind {
+        ValueType::Boolean => Some(Narrowing::ToBoolean),
+        ValueType::Byte => Some(Narrowing::ToByte),
+        ValueType::Char => Some(Narrowing::ToChar),
+        ValueType::Short => Some(Narrowing::ToShort),
+        ValueType::Int => Some(Narrowing::Unchanged),
+        _ => None,
+    }
+}
+
 /// The number at a place with which a field of a type begins.
 fn number_at(pool: &Pool, kind: ValueType<'_>, place: u16) -> i64
     ensures number { (type : FieldType) → Says kind.entry type → result ≡ number_at pool.now type place }
     ensures fits { (type : FieldType) → Says kind.entry type → IsFirstOf (Some type) result }
 {
-    match kind {
-        ValueType::Boolean => stored_int(pool, Narrowing::ToBoolean, place),
-        ValueType::Byte => stored_int(pool, Narrowing::ToByte, place),
-        ValueType::Char => stored_int(pool, Narrowing::ToChar, place),
-        ValueType::Short => stored_int(pool, Narrowing::ToShort, place),
-        ValueType::Int => stored_int(pool, Narrowing::Unchanged, place),
-        ValueType::Long => long_at(pool, place),
-        _ => 0,
+    match (kind, int_narrowing(kind)) {
+        (_, Some(narrowing)) => stored_int(pool, narrowing, place),
+        (ValueType::Long, None) => long_at(pool, place),
+        (_, None) => 0,
     }
 }
 
