@@ -1,6 +1,8 @@
 -- The field and the method that instrumentation adds to a class, and the method that they call, by their names and types (JVM
 -- Specification 4.3, 4.5, 4.6), and how many probes there may be.
-use Rattle.std.specs.Prelude.{ℕ, List, codes}
+use Rattle.std.specs.Prelude.{ℕ, List, codes, nat_le, if◌then◌else◌}
+use Rattle.jc_methods.specs.declared.probe_members.Fetch.{Fetch}
+use Rattle.jc_methods.specs.declared.probe_members.Fetch.TheVariants as fetches
 
 -- the field that keeps the probe array: private, static, transient and synthetic
 abbrev pub data_name : List ℕ
@@ -31,6 +33,24 @@ fetch_name = codes "getProbes"
 
 abbrev pub fetch_type : List ℕ
 fetch_type = codes "(JLjava/lang/String;I)[Z"
+
+-- ---- the array by a constant
+
+-- The constant has the name of the field that keeps the array in other classes, and any object for its type. The method that gives
+-- it its value has the name of the other method too (JVM Specification 4.4.10, 5.4.3.6).
+abbrev pub constant_type : List ℕ
+constant_type = codes "Ljava/lang/Object;"
+
+abbrev pub bootstrap_type : List ℕ
+bootstrap_type = codes "(Ljava/lang/invoke/MethodHandles$Lookup;Ljava/lang/String;Ljava/lang/Class;)[Z"
+
+abbrev pub bootstraps_name : List ℕ
+bootstraps_name = codes "BootstrapMethods"
+
+-- How the methods of a class of this major version get its array. No proof but that of the code looks at the number, which stands
+-- above all versions that are taken until classes are written so.
+unfoldable pub fetch_of : (version : ℕ) → Fetch
+fetch_of version = if nat_le 66 version then fetches.Constant else fetches.Member
 
 -- ---- how many
 

@@ -34,8 +34,8 @@ pub use insn::{Arm, Flow, Insn, inverse, is_conditional_branch};
 pub use kind::{Kind, State};
 pub use plan::{Edge, Plan};
 pub use probe_members::{
-    DATA_NAME, FETCH_NAME, FETCH_TYPE, INIT_NAME, INIT_TYPE, MOST_PROBES, PROBE_ARRAY,
-    RUNTIME_CLASS,
+    BOOTSTRAP_TYPE, BOOTSTRAPS_NAME, CONSTANT_TYPE, DATA_NAME, FETCH_NAME, FETCH_TYPE,
+    FIRST_CONSTANT, Fetch, INIT_NAME, INIT_TYPE, MOST_PROBES, PROBE_ARRAY, RUNTIME_CLASS, fetch_of,
 };
 pub use slots::{a_replaced_slot_is_a_mapped_one, mapped_locals_are_within};
 pub use starts::insn_numbers;
