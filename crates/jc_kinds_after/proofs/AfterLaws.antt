@@ -179,7 +179,7 @@ still_computed v None = still_fails v
 still_computed v (Some type) = still_gives v type []
 
 pub still_constant : (v : ℕ) (what : Option What) → IsStill v (constant_step what)
-still_constant v (Some (whats.Computed desc)) = still_computed v (field_type_in desc)
+still_constant v (Some (whats.Computed name desc bootstrap)) = still_computed v (field_type_in desc)
 still_constant v (Some (whats.Field class name desc)) = still_fails v
 still_constant v (Some (whats.Method class name desc)) = still_fails v
 still_constant v (Some (whats.Call name desc)) = still_fails v

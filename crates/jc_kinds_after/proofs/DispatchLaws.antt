@@ -31,14 +31,14 @@ two_slots_described desc (inl e) = (Long, record { fits = record { named = tt; f
 two_slots_described desc (inr e) = (Double, record { fits = record { named = tt; few = omega arith }; spelled = e })
 
 pub described_constant : (what : What) → IsOneSlotConstant what → IsDescribed what
-described_constant (whats.Computed desc) fits = fits.0
+described_constant (whats.Computed name desc bootstrap) fits = fits.0
 described_constant (whats.Field class name desc) fits = elim fits [ ]
 described_constant (whats.Method class name desc) fits = elim fits [ ]
 described_constant (whats.Call name desc) fits = elim fits [ ]
 described_constant _ fits = tt
 
 pub described_wide : (what : What) → IsTwoSlotConstant what → IsDescribed what
-described_wide (whats.Computed desc) fits = two_slots_described desc fits
+described_wide (whats.Computed name desc bootstrap) fits = two_slots_described desc fits
 described_wide (whats.Field class name desc) fits = elim fits [ ]
 described_wide (whats.Method class name desc) fits = elim fits [ ]
 described_wide (whats.Call name desc) fits = elim fits [ ]

@@ -125,7 +125,7 @@ made_class names e at made place x code effect result are is same read named kep
     by (whats.Class name) fits used =
         classed (object name) _ _ (kept (whats.Class name) (ap (what_used (body_of e).uses) place_is ∙ used) tt)
         ∙ ap (λ (w : Option What). Some (object (class_in w))) (sym used) ∙ ap (λ (o : Option Insn). Some (object (new_class (body_of e).uses o))) (sym is)
-    by (whats.Computed desc) fits used = elim fits [ ]
+    by (whats.Computed name desc bootstrap) fits used = elim fits [ ]
     by _ fits used = elim fits [ ]
 
 -- ---- the same of a body by itself

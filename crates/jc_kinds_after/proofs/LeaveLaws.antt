@@ -92,7 +92,7 @@ plain_computed (Some type) = refl
 
 plain_constant : (what : Option What) → plain (constant_step what) ≡ true
 unfolding plain
-plain_constant (Some (whats.Computed desc)) = plain_computed (field_type_in desc)
+plain_constant (Some (whats.Computed name desc bootstrap)) = plain_computed (field_type_in desc)
 plain_constant _ = refl
 
 plain_multi : (what : Option What) (dims : ℕ) → plain (multi_step what dims) ≡ true

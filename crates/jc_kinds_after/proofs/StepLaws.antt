@@ -28,12 +28,12 @@ computed_is None = refl
 computed_is (Some type) = refl
 
 pub constant_is : (what : What) → IsOneSlotConstant what → constant_by (does_of what) ≡ constant_step (Some what)
-constant_is (whats.Computed desc) fits = computed_is (field_type_in desc)
+constant_is (whats.Computed name desc bootstrap) fits = computed_is (field_type_in desc)
 constant_is (whats.Field class name desc) fits = elim fits [ ]
 constant_is _ fits = refl
 
 pub wide_constant_is : (what : What) → IsTwoSlotConstant what → constant_by (does_of what) ≡ constant_step (Some what)
-wide_constant_is (whats.Computed desc) fits = computed_is (field_type_in desc)
+wide_constant_is (whats.Computed name desc bootstrap) fits = computed_is (field_type_in desc)
 wide_constant_is (whats.Field class name desc) fits = elim fits [ ]
 wide_constant_is _ fits = refl
 

@@ -97,7 +97,7 @@ constant_step (Some whats.Text) = moves (gives (object (codes "java/lang/String"
 constant_step (Some (whats.Class name)) = moves (gives (object (codes "java/lang/Class")))
 constant_step (Some whats.MethodKind) = moves (gives (object (codes "java/lang/invoke/MethodType")))
 constant_step (Some whats.Handle) = moves (gives (object (codes "java/lang/invoke/MethodHandle")))
-constant_step (Some (whats.Computed desc)) = computed_step (field_type_in desc)
+constant_step (Some (whats.Computed name desc bootstrap)) = computed_step (field_type_in desc)
 constant_step _ = fails
 
 -- ---- classes and arrays

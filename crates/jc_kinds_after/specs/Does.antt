@@ -49,14 +49,14 @@ does_of whats.Double = value wants.Double double
 does_of whats.Text = value wants.Reference (object (codes "java/lang/String"))
 does_of whats.Handle = value wants.Reference (object (codes "java/lang/invoke/MethodHandle"))
 does_of whats.MethodKind = value wants.Reference (object (codes "java/lang/invoke/MethodType"))
-does_of (whats.Computed desc) = value_of (field_type_in desc)
+does_of (whats.Computed name desc bootstrap) = value_of (field_type_in desc)
 
 -- each descriptor is one of its kind
 abbrev pub IsDescribed : What → Type 0
 IsDescribed (whats.Field class name desc) = IsFieldDescriptor desc
 IsDescribed (whats.Method class name desc) = IsMethodDescriptor desc
 IsDescribed (whats.Call name desc) = IsMethodDescriptor desc
-IsDescribed (whats.Computed desc) = IsFieldDescriptor desc
+IsDescribed (whats.Computed name desc bootstrap) = IsFieldDescriptor desc
 IsDescribed what = ⊤
 
 -- ---- the same, as it is kept

@@ -192,7 +192,7 @@ pub fn effect_of(alloc: Global, what: &What, names: &mut Names) -> Result<Effect
     ensures names { Grows names.old names.new }
 {
     match what {
-        What::Field { desc, .. } | What::Computed { desc } => value_effect(alloc, desc, names),
+        What::Field { desc, .. } | What::Computed { desc, .. } => value_effect(alloc, desc, names),
         What::Method { name, desc, .. } => call_effect(alloc, desc, is_constructor(name), names),
         What::Call { desc, .. } => call_effect(alloc, desc, false, names),
         What::Class(name) => class_effect(alloc, name, names),
