@@ -8,7 +8,7 @@ use Rattle.jc_pool.specs.declared.add.PoolFull.{PoolFull}
 use Rattle.jc_pool.specs.declared.entry.Entry.{Entry}
 use Rattle.jc_pool.specs.declared.entry.Entry.TheVariants as entry
 use Rattle.jc_pool.specs.Pool.{PoolValue, slots_of}
-use Rattle.jc_pool.specs.Lookup.{utf8_of, class_name_of, string_of, integer_of, long_of, Signature, signature_of, Member, signature, member_of}
+use Rattle.jc_pool.specs.Lookup.{utf8_of, class_name_of, string_of, integer_of, long_of, Signature, signature_of, Member, signature, member_of, Handle, handle_of, Computed, computed_of}
 
 -- ---- places
 
@@ -104,6 +104,38 @@ PutsMember old m new place =
 -- there are put behind the others, and then the entry.
 abbrev pub HasMember : PoolValue → Member → PoolValue → ℕ → Type 0
 HasMember old m = Adds member_of m old (PutsMember old m)
+
+-- ---- method handles and computed constants
+
+-- the member is put, where it isn't there, and then an entry that names its place
+abbrev pub PutsHandle : PoolValue → Handle → PoolValue → ℕ → Type 0
+PutsHandle old h new place =
+    (named : PoolValue) × (at : ℕ) × HasMember old h.target named at × IsPut named new (entry.MethodHandle h.kind at) place
+
+-- A pool with a method handle, which stands at the place: the pool itself, where a handle of this kind to this member stands in it,
+-- whatever the places, and the first such place; else the parts that aren't there are put behind the others, and then the entry
+-- (JVM Specification 4.4.8).
+abbrev pub HasHandle : PoolValue → Handle → PoolValue → ℕ → Type 0
+HasHandle old h = Adds handle_of h old (PutsHandle old h)
+
+-- the kind of a handle that calls a static method (JVM Specification 4.4.8, table 5.4.3.5-A)
+abbrev pub calls_static : ℕ
+calls_static = 6
+
+-- the handle that calls this static method, which is one of a class
+abbrev pub static_handle : (class name desc : List ℕ) → Handle
+static_handle class name desc = record { kind = calls_static; target = record { tag = 10; class = class; name = name; desc = desc } }
+
+-- the name and the descriptor are put, where they aren't there, and then an entry that names their place
+abbrev pub PutsComputed : PoolValue → Computed → PoolValue → ℕ → Type 0
+PutsComputed old c new place =
+    (signed : PoolValue) × (at : ℕ) × HasSignature old c.signed signed at × IsPut signed new (entry.Dynamic c.bootstrap at) place
+
+-- A pool with a constant that a bootstrap method gives, which stands at the place: the pool itself, where a Dynamic entry of this
+-- number, name and descriptor stands in it, whatever the places, and the first such place; else the parts that aren't there are put
+-- behind the others, and then the entry (JVM Specification 4.4.10).
+abbrev pub HasComputed : PoolValue → Computed → PoolValue → ℕ → Type 0
+HasComputed old c = Adds computed_of c old (PutsComputed old c)
 
 -- ---- too many entries
 

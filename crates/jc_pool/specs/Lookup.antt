@@ -1,5 +1,5 @@
 -- What the places of a constant pool name (JVM Specification 4.4).
-use Rattle.std.specs.Prelude.{ℕ, ℤ, List, [], slice_index_or, Option, Some, None}
+use Rattle.std.specs.Prelude.{ℕ, ℤ, List, [], slice_index_or, Option, Some, None, option_map}
 use Rattle.jc_bytes.specs.Decoder.{◌>>=◌}
 use Rattle.jc_bytes.specs.Texts.{IsShortText}
 use Rattle.jc_pool.specs.declared.entry.Entry.{Entry}
@@ -165,3 +165,50 @@ const_in pool _ = None
 -- the constant at a place
 unfoldable pub const_of : PoolValue → ℕ → Option ConstText
 const_of pool place = entry_of pool place >>= const_in pool
+
+-- ---- computed constants and method handles
+
+-- a constant that a bootstrap method of the class gives, by the number of that method
+pub record Computed : Type 0 where
+  pub signed : Signature
+  pub bootstrap : ℕ
+
+abbrev pub computed_in : PoolValue → Entry → Option Computed
+computed_in pool (entry.Dynamic bootstrap name_and_type) =
+    option_map (λ s. record { signed = s; bootstrap = bootstrap }) (signature_of pool name_and_type)
+computed_in pool _ = None
+
+-- the one at a place, whose name and descriptor have to be there (JVM Specification 4.4.10)
+unfoldable pub computed_of : PoolValue → ℕ → Option Computed
+computed_of pool place = entry_of pool place >>= computed_in pool
+
+-- the number of the bootstrap method of a constant or a call that is linked at run time
+abbrev pub bootstrap_in : PoolValue → Entry → Option ℕ
+bootstrap_in pool (entry.Dynamic bootstrap name_and_type) = option_map (λ s. bootstrap) (signature_of pool name_and_type)
+bootstrap_in pool (entry.InvokeDynamic bootstrap name_and_type) = option_map (λ s. bootstrap) (signature_of pool name_and_type)
+bootstrap_in pool _ = None
+
+-- the one at a place, whose name and descriptor have to be there (JVM Specification 4.4.10)
+unfoldable pub bootstrap_of : PoolValue → ℕ → Option ℕ
+bootstrap_of pool place = entry_of pool place >>= bootstrap_in pool
+
+-- a method handle: its kind, and the field or the method that it names
+pub record Handle : Type 0 where
+  pub kind : ℕ
+  pub target : Member
+
+abbrev pub handle_in : PoolValue → Entry → Option Handle
+handle_in pool (entry.MethodHandle kind reference) = option_map (λ m. record { kind = kind; target = m }) (reference_of pool reference)
+handle_in pool _ = None
+
+-- the one at a place, whose field or method has to be there, with all that it names (JVM Specification 4.4.8)
+unfoldable pub handle_of : PoolValue → ℕ → Option Handle
+handle_of pool place = entry_of pool place >>= handle_in pool
+
+-- its kind, and the place of what it names
+abbrev pub handle_parts_in : PoolValue → Entry → Option (ℕ × ℕ)
+handle_parts_in pool (entry.MethodHandle kind reference) = option_map (λ m. (kind, reference)) (reference_of pool reference)
+handle_parts_in pool _ = None
+
+unfoldable pub handle_parts : PoolValue → ℕ → Option (ℕ × ℕ)
+handle_parts pool place = entry_of pool place >>= handle_parts_in pool

@@ -19,6 +19,6 @@ mod write;
 pub use add::PoolFull;
 pub use constant::ConstText;
 pub use laws::{added_entries, one_reading, one_text};
-pub use lookup::{BadIndex, MemberText};
+pub use lookup::{BadIndex, HandleText, MemberText};
 pub use pool::Pool;
 pub use text::text_of;

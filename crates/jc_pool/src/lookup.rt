@@ -6,6 +6,7 @@ ghost use Rattle.jc_bytes.specs.Texts.{IsShortText};
 ghost use Rattle.jc_pool.specs.Adding.{IsFirst, IsNowhere};
 ghost use Rattle.jc_pool.specs.Lookup.{utf8_of, class_name_of, string_of, signature_of, const_in, const_of};
 ghost use Rattle.jc_pool.specs.Lookup.{member, judged_member, HasShortTexts, ref_of, dynamic_of, ref_in, reference_of, member_of};
+ghost use Rattle.jc_pool.specs.Lookup.{handle_parts, bootstrap_of};
 
 use crate::entry::Entry;
 use crate::index::Naming;
@@ -28,6 +29,15 @@ pub struct MemberText<'a> {
     pub name: &'a [u8],
     /// The descriptor.
     pub desc: &'a [u8],
+}
+
+/// What a MethodHandle entry names (JVM Specification 4.4.8).
+#[derive(Clone, Copy, Debug, PartialEq, Eq)]
+pub struct HandleText {
+    /// The kind of the handle, which is from 1 to 9 in a class file that the Java machine takes.
+    pub kind: u8,
+    /// The place of the field or the method.
+    pub member: u16,
 }
 
 /// What an entry names as a field, a method or a dynamic constant or call, with the forms that its
@@ -383,6 +393,65 @@ impl Pool {
         match self.entry(place) {
             Some(entry) => self.const_in(entry),
             None => Err(BadIndex),
+        }
+    }
+
+    /// The kind of the MethodHandle entry at a place, and the place of the field or the method that
+    /// it names (JVM Specification 4.4.8), which has an entry of tag 9, 10 or 11.
+    ///
+    /// # Errors
+    ///
+    /// `BadIndex` exactly where no MethodHandle entry stands at the place, or no field or method, with
+    /// its class, name and descriptor, at the place that it names.
+    #[tactic(auto, unfolding(crate::specs::Lookup::handle_parts))]
+    pub fn handle_at(&self, place: u16) -> Result<HandleText, BadIndex>
+        ensures parts { IfOk result (λ h. handle_parts self.now place ≡ Some (h.kind, h.member)) }
+        ensures bad { IsErr result ↔ (handle_parts self.now place ≡ None) }
+    {
+        match self.entry(place) {
+            Some(Entry::MethodHandle { kind, reference }) => {
+                if !self.has_reference(*reference) {
+                    return Err(BadIndex);
+                }
+                Ok(HandleText {
+                    kind: *kind,
+                    member: *reference,
+                })
+            }
+            _ => Err(BadIndex),
+        }
+    }
+
+    /// The number of the bootstrap method of the Dynamic or InvokeDynamic entry at a place (JVM
+    /// Specification 4.4.10).
+    ///
+    /// # Errors
+    ///
+    /// `BadIndex` exactly where none of these stands at the place, or no NameAndType entry with a name
+    /// and a descriptor at the place that it names.
+    #[tactic(auto, unfolding(crate::specs::Lookup::bootstrap_of))]
+    pub fn bootstrap_at(&self, place: u16) -> Result<u16, BadIndex>
+        ensures number { IfOk result (λ n. bootstrap_of self.now place ≡ Some n) }
+        ensures bad { IsErr result ↔ (bootstrap_of self.now place ≡ None) }
+    {
+        let (bootstrap, name_and_type) = match self.entry(place) {
+            Some(
+                Entry::Dynamic {
+                    bootstrap,
+                    name_and_type,
+                },
+            ) => (*bootstrap, *name_and_type),
+            Some(
+                Entry::InvokeDynamic {
+                    bootstrap,
+                    name_and_type,
+                },
+            ) => (*bootstrap, *name_and_type),
+            _ => return Err(BadIndex),
+        };
+        match self.signature(name_and_type) {
+            Ok(_) => Ok(bootstrap),
+            Err(bad) => Err(bad),
         }
     }
 }
