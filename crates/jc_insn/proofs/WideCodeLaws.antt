@@ -16,8 +16,8 @@ use Rattle.jc_methods.specs.declared.insn.Flow.TheVariants as flows
 use Rattle.jc_methods.specs.Insn.{with_places}
 use Rattle.jc_methods.specs.Flow.{targets_of, inverse_of, is_conditional_branch, flow_of, flow_of_simple}
 use Rattle.jc_methods.specs.Starts.{insn_number}
-use Rattle.jc_methods.specs.Widened.{widths_by, wide_place, widened_by, widened_from, widened}
-use Rattle.jc_methods.proofs.WidenedLaws.{first_place}
+use Rattle.jc_methods.specs.Widened.{all_wide, widths_by, wide_place_from, wide_place, widened_by, widened_from, widened}
+use Rattle.jc_methods.proofs.WidenedLaws.{first_place, any_number}
 use Rattle.jc_methods.proofs.ByFlowLaws.{insn_by}
 use Rattle.jc_methods.proofs.PlacedInsnLaws.{flow_placed, simple_is_no_test}
 use Rattle.jc_insn.specs.declared.item.CodeItem.TheVariants as items
@@ -51,7 +51,8 @@ one_start : (at : ℕ) (flow : Flow) → (flow ≡ flows.Branches → ⊥) → w
 one_start at flows.Branches other = absurd (other refl)
 one_start at flow other = refl
 
-one_image : (places : ℕ → ℕ) (here : ℕ) (insn : Insn) (flow : Flow) → (flow ≡ flows.Branches → ⊥) → widened_by places here insn flow ≡ with_places places insn ∷ []
+one_image : (places : ℕ → ℕ) (here : ℕ) (insn : Insn) (flow : Flow) → (flow ≡ flows.Branches → ⊥)
+    → widened_by places here insn flow true ≡ with_places places insn ∷ []
 one_image places here insn flows.Branches other = absurd (other refl)
 one_image places here insn flow other = refl
 
@@ -73,7 +74,7 @@ here_by at flow rest some = first_number at rest some
 
 -- what begins behind an instruction is numbered behind all that stands for it
 behind_by : (at : ℕ) (flow : Flow) (rest : List ℕ) (offset : ℕ) → 1 ≤ length rest → at < offset → (flow ≡ flows.Branches → at + 8 ≤ offset)
-    → insn_number (wide_starts_by at flow ++ rest) offset ≡ widths_by flow + insn_number rest offset
+    → insn_number (wide_starts_by at flow ++ rest) offset ≡ widths_by flow true + insn_number rest offset
 behind_by at flows.Branches rest offset some above far =
     let beyond : at + 8 ≤ offset = far refl in
     let first = step_in at offset ((at + 3) ∷ rest) (λ e. omega (arith, e, above)) (omega arith) in
@@ -82,7 +83,7 @@ behind_by at flows.Branches rest offset some above far =
 behind_by at flow rest offset some above far = step_in at offset rest (λ e. omega (arith, e, above)) some
 
 pub number_of_wide_start : (at : ℕ) (code : List Insn) (starts : List ℕ) → StartAt true at code starts → (k : ℕ) → k ≤ length code
-    → insn_number (wide_starts code starts) (get_or starts k 0) ≡ wide_place code k
+    → insn_number (wide_starts code starts) (get_or starts k 0) ≡ wide_place all_wide code k
 number_of_wide_start at [] starts s zero le = ap (λ (l : List ℕ). insn_number l (get_or l 0 0)) s
 number_of_wide_start at [] starts s (suc k) le = absurd (omega (arith, le))
 number_of_wide_start at (insn ∷ code) starts (later, is, more) zero le =
@@ -96,11 +97,11 @@ number_of_wide_start at (insn ∷ code) starts (later, is, more) (suc k) le =
     ap (λ (l : List ℕ). insn_number (wide_starts (insn ∷ code) l) (get_or l (suc k) 0)) is
     ∙ behind_by at (flow_of insn) (wide_starts code later) (get_or later k 0) (some_wide next code later more) (omega (arith, above, some))
     (λ test. let e = test_size at insn test in omega (arith, above, e))
-    ∙ ap (λ (n : ℕ). widths_by (flow_of insn) + n) (number_of_wide_start next code later more k (omega (arith, le)))
+    ∙ ap (λ (n : ℕ). widths_by (flow_of insn) true + n) (number_of_wide_start next code later more k (omega (arith, le)) ∙ sym (any_number 1 code k))
 
 -- what stands for an instruction begins where the instruction does
 pub wide_start : (code : List Insn) (starts : List ℕ) → length starts ≡ length code + 1 → (k : ℕ) → k ≤ length code
-    → get_or (wide_starts code starts) (wide_place code k) 0 ≡ get_or starts k 0
+    → get_or (wide_starts code starts) (wide_place all_wide code k) 0 ≡ get_or starts k 0
 wide_start [] starts long k le = refl
 wide_start (insn ∷ code) [] long k le = absurd (omega (arith, long))
 wide_start (insn ∷ code) (start ∷ starts) long zero le = by (flow_of insn)
@@ -108,10 +109,12 @@ wide_start (insn ∷ code) (start ∷ starts) long zero le = by (flow_of insn)
     by : (flow : Flow) → get_or (wide_starts_by start flow ++ wide_starts code starts) 0 0 ≡ start
     by flows.Branches = refl
     by flow = refl
-wide_start (insn ∷ code) (start ∷ starts) long (suc k) le = by (flow_of insn) (wide_place code k)
+wide_start (insn ∷ code) (start ∷ starts) long (suc k) le =
+    by (flow_of insn) (wide_place_from all_wide 1 code k)
+    ∙ ap (λ (place : ℕ). get_or (wide_starts code starts) place 0) (any_number 1 code k)
     ∙ wide_start code starts (omega (arith, long)) k (omega (arith, le))
   where
-    by : (flow : Flow) (place : ℕ) → get_or (wide_starts_by start flow ++ wide_starts code starts) (widths_by flow + place) 0
+    by : (flow : Flow) (place : ℕ) → get_or (wide_starts_by start flow ++ wide_starts code starts) (widths_by flow true + place) 0
         ≡ get_or (wide_starts code starts) place 0
     by flows.Branches place = let e : 2 + place ≡ suc (suc place) = omega arith in ap (λ (k : ℕ). get_or (start ∷ (start + 3) ∷ wide_starts code starts) k 0) e
     by flow place = let e : 1 + place ≡ suc place = omega arith in ap (λ (k : ℕ). get_or (start ∷ wide_starts code starts) k 0) e
@@ -239,7 +242,7 @@ module _ (numbers offsets places : ℕ → ℕ) where
 
   -- this is read back of what stands for the instruction from this place on
   abbrev IsImage : ℕ → Insn → Flow → List Insn → Type 0
-  IsImage here insn flow front = map (with_places numbers) front ≡ widened_by places here insn flow
+  IsImage here insn flow front = map (with_places numbers) front ≡ widened_by places here insn flow true
 
   jump_as : (here at op to : ℕ) (is_goto : Bool) → Leads (insns.Jump op to) → PassesTest here at (flow_of_goto is_goto)
       → IsImage here (insns.Jump op to) (flow_of_goto is_goto) (spelled_jump is_goto at op (offsets to))
@@ -257,48 +260,48 @@ module _ (numbers offsets places : ℕ → ℕ) where
 
   -- the instructions are numbered as in the wide form, from this place on
   abbrev NumberedWide : ℕ → List Insn → List ℕ → Type 0
-  NumberedWide here code starts = (k : ℕ) → k ≤ length code → numbers (get_or starts k 0) ≡ here + wide_place code k
+  NumberedWide here code starts = (k : ℕ) → k ≤ length code → numbers (get_or starts k 0) ≡ here + wide_place all_wide code k
 
-  as_widened : (here at : ℕ) (code : List Insn) (starts : List ℕ) → StartAt true at code starts → All Leads code → NumberedWide here code starts
-      → map (with_places numbers) (code_as offsets code starts) ≡ widened_from places here code
-  as_widened here at [] starts s lead numbered = refl
-  as_widened here at (insn ∷ code) [] (later, is, more) lead numbered = absurd cc
-  as_widened here at (insn ∷ code) (start ∷ starts) (later, is, more) lead numbered =
+  as_widened : (n here at : ℕ) (code : List Insn) (starts : List ℕ) → StartAt true at code starts → All Leads code → NumberedWide here code starts
+      → map (with_places numbers) (code_as offsets code starts) ≡ widened_from places all_wide n here code
+  as_widened n here at [] starts s lead numbered = refl
+  as_widened n here at (insn ∷ code) [] (later, is, more) lead numbered = absurd cc
+  as_widened n here at (insn ∷ code) (start ∷ starts) (later, is, more) lead numbered =
       let first_is : start ≡ at = ap (λ (l : List ℕ). get_or l 0 0) is in
       let later_is : starts ≡ later = cc in
-      let width = widths_by (flow_of insn) in
+      let width = widths_by (flow_of insn) true in
       let front = spelled_as start (with_places offsets insn) in
       let next_start = ap (λ (l : List ℕ). get_or l 0 0) later_is ∙ first_start true (at + size_of at true insn) code later more in
       let next : PassesTest here start (flow_of insn) =
       λ test.
       let size = test_size at insn test in
       let there : start + 8 ≡ get_or starts 0 0 = omega (arith, first_is, next_start, size) in
-      let two = ap widths_by test in
-      let none = first_place code in
+      let two = ap (λ (f : Flow). widths_by f true) test in
+      let none = any_number 1 code 0 ∙ first_place all_wide code in
       ap numbers there ∙ numbered 1 (omega arith) ∙ omega (arith, two, none) in
       let behind : NumberedWide (here + width) code starts = λ k le. let e = numbered (suc k)
-      (omega (arith, le)) in omega (arith, e) in
+      (omega (arith, le)) in omega (arith, e, any_number 1 code k) in
       let more_starts = subst (λ (l : List ℕ). StartAt true (at + size_of at true insn) code l) (sym later_is) more in
-      let tail = as_widened (here + width) (at + size_of at true insn) code starts more_starts (All-tail Leads insn code lead) behind in
+      let tail = as_widened (suc n) (here + width) (at + size_of at true insn) code starts more_starts (All-tail Leads insn code lead) behind in
       map-append (with_places numbers) front (code_as offsets code starts) ∙ (λ i. image_as here start insn (lead 0 insn (omega arith)) next i ++ tail i)
 
 -- ---- the whole
 
 pub spells_wide : (code : List Insn) (starts : List ℕ) → IsLaidOut true code starts
-    → Spells (code_text (slice_index starts) true code starts) (widened code) (wide_starts code starts)
+    → Spells (code_text (slice_index starts) true code starts) (widened all_wide code) (wide_starts code starts)
 unfolding widened
 spells_wide code starts out = record {
   spelled = code_as (slice_index starts) code starts;
   text = wide_code (slice_index starts) 0 code starts out.starts_at
       (each_fits (slice_index starts) code starts (small_starts true code starts out.starts_at out.end)
       (all_small true code starts out.starts_at out.end) out.well_formed out.in_range) (all_low true code starts out);
-  places = sym (as_widened (insn_number (wide_starts code starts)) (slice_index starts) (wide_place code) 0 0 code starts out.starts_at leads numbered);
+  places = sym (as_widened (insn_number (wide_starts code starts)) (slice_index starts) (wide_place all_wide code) 0 0 0 code starts out.starts_at leads numbered);
 }
   where
-    leads : All (λ insn. All (λ to. insn_number (wide_starts code starts) (slice_index starts to) ≡ wide_place code to) (targets_of insn)) code
+    leads : All (λ insn. All (λ to. insn_number (wide_starts code starts) (slice_index starts to) ≡ wide_place all_wide code to) (targets_of insn)) code
     leads k d below = λ j e inside.
         let lt = out.places k d below j e inside in
         number_of_wide_start 0 code starts out.starts_at (get_or (targets_of (get_or code k d)) j e) (omega (arith, lt))
 
-    numbered : NumberedWide (insn_number (wide_starts code starts)) (slice_index starts) (wide_place code) 0 code starts
-    numbered k le = number_of_wide_start 0 code starts out.starts_at k le ∙ sym (zero-add (wide_place code k))
+    numbered : NumberedWide (insn_number (wide_starts code starts)) (slice_index starts) (wide_place all_wide code) 0 code starts
+    numbered k le = number_of_wide_start 0 code starts out.starts_at k le ∙ sym (zero-add (wide_place all_wide code k))

@@ -4,7 +4,7 @@ use Rattle.jc_methods.specs.declared.insn.Insn.{Insn}
 use Rattle.jc_methods.specs.declared.insn.Flow.{Flow}
 use Rattle.jc_methods.specs.declared.insn.Flow.TheVariants as flows
 use Rattle.jc_methods.specs.Flow.{flow_of}
-use Rattle.jc_methods.specs.Widened.{widened}
+use Rattle.jc_methods.specs.Widened.{all_wide, widened}
 use Rattle.jc_insn.specs.Spells.{Spells}
 
 -- Where in the wide layout the instructions begin that stand for one at this offset. The goto_w behind the
@@ -21,7 +21,7 @@ wide_starts code starts = starts
 
 -- the instructions that stand in a layout of the code, and where they begin
 abbrev pub laid_code : Bool → List Insn → List Insn
-laid_code wide code = if wide then widened code else code
+laid_code wide code = if wide then widened all_wide code else code
 
 abbrev pub laid_starts : Bool → List Insn → List ℕ → List ℕ
 laid_starts wide code starts = if wide then wide_starts code starts else starts

@@ -5,7 +5,7 @@ ghost use Rattle.std.specs.Prelude.{◌≡◌, ◌⊎◌, ◌++◌, ◌+◌, ◌
 ghost use Rattle.jc_insn.specs.declared.item.CodeItem.{CodeItem};
 ghost use Rattle.jc_methods.specs.declared.insn.Insn.{Insn};
 ghost use Rattle.jc_bytes.specs.declared.refusal.Refusal.{Refusal};
-ghost use Rattle.jc_methods.specs.Widened.{wide_place};
+ghost use Rattle.jc_methods.specs.Widened.{all_wide, wide_place};
 ghost use Rattle.jc_insn.specs.Layouts.{wide_starts};
 ghost use Rattle.jc_insn.specs.Items.{IsItem};
 ghost use Rattle.jc_insn.specs.Spells.{Spells, IsRefused};
@@ -34,5 +34,5 @@ pub fn one_code()
 /// What stands in the wide layout for an instruction begins where the instruction does.
 pub fn each_image_begins_where_its_instruction_does()
     ensures { (code : List Insn) (starts : List ℕ) (place : ℕ) → length starts ≡ length code + 1 → place ≤ length code
-        → slice_index (wide_starts code starts) (wide_place code place) ≡ slice_index starts place }
+        → slice_index (wide_starts code starts) (wide_place all_wide code place) ≡ slice_index starts place }
 {}

@@ -3,6 +3,7 @@ use Rattle.std.proofs.Common.{◌≡◌, ℕ, ◌<◌, ◌≤◌, Bool, true, fa
 use Rattle.std.specs.Prelude.{slice_index}
 use Rattle.jc_methods.specs.Starts.{insn_number}
 use Rattle.jc_methods.specs.declared.insn.Insn.{Insn}
+use Rattle.jc_methods.specs.Widened.{all_wide}
 use Rattle.jc_methods.proofs.WidenedLaws.{wide_length}
 use Rattle.jc_insn.specs.Layouts.{laid_code, laid_starts}
 use Rattle.jc_insn.specs.Sizes.{StartAt}
@@ -27,7 +28,7 @@ number_by true code starts s k le = number_of_wide_start 0 code starts s k le
 
 within_by : (wide : Bool) (code : List Insn) (k : ℕ) → k < length code → laid_place wide code k < length (laid_code wide code)
 within_by false code k lt = lt
-within_by true code k lt = let rise = wide_places_rise code k (length code) lt in let size = wide_length code in omega (arith, rise, size)
+within_by true code k lt = let rise = wide_places_rise all_wide code k (length code) lt in let size = wide_length all_wide code in omega (arith, rise, size)
 
 called_length : (call : ℕ) (code : List Insn) → length (with_call call code) ≡ length code
 called_length call [] = refl

@@ -1,5 +1,5 @@
 -- Offsets of instructions that begin one behind the other, and the numbers of the instructions that begin there.
-use Rattle.std.proofs.Common.{◌≡◌, ◌⊎◌, inl, inr, ℕ, zero, suc, ◌+◌, ◌<◌, ◌≤◌, Bool, List, [], ◌∷◌, ◌++◌, length, get_or, refl, ◌∙◌, ap, arith}
+use Rattle.std.proofs.Common.{◌≡◌, ◌⊎◌, inl, inr, ℕ, zero, suc, ◌+◌, ◌<◌, ◌≤◌, Bool, true, List, [], ◌∷◌, ◌++◌, length, get_or, refl, ◌∙◌, ap, arith}
 use Rattle.std.specs.Prelude.{slice_index}
 use Rattle.std.proofs.lemmas.Bool.{cases_lt}
 use Rattle.std.proofs.lemmas.List.{get_or_past}
@@ -9,7 +9,8 @@ use Rattle.jc_methods.specs.declared.insn.Flow.{Flow}
 use Rattle.jc_methods.specs.declared.insn.Flow.TheVariants as flows
 use Rattle.jc_methods.specs.declared.insn.Insn.{Insn}
 use Rattle.jc_methods.specs.Flow.{flow_of}
-use Rattle.jc_methods.specs.Widened.{widths_by, wide_place}
+use Rattle.jc_methods.specs.Widened.{WideSet, all_wide, widths_by, wide_place_from, wide_place}
+use Rattle.jc_methods.proofs.WidenedLaws.{any_number}
 use Rattle.jc_insn.specs.Layouts.{wide_starts_by, wide_starts}
 use Rattle.jc_insn.specs.Sizes.{size_of, StartAt}
 use Rattle.jc_insn.proofs.SizeSumsLaws.{above_first, below_last, count_starts, first_number, first_start, some_size, step_in}
@@ -76,15 +77,18 @@ some_bytes wide at (insn ∷ code) starts (later, is, more) some =
 -- ---- the wide layout
 
 -- places rise
-pub wide_places_rise : (code : List Insn) (i j : ℕ) → i < j → wide_place code i < wide_place code j
-wide_places_rise [] i j lt = lt
-wide_places_rise (insn ∷ code) i zero lt = absurd (omega (arith, lt))
-wide_places_rise (insn ∷ code) zero (suc j) lt = let some = some_width (flow_of insn) in omega (arith, some)
-wide_places_rise (insn ∷ code) (suc i) (suc j) lt = let more = wide_places_rise code i j (omega (arith, lt)) in omega (arith, more)
+places_rise : (wide : WideSet) (n : ℕ) (code : List Insn) (i j : ℕ) → i < j → wide_place_from wide n code i < wide_place_from wide n code j
+places_rise wide n [] i j lt = lt
+places_rise wide n (insn ∷ code) i zero lt = absurd (omega (arith, lt))
+places_rise wide n (insn ∷ code) zero (suc j) lt = let some = some_width (flow_of insn) (wide n) in omega (arith, some)
+places_rise wide n (insn ∷ code) (suc i) (suc j) lt = let more = places_rise wide (suc n) code i j (omega (arith, lt)) in omega (arith, more)
+
+pub wide_places_rise : (wide : WideSet) (code : List Insn) (i j : ℕ) → i < j → wide_place wide code i < wide_place wide code j
+wide_places_rise wide code i j lt = places_rise wide 0 code i j lt
 
 -- what stands for an instruction begins where the instruction does, and behind the end nothing begins
 pub wide_offset : (code : List Insn) (starts : List ℕ) → length starts ≡ length code + 1 → (k : ℕ)
-    → slice_index (wide_starts code starts) (wide_place code k) ≡ slice_index starts k
+    → slice_index (wide_starts code starts) (wide_place all_wide code k) ≡ slice_index starts k
 wide_offset [] starts long k = refl
 wide_offset (insn ∷ code) [] long k = absurd (omega (arith, long))
 wide_offset (insn ∷ code) (start ∷ starts) long zero = by (flow_of insn)
@@ -92,13 +96,11 @@ wide_offset (insn ∷ code) (start ∷ starts) long zero = by (flow_of insn)
     by : (flow : Flow) → slice_index (wide_starts_by start flow ++ wide_starts code starts) 0 ≡ start
     by flows.Branches = refl
     by flow = refl
-wide_offset (insn ∷ code) (start ∷ starts) long (suc k) = by (flow_of insn) ∙ wide_offset code starts (omega (arith, long)) k
+wide_offset (insn ∷ code) (start ∷ starts) long (suc k) =
+    by (flow_of insn) (wide_place_from all_wide 1 code k) ∙ ap (slice_index (wide_starts code starts)) (any_number 1 code k) ∙ wide_offset code starts (omega (arith, long)) k
   where
-    by : (flow : Flow) → slice_index (wide_starts_by start flow ++ wide_starts code starts) (widths_by flow + wide_place code k)
-        ≡ slice_index (wide_starts code starts) (wide_place code k)
-    by flows.Branches =
-        let next : 2 + wide_place code k ≡ suc (suc (wide_place code k)) = omega arith in
-        ap (slice_index (start ∷ (start + 3) ∷ wide_starts code starts)) next
-    by flow =
-        let next : 1 + wide_place code k ≡ suc (wide_place code k) = omega arith in
-        ap (slice_index (start ∷ wide_starts code starts)) next
+    by : (flow : Flow) (place : ℕ) → slice_index (wide_starts_by start flow ++ wide_starts code starts) (widths_by flow true + place)
+        ≡ slice_index (wide_starts code starts) place
+    by flows.Branches place =
+        let next : 2 + place ≡ suc (suc place) = omega arith in ap (slice_index (start ∷ (start + 3) ∷ wide_starts code starts)) next
+    by flow place = let next : 1 + place ≡ suc place = omega arith in ap (slice_index (start ∷ wide_starts code starts)) next

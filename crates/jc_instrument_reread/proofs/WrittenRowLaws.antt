@@ -36,6 +36,7 @@ use Rattle.jc_layout.specs.Layout.{is_wide, chosen_length}
 use Rattle.jc_instrument_code.specs.TwinCode.{offset_in}
 use Rattle.jc_instrument_reread.specs.ReadCode.{row_at, written_insns, written_starts}
 use Rattle.jc_instrument_reread.proofs.OffsetLaws.{offset_at, number_at}
+use Rattle.jc_methods.specs.Widened.{all_wide}
 use Rattle.jc_instrument_reread.proofs.StartLaws.{wide_places_rise}
 
 -- ---- the class of a row
@@ -127,7 +128,7 @@ module _ (b : Body) (first : ℕ) (states : List State) (array : ℕ) (well : Is
       where
         by : (wide : Bool) → laid_place wide code i < laid_place wide code j
         by false = lt
-        by true = wide_places_rise code i j lt
+        by true = wide_places_rise all_wide code i j lt
 
     -- the end of the code is the end of the layout
     end_place : place (length code) ≡ count

@@ -2,7 +2,7 @@
 use Rattle.std.proofs.Common.{◌≡◌, ⊎_elim, ℕ, Bool, true, false, List, [], ◌∷◌, map, Some, refl, sym, ap, ap₂, ◌∙◌, subst}
 use Rattle.std.specs.Prelude.{Contains, slice_index_or}
 use Rattle.jc_methods.specs.WellMade.{IsCode, IsWellMadeOfAnySize, what_used}
-use Rattle.jc_methods.specs.Widened.{wide_place}
+use Rattle.jc_methods.specs.Widened.{all_wide, wide_place}
 use Rattle.jc_methods.specs.declared.insn.Insn.{Insn}
 use Rattle.jc_methods.specs.declared.kind.State.{State}
 use Rattle.jc_methods.specs.declared.body.Body.{Body}
@@ -56,11 +56,11 @@ code_in b first = map (insn_of unplaced b.arg_slots) (twin_items b first narrow)
 abbrev own_in : Body → ℕ → Bool → List Bool
 own_in b first wide = map own_of (twin_items b first (layout_form wide))
 
-wide_lead : (b : Body) (first : ℕ) → IsCode b.code → (i : ℕ) → wide_place (code_in b first) (lead_of b first narrow i) ≡ lead_of b first widest i
+wide_lead : (b : Body) (first : ℕ) → IsCode b.code → (i : ℕ) → wide_place all_wide (code_in b first) (lead_of b first narrow i) ≡ lead_of b first widest i
 unfolding twin_items
 wide_lead b first is_code i = lead_is b first unplaced is_code i
 
-wide_land : (b : Body) (first : ℕ) → IsCode b.code → (i : ℕ) → wide_place (code_in b first) (land_of b first narrow i) ≡ land_of b first widest i
+wide_land : (b : Body) (first : ℕ) → IsCode b.code → (i : ℕ) → wide_place all_wide (code_in b first) (land_of b first narrow i) ≡ land_of b first widest i
 unfolding twin_items
 wide_land b first is_code i = land_is b first unplaced is_code i
 
@@ -70,18 +70,18 @@ module _ (b : Body) (first : ℕ) (states : List State) (array : ℕ) (names : L
   e = emission b first states array
 
   pub are_widened : AreWidened (emission b first states array)
-      (map (widened_frame (wide_place (emission b first states array).code)) (merged (emission b first states array).frames (emission b first states array).wide_frames))
+      (map (widened_frame (wide_place all_wide (emission b first states array).code)) (merged (emission b first states array).frames (emission b first states array).wide_frames))
   are_widened =
       let told = emitted b first states array names well fit named in record {
         rising =
-            rising_widened e.code (merged e.frames e.wide_frames)
+            rising_widened all_wide e.code (merged e.frames e.wide_frames)
             (merged_rises e.frames e.wide_frames 0 told.frames.rising told.wide_frames.rising
             (λ f c g d at. let asked = told.wide_frames.each f c in asked.1.further (g, d, at)));
         each = λ f c.
-            let from = of_map (widened_frame (wide_place e.code)) (merged e.frames e.wide_frames) f c in
+            let from = of_map (widened_frame (wide_place all_wide e.code)) (merged e.frames e.wide_frames) f c in
             (from.0, merged_cases e.frames e.wide_frames from.0 from.1, from.2);
         every = λ g c.
-            in_map (widened_frame (wide_place e.code)) (merged e.frames e.wide_frames) g
+            in_map (widened_frame (wide_place all_wide e.code)) (merged e.frames e.wide_frames) g
             (⊎_elim (λ old. merged_left e.frames e.wide_frames g old) (λ more. merged_right e.frames e.wide_frames g more) c);
       }
 

@@ -4,7 +4,7 @@ use Rattle.std.specs.Prelude.{Contains}
 use Rattle.std.proofs.lemmas.Bool.{ltb-true}
 use Rattle.std.proofs.lemmas.Bool.Decides.{nat_tests}
 use Rattle.jc_methods.specs.Flow.{flow_of}
-use Rattle.jc_methods.specs.Widened.{widths_by, wide_place}
+use Rattle.jc_methods.specs.Widened.{WideSet, widths_by, wide_place_from, wide_place}
 use Rattle.jc_methods.specs.declared.insn.Insn.{Insn}
 use Rattle.jc_methods.specs.declared.insn.Flow.{Flow}
 use Rattle.jc_methods.specs.declared.insn.Flow.TheVariants as flows
@@ -100,43 +100,45 @@ merged_rises frames (f ∷ others) from r s apart =
 
 -- ---- in the wide code
 
-pub some_width : (flow : Flow) → 1 ≤ widths_by flow
-some_width flows.Branches = omega arith
-some_width flow = omega arith
+pub some_width : (flow : Flow) (wide : Bool) → 1 ≤ widths_by flow wide
+some_width flows.Branches true = omega arith
+some_width flow wide = omega arith
 
-place_above : (code : List Insn) (k : ℕ) → k ≤ wide_place code k
-place_above [] k = omega arith
-place_above (insn ∷ code) zero = omega arith
-place_above (insn ∷ code) (suc k) =
-    let more = place_above code k in let some = some_width (flow_of insn) in omega (arith, more, some)
+place_above : (wide : WideSet) (n : ℕ) (code : List Insn) (k : ℕ) → k ≤ wide_place_from wide n code k
+place_above wide n [] k = omega arith
+place_above wide n (insn ∷ code) zero = omega arith
+place_above wide n (insn ∷ code) (suc k) =
+    let more = place_above wide (suc n) code k in let some = some_width (flow_of insn) (wide n) in omega (arith, more, some)
 
-place_apart : (code : List Insn) (q k : ℕ) → wide_place code q + k ≤ wide_place code (q + k)
-place_apart [] q k = omega arith
-place_apart (insn ∷ code) zero k =
-    let above = place_above (insn ∷ code) k in
+place_apart : (wide : WideSet) (n : ℕ) (code : List Insn) (q k : ℕ) → wide_place_from wide n code q + k ≤ wide_place_from wide n code (q + k)
+place_apart wide n [] q k = omega arith
+place_apart wide n (insn ∷ code) zero k =
+    let above = place_above wide n (insn ∷ code) k in
     let e : 0 + k ≡ k = omega arith in
-    subst (λ n. 0 + k ≤ wide_place (insn ∷ code) n) (sym e) (omega (arith, above))
-place_apart (insn ∷ code) (suc q) k =
+    subst (λ p. 0 + k ≤ wide_place_from wide n (insn ∷ code) p) (sym e) (omega (arith, above))
+place_apart wide n (insn ∷ code) (suc q) k =
     let e : suc q + k ≡ suc (q + k) = omega arith in
-    let more = place_apart code q k in
-    subst (λ n. widths_by (flow_of insn) + wide_place code q + k ≤ wide_place (insn ∷ code) n) (sym e) (omega (arith, more))
+    let more = place_apart wide (suc n) code q k in
+    subst (λ p. widths_by (flow_of insn) (wide n) + wide_place_from wide (suc n) code q + k ≤ wide_place_from wide n (insn ∷ code) p) (sym e)
+    (omega (arith, more))
 
-place_grows : (code : List Insn) (q r : ℕ) → q + 1 ≤ r → wide_place code q + 1 ≤ wide_place code r
-place_grows code q r le = up (difference q r le)
+place_grows : (wide : WideSet) (code : List Insn) (q r : ℕ) → q + 1 ≤ r → wide_place wide code q + 1 ≤ wide_place wide code r
+place_grows wide code q r le = up (difference q r le)
   where
     difference : (q r : ℕ) → q + 1 ≤ r → (k : ℕ) × (q + (k + 1) ≡ r)
     difference q zero le = absurd (omega arith)
     difference zero (suc r) le = (r, omega arith)
     difference (suc q) (suc r) le = let d = difference q r (omega arith) in (d.0, let e = d.1 in omega (arith, e))
 
-    up : (k : ℕ) × (q + (k + 1) ≡ r) → wide_place code q + 1 ≤ wide_place code r
-    up (k, e) = let h = place_apart code q (k + 1) in let s = ap (wide_place code) e in omega (arith, h, s)
+    up : (k : ℕ) × (q + (k + 1) ≡ r) → wide_place wide code q + 1 ≤ wide_place wide code r
+    up (k, e) = let h = place_apart wide 0 code q (k + 1) in let s = ap (wide_place wide code) e in omega (arith, h, s)
 
-widened_rise : (code : List Insn) (a b : ℕ) (frames : List FrameAt) → RiseFrom a frames
-    → ((r : ℕ) → a ≤ r → b ≤ wide_place code r) → RiseFrom b (map (widened_frame (wide_place code)) frames)
-widened_rise code a b [] r h = tt
-widened_rise code a b (f ∷ frames) r h =
-    (h f.at r.0, widened_rise code (f.at + 1) (wide_place code f.at + 1) frames r.1 (λ q le. place_grows code f.at q le))
+widened_rise : (wide : WideSet) (code : List Insn) (a b : ℕ) (frames : List FrameAt) → RiseFrom a frames
+    → ((r : ℕ) → a ≤ r → b ≤ wide_place wide code r) → RiseFrom b (map (widened_frame (wide_place wide code)) frames)
+widened_rise wide code a b [] r h = tt
+widened_rise wide code a b (f ∷ frames) r h =
+    (h f.at r.0, widened_rise wide code (f.at + 1) (wide_place wide code f.at + 1) frames r.1 (λ q le. place_grows wide code f.at q le))
 
-pub rising_widened : (code : List Insn) (frames : List FrameAt) → RiseFrom 0 frames → RiseFrom 0 (map (widened_frame (wide_place code)) frames)
-rising_widened code frames r = widened_rise code 0 0 frames r (λ q le. omega arith)
+pub rising_widened : (wide : WideSet) (code : List Insn) (frames : List FrameAt) → RiseFrom 0 frames
+    → RiseFrom 0 (map (widened_frame (wide_place wide code)) frames)
+rising_widened wide code frames r = widened_rise wide code 0 0 frames r (λ q le. omega arith)

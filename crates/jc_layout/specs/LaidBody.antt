@@ -3,7 +3,7 @@ use Rattle.std.specs.Prelude.{◌≡◌, ℕ, ◌<◌, ◌^◌, Bool, true, fals
 use Rattle.jc_bytes.specs.BigNumbers.{short}
 use Rattle.jc_methods.specs.VerificationTypes.{Names}
 use Rattle.jc_methods.specs.WellMade.{what_used}
-use Rattle.jc_methods.specs.Widened.{wide_place}
+use Rattle.jc_methods.specs.Widened.{all_wide, wide_place}
 use Rattle.jc_methods.specs.declared.insn.Insn.{Insn}
 use Rattle.jc_methods.specs.declared.body.Body.{Body}
 use Rattle.jc_methods.specs.declared.body.FrameAt.{FrameAt}
@@ -39,7 +39,7 @@ with_place call bytes = bytes
 -- where in the layout stands what stands for the instruction at a place of the emitted code
 abbrev pub laid_place : Bool → List Insn → ℕ → ℕ
 laid_place false code place = place
-laid_place true code place = wide_place code place
+laid_place true code place = wide_place all_wide code place
 
 abbrev pub placed_var : (ℕ → ℕ) → VarAt → VarAt
 placed_var place x = record { start = place x.start; end = place x.end; name = x.name; desc = x.desc; slot = x.slot }
@@ -48,7 +48,7 @@ placed_var place x = record { start = place x.start; end = place x.end; name = x
 -- the layout.
 abbrev pub laid_frames : Bool → Emitted → List FrameAt
 laid_frames false e = e.frames
-laid_frames true e = map (widened_frame (wide_place e.code)) (merged e.frames e.wide_frames)
+laid_frames true e = map (widened_frame (wide_place all_wide e.code)) (merged e.frames e.wide_frames)
 
 -- ---- the whole
 
