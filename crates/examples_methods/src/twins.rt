@@ -3,7 +3,7 @@
 #![tactic(auto, unfolding(jc_emit::specs::Emission::emission, jc_emit::specs::Items::twin_items, jc_methods::specs::Widened::widened, jc_methods::specs::Flow::inverse_of))]
 
 ghost use Rattle.std.specs.Prelude.{◌≡◌, ◌+◌, negsuc, map};
-ghost use Rattle.jc_methods.specs.Widened.{widened};
+ghost use Rattle.jc_methods.specs.Widened.{all_wide, widened};
 ghost use Rattle.jc_methods.specs.declared.insn.Insn.TheVariants as insns;
 ghost use Rattle.jc_kinds_after.specs.Shift.{with_slot};
 ghost use Rattle.jc_emit.specs.Marks.{unplaced};
@@ -32,7 +32,7 @@ pub fn worked_abs()
     ensures extra { (emission abs 0 abs_states 0).extra ≡ abs_extra }
     ensures frames { (emission abs 0 abs_states 0).frames ≡ abs_new_frames }
     ensures wide_frames { (emission abs 0 abs_states 0).wide_frames ≡ abs_wide_frames }
-    ensures wide { map (insn_of unplaced 1) (twin_items abs 0 widest) ≡ widened (map (insn_of unplaced 1) (twin_items abs 0 narrow)) }
+    ensures wide { map (insn_of unplaced 1) (twin_items abs 0 widest) ≡ widened all_wide (map (insn_of unplaced 1) (twin_items abs 0 narrow)) }
 {}
 
 /// A loop: a probe on the goto, and one on the return.
@@ -43,7 +43,7 @@ pub fn worked_counts_down()
     ensures extra { (emission counts_down 0 counts_down_states 0).extra ≡ counts_down_extra }
     ensures frames { (emission counts_down 0 counts_down_states 0).frames ≡ counts_down_new_frames }
     ensures wide_frames { (emission counts_down 0 counts_down_states 0).wide_frames ≡ counts_down_wide_frames }
-    ensures wide { map (insn_of unplaced 1) (twin_items counts_down 0 widest) ≡ widened (map (insn_of unplaced 1) (twin_items counts_down 0 narrow)) }
+    ensures wide { map (insn_of unplaced 1) (twin_items counts_down 0 widest) ≡ widened all_wide (map (insn_of unplaced 1) (twin_items counts_down 0 narrow)) }
 {}
 
 /// A jump to the next instruction: a probe on each edge.
@@ -54,7 +54,7 @@ pub fn worked_jumps_to_next()
     ensures extra { (emission jumps_to_next 0 jumps_to_next_states 0).extra ≡ jumps_to_next_extra }
     ensures frames { (emission jumps_to_next 0 jumps_to_next_states 0).frames ≡ jumps_to_next_new_frames }
     ensures wide_frames { (emission jumps_to_next 0 jumps_to_next_states 0).wide_frames ≡ jumps_to_next_wide_frames }
-    ensures wide { map (insn_of unplaced 1) (twin_items jumps_to_next 0 widest) ≡ widened (map (insn_of unplaced 1) (twin_items jumps_to_next 0 narrow)) }
+    ensures wide { map (insn_of unplaced 1) (twin_items jumps_to_next 0 widest) ≡ widened all_wide (map (insn_of unplaced 1) (twin_items jumps_to_next 0 narrow)) }
 {}
 
 /// A jump over a switch of two targets.
@@ -65,7 +65,7 @@ pub fn worked_switches()
     ensures extra { (emission switches 0 switches_states 0).extra ≡ switches_extra }
     ensures frames { (emission switches 0 switches_states 0).frames ≡ switches_new_frames }
     ensures wide_frames { (emission switches 0 switches_states 0).wide_frames ≡ switches_wide_frames }
-    ensures wide { map (insn_of unplaced 1) (twin_items switches 0 widest) ≡ widened (map (insn_of unplaced 1) (twin_items switches 0 narrow)) }
+    ensures wide { map (insn_of unplaced 1) (twin_items switches 0 widest) ≡ widened all_wide (map (insn_of unplaced 1) (twin_items switches 0 narrow)) }
 {}
 
 /// Two exception rows with one handler.
@@ -77,7 +77,7 @@ pub fn worked_catches()
     ensures handlers { (emission catches 0 catches_states 1).handlers ≡ catches_new_rows }
     ensures frames { (emission catches 0 catches_states 1).frames ≡ catches_new_frames }
     ensures wide_frames { (emission catches 0 catches_states 1).wide_frames ≡ catches_wide_frames }
-    ensures wide { map (insn_of unplaced 1) (twin_items catches 0 widest) ≡ widened (map (insn_of unplaced 1) (twin_items catches 0 narrow)) }
+    ensures wide { map (insn_of unplaced 1) (twin_items catches 0 widest) ≡ widened all_wide (map (insn_of unplaced 1) (twin_items catches 0 narrow)) }
 {}
 
 /// In the wide layout a conditional jump is its inverse over a goto, which is no image.

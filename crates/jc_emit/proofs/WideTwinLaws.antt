@@ -31,6 +31,7 @@ use Rattle.jc_emit.proofs.FrameLaws.{all_moved, landing, none_is, frames_told, s
 use Rattle.jc_emit.proofs.WideFrameLaws.{each_behind, behind_is, wide_frame}
 use Rattle.jc_emit.proofs.WidenedLaws.{W, lead_is, land_is, arm_places, inside, within_main, behind_end, main_test}
 use Rattle.jc_methods.specs.declared.insn.Flow.TheVariants as flows
+use Rattle.jc_methods.specs.Widened.{all_wide}
 use Rattle.jc_methods.proofs.WidenedLaws.{first_place}
 use Rattle.jc_bytes.proofs.BooleanLaws.{none_in}
 
@@ -90,7 +91,7 @@ module _ (b : Body) (first : ℕ) (states : List State) (array : ℕ) (names : L
       ap P place
       ∙ inside b first unplaced is_code i (probe_size (lead_probe b first i) + (probe_size (early_probe b first i) + 0)) below (omega (arith, sized b first narrow i))
       ∙ ap (λ x. lead_of b first widest i + x) (within_main b first unplaced is_code i 0)
-      ∙ omega (arith, first_place (map (insn_of unplaced b.arg_slots) (image_part b first narrow i (insn_at b.code i) (flow_of (insn_at b.code i))))))
+      ∙ omega (arith, first_place all_wide (map (insn_of unplaced b.arg_slots) (image_part b first narrow i (insn_at b.code i) (flow_of (insn_at b.code i))))))
       (λ above.
       let e : i ≡ n + (i - n) = omega arith in
       ap (λ j. P (image_of b first narrow j)) e

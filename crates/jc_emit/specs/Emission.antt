@@ -18,7 +18,7 @@ use Rattle.jc_plan.specs.Plan.{lead_probe}
 use Rattle.jc_emit.specs.Marks.{unplaced}
 use Rattle.jc_emit.specs.Shift.{probe_array_class, shifted_state, image_kind}
 use Rattle.jc_emit.specs.Sizes.{TwinForm, narrow, insn_at, late_probe, arms_at, hop_size}
-use Rattle.jc_methods.specs.Widened.{wide_place}
+use Rattle.jc_methods.specs.Widened.{all_wide, wide_place}
 use Rattle.jc_emit.specs.TwinTables.{moved_row, moved_line, moved_var}
 use Rattle.jc_emit.specs.TwinFrames.{state_at, left_by, state_behind, IsFrame, AreTwinFrames}
 use Rattle.jc_emit.specs.Items.{Item, insn_of, at_of, own_of, extra_of, lead_of, land_of, image_of, twin_items}
@@ -136,5 +136,5 @@ widened_frame place f = record { at = place f.at; state = widened_state place f.
 pub record AreWidened (e : Emitted) (frames : List FrameAt) : Type 0 where
   pub rising : RiseFrom 0 frames
   pub each : (f : FrameAt) → Contains frames f
-      → (g : FrameAt) × (Contains e.frames g ⊎ Contains e.wide_frames g) × (f ≡ widened_frame (wide_place e.code) g)
-  pub every : (g : FrameAt) → Contains e.frames g ⊎ Contains e.wide_frames g → Contains frames (widened_frame (wide_place e.code) g)
+      → (g : FrameAt) × (Contains e.frames g ⊎ Contains e.wide_frames g) × (f ≡ widened_frame (wide_place all_wide e.code) g)
+  pub every : (g : FrameAt) → Contains e.frames g ⊎ Contains e.wide_frames g → Contains frames (widened_frame (wide_place all_wide e.code) g)

@@ -3,7 +3,7 @@
 //! [`each_twin_is_seen`] is the promise of this crate; the others are steps, which the crates above cite too.
 ghost use Rattle.std.specs.Prelude.{◌≡◌, ℕ, ◌+◌, ◌<◌, ◌≤◌, List, Option, Some, None, map, length, slice_get};
 ghost use Rattle.jc_methods.specs.VerificationTypes.{Names};
-ghost use Rattle.jc_methods.specs.Widened.{widened};
+ghost use Rattle.jc_methods.specs.Widened.{all_wide, widened};
 ghost use Rattle.jc_methods.specs.WellMade.{IsCode, IsHandler, IsWellMadeOfAnySize, what_used};
 ghost use Rattle.jc_methods.specs.declared.body.Body.{Body};
 ghost use Rattle.jc_methods.specs.declared.body.FrameAt.{FrameAt};
@@ -117,7 +117,7 @@ pub fn each_emission_is_told()
 /// The wide form of a twin's code in the narrow layout is its code in the wide layout.
 pub fn each_wide_twin_is_wide()
     ensures { (b : Body) (first : ℕ) (named : TwinPlaces) → IsCode b.code
-        → widened (map (insn_of named b.arg_slots) (twin_items b first narrow)) ≡ map (insn_of named b.arg_slots) (twin_items b first widest) }
+        → widened all_wide (map (insn_of named b.arg_slots) (twin_items b first narrow)) ≡ map (insn_of named b.arg_slots) (twin_items b first widest) }
 {}
 
 /// The frames of the narrow layout and the further ones, in the wide code, are the frames of a twin in the wide layout.
