@@ -128,6 +128,7 @@ fn kind_text(kind: RefusalKind) -> &'static str
         RefusalKind::TooManyProbes => "TooManyProbes",
         RefusalKind::PoolFull => "PoolFull",
         RefusalKind::MembersFull => "MembersFull",
+        RefusalKind::BadBootstraps => "BadBootstraps",
         RefusalKind::LocalsFull => "LocalsFull",
         RefusalKind::StackFull => "StackFull",
         RefusalKind::CodeTooLarge => "CodeTooLarge",
