@@ -6,6 +6,7 @@ pub mod OrderLaws
 pub mod ItemLaws
 pub mod FormLaws
 pub mod TablesLaws
+pub mod ComputedLaws
 pub mod StandingLaws
 pub mod CodedLaws
 pub mod FaultLaws

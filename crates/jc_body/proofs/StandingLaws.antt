@@ -14,10 +14,11 @@ use Rattle.jc_bytes.specs.Descriptor.{IsFieldDescriptor, IsMethodDescriptor}
 use Rattle.jc_methods.specs.Flow.{FallsThrough, flow_of, targets_of}
 use Rattle.jc_methods.specs.InsnUse.{pool_place, IsField, IsMethod, IsCall, IsClass, IsOfTwoSlots, IsOneSlotConstant, IsTwoSlotConstant, IsMemberFor, Suits, LocalsWithin, LeadsWithin, locals_of}
 use Rattle.jc_bytes.proofs.DecidingLaws.{field_text_decided, method_text_decided}
-use Rattle.jc_pool.specs.Lookup.{Member, member_of, class_name_of, const_of}
+use Rattle.jc_pool.specs.Lookup.{Member, member_of, Computed, computed_of, class_name_of, const_of}
+use Rattle.jc_body.proofs.ComputedLaws.{linked_by, computed_member}
 use Rattle.jc_pool.specs.Pool.{PoolValue}
 use Rattle.jc_pool.specs.declared.constant.ConstText.{ConstText}
-use Rattle.jc_body.specs.Standing.{Found, of_member, found_in, found_at, StandsAt, what_of, what_at, TagSuits, Meets, FoundSuits, EntrySuits, PlaceSuits, HasRightEntry}
+use Rattle.jc_body.specs.Standing.{Found, of_computed, of_member, found_in, found_at, StandsAt, what_of, what_at, TagSuits, Meets, FoundSuits, EntrySuits, PlaceSuits, HasRightEntry}
 use Rattle.jc_body.specs.Faults.{IsAstray}
 use Rattle.jc_body.proofs.DecidedLaws.{Decided, both_or_not, either_or_not, if_or_not, not_or_not, by_test, within_or_not, below_or_not, all_or_not}
 
@@ -26,18 +27,39 @@ use Rattle.jc_body.proofs.DecidedLaws.{Decided, both_or_not, either_or_not, if_o
 -- the member that stands at a place is the one that its entry names
 member_there : (pool : PoolValue) (place : ℕ) (m : Member) → StandsAt pool place (of_member m) → member_of pool place ≡ Some m
 unfolding found_at
-member_there pool place m is = by (member_of pool place) (class_name_of pool place) (const_of pool place) is
+member_there pool place m is = by (computed_of pool place) (member_of pool place) (class_name_of pool place) (const_of pool place) is
   where
-    by : (there : Option Member) (class : Option (List ℕ)) (constant : Option ConstText) → found_in there class constant ≡ Some (of_member m) → there ≡ Some m
-    by (Some other) class constant is = let same : other ≡ m = cc in ap Some same
-    by None (Some name) constant is = absurd cc
-    by None None (Some c) is = absurd cc
-    by None None None is = absurd cc
+    by : (computed : Option Computed) (there : Option Member) (class : Option (List ℕ)) (constant : Option ConstText)
+        → found_in computed there class constant ≡ Some (of_member m) → there ≡ Some m
+    by (Some other) there class constant is = absurd cc
+    by None (Some other) class constant is = let same : other ≡ m = cc in ap Some same
+    by None None (Some name) constant is = absurd cc
+    by None None None (Some c) is = absurd cc
+    by None None None None is = absurd cc
+
+-- the computed constant that stands at a place is the one that its entry names
+computed_there : (pool : PoolValue) (place : ℕ) (c : Computed) → StandsAt pool place (of_computed c) → computed_of pool place ≡ Some c
+unfolding found_at
+computed_there pool place c is = by (computed_of pool place) (member_of pool place) (class_name_of pool place) (const_of pool place) is
+  where
+    by : (computed : Option Computed) (there : Option Member) (class : Option (List ℕ)) (constant : Option ConstText)
+        → found_in computed there class constant ≡ Some (of_computed c) → computed ≡ Some c
+    by (Some other) there class constant is = let same : other ≡ c = cc in ap Some same
+    by None (Some m) class constant is = absurd cc
+    by None None (Some name) constant is = absurd cc
+    by None None None (Some k) is = absurd cc
+    by None None None None is = absurd cc
 
 -- what the pool answers of the member at a place holds of the member that stands there
 pub of_member_there : (pool : PoolValue) (place : ℕ) (m : Member) (Fact : Member → Type 0) (answer : Bool) → IsTrue answer ↔ IsSomeAnd (member_of pool place) Fact
     → StandsAt pool place (of_member m) → IsTrue answer ↔ Fact m
 of_member_there pool place m Fact answer a is = subst (λ (there : Option Member). IsTrue answer ↔ IsSomeAnd there Fact) (member_there pool place m is) a
+
+-- and what it answers of the member holds of a computed constant with its descriptor
+pub of_computed_there : (pool : PoolValue) (place : ℕ) (c : Computed) (Fact : Member → Type 0) (answer : Bool)
+    → IsTrue answer ↔ IsSomeAnd (member_of pool place) Fact → StandsAt pool place (of_computed c) → IsTrue answer ↔ Fact (linked_by 17 c.signed)
+of_computed_there pool place c Fact answer a is =
+    subst (λ (there : Option Member). IsTrue answer ↔ IsSomeAnd there Fact) (computed_member pool place c (computed_there pool place c is)) a
 
 field_text_or_not : (desc : List ℕ) → Decided (IsFieldDescriptor desc)
 field_text_or_not desc = by_test (is_field_text desc) (IsFieldDescriptor desc) (field_text_decided desc)
@@ -86,13 +108,14 @@ one_slot_or_not whats.Text = inl tt
 one_slot_or_not whats.Handle = inl tt
 one_slot_or_not whats.MethodKind = inl tt
 one_slot_or_not (whats.Class name) = inl tt
-one_slot_or_not (whats.Computed desc) = both_or_not (IsFieldDescriptor desc) (IsOfTwoSlots desc → ⊥) (field_text_or_not desc) (not_or_not (IsOfTwoSlots desc) (two_slots_or_not desc))
+one_slot_or_not (whats.Computed name desc bootstrap) =
+    both_or_not (IsFieldDescriptor desc) (IsOfTwoSlots desc → ⊥) (field_text_or_not desc) (not_or_not (IsOfTwoSlots desc) (two_slots_or_not desc))
 one_slot_or_not _ = never
 
 two_slot_or_not : (what : What) → Decided (IsTwoSlotConstant what)
 two_slot_or_not (whats.Long value) = inl tt
 two_slot_or_not whats.Double = inl tt
-two_slot_or_not (whats.Computed desc) = two_slots_or_not desc
+two_slot_or_not (whats.Computed name desc bootstrap) = two_slots_or_not desc
 two_slot_or_not _ = never
 
 member_or_not : (op : ℕ) (what : What) → Decided (IsMemberFor op what)

@@ -15,7 +15,8 @@ use Rattle.jc_methods.specs.declared.body.What.TheVariants as whats
 use Rattle.jc_methods.specs.declared.insn.Insn.{Insn}
 use Rattle.jc_pool.specs.declared.entry.Entry.{Entry}
 use Rattle.jc_pool.specs.declared.entry.Entry.TheVariants as entry
-use Rattle.jc_pool.specs.Lookup.{entry_of, utf8_of, class_in, class_name_of, member_in, member_of, const_of}
+use Rattle.jc_pool.specs.Lookup.{entry_of, utf8_of, class_in, class_name_of, member_in, member_of, computed_of, const_of}
+use Rattle.jc_body.proofs.ComputedLaws.{none_computed}
 use Rattle.jc_pool.specs.Pool.{PoolValue}
 use Rattle.jc_class.specs.declared.class_file.ClassFile.{ClassFile}
 use Rattle.jc_class.specs.declared.class_file.Member.{Member}
@@ -125,7 +126,10 @@ class_no_member pool place name is = by (entry_of pool place) is
 
 class_stands : (pool : PoolValue) (place : ℕ) (name : List ℕ) → class_name_of pool place ≡ Some name → what_at pool place ≡ Some (whats.Class name)
 unfolding found_at
-class_stands pool place name is = λ i. option_and_then what_of (found_in (class_no_member pool place name is i) (is i) (const_of pool place))
+class_stands pool place name is =
+    let no_member = class_no_member pool place name is in
+    let no_computed : computed_of pool place ≡ None = none_computed pool place no_member in
+    λ i. option_and_then what_of (found_in (no_computed i) (no_member i) (is i) (const_of pool place))
 
 module _ (c : ClassFile) (coded : Coded) (uses : List Use) (are : AreUsesOf c.pool (places_used coded.insns coded.items.rows) uses) where
   row_use : (row : Row) → Contains coded.items.rows row → IsClassOrNone c.pool row.class → row.class ≢ 0 → HasUse uses row.class IsClass

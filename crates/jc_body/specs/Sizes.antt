@@ -4,10 +4,11 @@ use Rattle.jc_bytes.specs.Texts.{IsShortText}
 use Rattle.jc_methods.specs.WellMade.{HasSizes, HasShortTexts}
 use Rattle.jc_methods.specs.declared.body.Body.{Body}
 use Rattle.jc_pool.specs.Lookup as members
-use Rattle.jc_body.specs.Standing.{Found, of_member, of_class, of_constant}
+use Rattle.jc_body.specs.Standing.{Found, of_computed, of_member, of_class, of_constant}
 
 -- the texts of what stands at a place fit into entries of the pool
 abbrev pub IsOfShortTexts : Found → Type 0
+IsOfShortTexts (of_computed c) = IsShortText c.signed.name × IsShortText c.signed.desc
 IsOfShortTexts (of_member m) = members.HasShortTexts m
 IsOfShortTexts (of_class name) = IsShortText name
 IsOfShortTexts (of_constant c) = ⊤

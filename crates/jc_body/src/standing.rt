@@ -1,12 +1,13 @@
 //! What stands at the places in the pool that a body uses (JVM Specification 4.4, 4.9.1).
 ghost use Rattle.std.specs.Prelude.{◌≡◌, ◌↔◌, IfOk, IfSome, IsTrue, Some, option_map};
 ghost use Rattle.jc_bytes.specs.Descriptor.{IsFieldDescriptor, IsMethodDescriptor};
+ghost use Rattle.jc_bytes.specs.Texts.{IsShortText};
 ghost use Rattle.jc_methods.specs.WellMade.{HasShortTexts};
 ghost use Rattle.jc_methods.specs.InsnUse.{IsOfTwoSlots, IsOneSlotConstant, IsTwoSlotConstant, IsMemberFor};
-ghost use Rattle.jc_pool.specs.Lookup.{member};
-ghost use Rattle.jc_body.specs.Standing.{of_member, found_at, what_of_member, what_of_constant, what_of};
+ghost use Rattle.jc_pool.specs.Lookup.{member, computed_of};
+ghost use Rattle.jc_body.specs.Standing.{of_computed, of_member, found_at, what_of_member, what_of_constant, what_of};
 ghost use Rattle.jc_body.specs.Standing.{what_at, StandsAt, SuitsInterface, Meets, FoundSuits, HasRightEntry};
-ghost use Rattle.jc_body.specs.FoundView.{found};
+ghost use Rattle.jc_body.specs.FoundView.{computed, found};
 ghost use Rattle.jc_body.specs.Sizes.{IsOfShortTexts};
 ghost use Rattle.jc_pool.specs.Lookup as MemberTexts;
 
@@ -15,15 +16,48 @@ use jc_methods::{Insn, What, opcode};
 use jc_pool::{ConstText, MemberText, Pool};
 use std::alloc::Global;
 
+/// A constant that is computed when it is first used, by a bootstrap method of the class.
+#[derive(Clone, Copy, Debug, PartialEq, Eq)]
+pub struct ComputedText<'a> {
+    /// Its name.
+    pub name: &'a [u8],
+    /// Its descriptor.
+    pub desc: &'a [u8],
+    /// The number of the bootstrap method.
+    pub bootstrap: u16,
+}
+
 /// What stands at a place.
 #[derive(Clone, Copy, Debug, PartialEq, Eq)]
 pub enum Standing<'a> {
-    /// A field, a method, or a constant or a call that is linked at run time.
+    /// A constant that is computed when it is first used.
+    Computed(ComputedText<'a>),
+    /// A field, a method, or a call that is linked at run time.
     Member(MemberText<'a>),
     /// A class, by its name.
     Class(&'a [u8]),
     /// Another constant.
     Constant(ConstText),
+}
+
+/// The computed constant at a place, if its name and its descriptor stand there too. No entry but that of a computed
+/// constant or of a call has a bootstrap method, so other members aren't looked at.
+#[tactic(auto, using(crate::proofs::ComputedLaws::none_computed, crate::proofs::ComputedLaws::not_computed, crate::proofs::ComputedLaws::not_bootstrapped, crate::proofs::ComputedLaws::computed_is))]
+fn computed_at(pool: &Pool, place: u16) -> Option<ComputedText<'_>>
+    ensures stands { option_map computed result ≡ computed_of pool.now place }
+    ensures short { IfSome result (λ c. IsShortText c.name.now × IsShortText c.desc.now) }
+{
+    let Ok(bootstrap) = pool.bootstrap_at(place) else {
+        return None;
+    };
+    match pool.member_at(place) {
+        Ok(m) if m.tag == 17 => Some(ComputedText {
+            name: m.name,
+            desc: m.desc,
+            bootstrap,
+        }),
+        _ => None,
+    }
 }
 
 /// What stands at a place, if all that its entry names stands there too.
@@ -32,6 +66,9 @@ fn standing_at(pool: &Pool, place: u16) -> Option<Standing<'_>>
     ensures stands { option_map found result ≡ found_at pool.now place }
     ensures short { IfSome result (λ standing. IsOfShortTexts (found standing)) }
 {
+    if let Some(constant) = computed_at(pool, place) {
+        return Some(Standing::Computed(constant));
+    }
     if let Ok(member) = pool.member_at(place) {
         return Some(Standing::Member(member));
     }
@@ -55,7 +92,6 @@ fn what_of_member(alloc: Global, m: &MemberText<'_>) -> Result<What, Memory>
     let desc = Bytes::copy_of(alloc, m.desc)?;
     Ok(match m.tag {
         9 => What::Field { class, name, desc },
-        17 => What::Computed { desc },
         18 => What::Call { name, desc },
         _ => What::Method { class, name, desc },
     })
@@ -89,6 +125,11 @@ pub fn what_at(alloc: Global, pool: &Pool, place: u16) -> Result<Option<What>, M
 {
     match standing_at(pool, place) {
         None => Ok(None),
+        Some(Standing::Computed(constant)) => Ok(Some(What::Computed {
+            name: Bytes::copy_of(alloc, constant.name)?,
+            desc: Bytes::copy_of(alloc, constant.desc)?,
+            bootstrap: constant.bootstrap,
+        })),
         Some(Standing::Member(member)) => Ok(Some(what_of_member(alloc, &member)?)),
         Some(Standing::Class(name)) => Ok(Some(What::Class(Bytes::copy_of(alloc, name)?))),
         Some(Standing::Constant(constant)) => Ok(what_of_constant(constant)),
@@ -100,6 +141,14 @@ fn is_of_two_slots(desc: &[u8]) -> bool
     ensures { IsTrue result ↔ IsOfTwoSlots desc.now }
 {
     matches!(desc, [b'J' | b'D'])
+}
+
+/// Whether the computed constant that stands at the place has the descriptor of a field.
+fn has_value_descriptor(pool: &Pool, place: u16, c: &ComputedText<'_>) -> bool
+    requires { StandsAt pool.now place (of_computed (computed c.now)) }
+    ensures { IsTrue result ↔ IsFieldDescriptor c.now.desc.now }
+{
+    pool.has_field_descriptor(place)
 }
 
 /// Whether the member that stands at the place has the descriptor of a field.
@@ -124,10 +173,8 @@ fn is_one_slot_constant(pool: &Pool, place: u16, standing: &Standing<'_>) -> boo
     ensures { IsTrue result ↔ Meets IsOneSlotConstant (what_of (found standing.now)) }
 {
     match standing {
-        Standing::Member(m) => {
-            let computed = m.tag == 17 && !is_of_two_slots(m.desc);
-            computed && has_field_descriptor(pool, place, m)
-        }
+        Standing::Computed(c) => !is_of_two_slots(c.desc) && has_value_descriptor(pool, place, c),
+        Standing::Member(_) => false,
         Standing::Class(_) => true,
         Standing::Constant(constant) => matches!(
             constant,
@@ -145,8 +192,8 @@ fn is_two_slot_constant(standing: &Standing<'_>) -> bool
     ensures { IsTrue result ↔ Meets IsTwoSlotConstant (what_of (found standing.now)) }
 {
     match standing {
-        Standing::Member(m) => m.tag == 17 && is_of_two_slots(m.desc),
-        Standing::Class(_) => false,
+        Standing::Computed(c) => is_of_two_slots(c.desc),
+        Standing::Member(_) | Standing::Class(_) => false,
         Standing::Constant(constant) => matches!(constant, ConstText::Long(_) | ConstText::Double),
     }
 }
@@ -160,7 +207,7 @@ fn is_member_for(major: u16, op: u8, pool: &Pool, place: u16, m: &MemberText<'_>
     match m.tag {
         9 => op <= opcode::PUTFIELD && has_field_descriptor(pool, place, m),
         11 => op >= opcode::INVOKESPECIAL && (major >= 52 && has_method_descriptor(pool, place, m)),
-        17 | 18 => false,
+        18 => false,
         _ => op > opcode::PUTFIELD && has_method_descriptor(pool, place, m),
     }
 }

@@ -28,7 +28,7 @@ fn text_bytes(what: &What) -> usize {
             .saturating_add(desc.len()),
         What::Call { name, desc } => name.len().saturating_add(desc.len()),
         What::Class(name) => name.len(),
-        What::Computed { desc } => desc.len(),
+        What::Computed { name, desc, .. } => name.len().saturating_add(desc.len()),
         _ => 0,
     }
 }

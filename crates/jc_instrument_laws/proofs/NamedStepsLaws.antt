@@ -310,7 +310,7 @@ UseNamed (whats.Field class name desc) = IsText desc
 UseNamed (whats.Method class name desc) = IsText desc
 UseNamed (whats.Call name desc) = IsText desc
 UseNamed (whats.Class name) = IsText name
-UseNamed (whats.Computed desc) = IsText desc
+UseNamed (whats.Computed name desc bootstrap) = IsText desc
 UseNamed what = Unit {0}
 
 if_named : (t : Bool) (x y : Step) → StepNamed x → StepNamed y → StepNamed (if t then x else y)
@@ -359,7 +359,7 @@ computed_named desc t is =
     ((type_named is.0 (subst IsText is.1.spelled t), tt), tt)
 
 abbrev IsDescribed : What → Type 0
-IsDescribed (whats.Computed desc) = IsFieldDescriptor desc
+IsDescribed (whats.Computed name desc bootstrap) = IsFieldDescriptor desc
 IsDescribed what = Unit {0}
 
 constant_named : (what : What) → UseNamed what → IsDescribed what → StepNamed (constant_step (Some what))
@@ -371,15 +371,15 @@ constant_named whats.Text t is = ((record { short = omega arith; are = bytes_by 
 constant_named (whats.Class name) t is = ((record { short = omega arith; are = bytes_by (codes "java/lang/Class") refl }, tt), tt)
 constant_named whats.MethodKind t is = ((record { short = omega arith; are = bytes_by (codes "java/lang/invoke/MethodType") refl }, tt), tt)
 constant_named whats.Handle t is = ((record { short = omega arith; are = bytes_by (codes "java/lang/invoke/MethodHandle") refl }, tt), tt)
-constant_named (whats.Computed desc) t is = computed_named desc t is
+constant_named (whats.Computed name desc bootstrap) t is = computed_named desc t is
 constant_named other t is = tt
 
 one_slot_described : (what : What) → IsOneSlotConstant what → IsDescribed what
-one_slot_described (whats.Computed desc) is = is.0
+one_slot_described (whats.Computed name desc bootstrap) is = is.0
 one_slot_described what is = tt
 
 wide_described : (what : What) → IsTwoSlotConstant what → IsDescribed what
-wide_described (whats.Computed desc) is = two_slots_described desc is
+wide_described (whats.Computed name desc bootstrap) is = two_slots_described desc is
 wide_described what is = tt
 
 array_bytes : (name : List ℕ) → AreBytes name → AreBytes (array_of name)

@@ -87,7 +87,7 @@ use_named (whats.Field class name desc) short are = record { short = short.2; ar
 use_named (whats.Method class name desc) short are = record { short = short.2; are = are }
 use_named (whats.Call name desc) short are = record { short = short.1; are = are }
 use_named (whats.Class name) short are = record { short = short; are = are }
-use_named (whats.Computed desc) short are = record { short = short; are = are }
+use_named (whats.Computed name desc bootstrap) short are = record { short = short.1; are = are }
 use_named what short are = tt
 
 short_used : (uses : List Use) → AllByRecursion (λ u. HasShortTexts u.what) uses → (place : ℕ) (what : What) → what_used uses place ≡ Some what

@@ -114,11 +114,11 @@ module _ (twin : ClassFile) (owner : List ℕ) (id : ℤ) (count : ℕ) (p : Add
   right_where insn place found is suits = subst (EntrySuits twin.major insn) (sym is) suits
 
   field_right : (op : ℕ) → op ≤ 181 → Right (insns.Member op p.field)
-  field_right op le = right_where (insns.Member op p.field) p.field (of_member (data_field owner)) (member_found_at twin.pool p.field (data_field owner) w.field_is)
+  field_right op le = right_where (insns.Member op p.field) p.field (of_member (data_field owner)) (member_found_at twin.pool p.field (data_field owner) w.field_is (λ e. omega (arith, e)))
       (record { kind = inl (le, data_described); tag = λ e. absurd (omega (arith, e)) })
 
   fetch_right : Right (insns.Member opcode.invokestatic p.fetch)
-  fetch_right = right_where (insns.Member opcode.invokestatic p.fetch) p.fetch (of_member fetch_method) (member_found_at twin.pool p.fetch fetch_method w.fetch_is)
+  fetch_right = right_where (insns.Member opcode.invokestatic p.fetch) p.fetch (of_member fetch_method) (member_found_at twin.pool p.fetch fetch_method w.fetch_is (λ e. omega (arith, e)))
       (record { kind = inr (omega arith, fetch_described); tag = λ e. absurd (omega (arith, e)) })
 
   id_right : Right (insns.Constant2 p.id)
@@ -331,11 +331,11 @@ module _ (twin : ClassFile) (owner : List ℕ) (id : ℤ) (count : ℕ) (p : Add
     kind_vars = refl;
     frames = record { frame = _; single = refl; at = refl; state = refl };
     field_is = use_there 0 p.field (insns.Member opcode.getstatic p.field) (of_member (data_field owner)) (whats.Field owner data_name data_type) refl refl
-        (member_found_at twin.pool p.field (data_field owner) w.field_is) refl;
+        (member_found_at twin.pool p.field (data_field owner) w.field_is (λ e. omega (arith, e))) refl;
     id_is = use_there 4 p.id (insns.Constant2 p.id) (of_constant (constants.Long id)) (whats.Long id) refl refl (long_found_at twin.pool p.id id w.id_is) refl;
     name_is = use_there 5 p.name (insns.Constant p.name) (of_constant constants.Text) whats.Text refl refl (string_found_at twin.pool p.name owner w.name_is) refl;
     fetch_is = use_there 7 p.fetch (insns.Member opcode.invokestatic p.fetch) (of_member fetch_method) (whats.Method runtime_class fetch_name fetch_type) refl refl
-        (member_found_at twin.pool p.fetch fetch_method w.fetch_is) refl;
+        (member_found_at twin.pool p.fetch fetch_method w.fetch_is (λ e. omega (arith, e))) refl;
   }
 
   pub init_checked : (number : ℕ) → Checked init_names (init_body number)

@@ -1,5 +1,6 @@
 -- What stands in a constant pool stands there still when the pool has grown.
 use Rattle.std.proofs.Common.{◌≡◌, inr, ℕ, ℤ, List, [], Option, Some, None, refl, sym, ◌∙◌, ap, subst, arith, option_and_then}
+use Rattle.std.specs.Option.{option_map}
 use Rattle.std.proofs.lemmas.Option.{none-some, same_Some}
 use Rattle.jc_bytes.proofs.DecoderLaws.{bind_some}
 use Rattle.jc_bytes.specs.Decoder.{◌>>=◌}
@@ -12,12 +13,13 @@ use Rattle.jc_pool.specs.declared.constant.ConstText.TheVariants as constants
 use Rattle.jc_pool.specs.declared.entry.Entry.{Entry}
 use Rattle.jc_pool.specs.declared.entry.Entry.TheVariants as entry
 use Rattle.jc_pool.specs.Adding.{Extends}
-use Rattle.jc_pool.specs.Lookup.{entry_of, long_in, long_of, string_of, utf8_of, class_in, class_name_of, Signature, signature_of, Member, dynamic_of, ref_in, reference_of, member_in, member_of, where_named, const_in, const_of}
+use Rattle.jc_pool.specs.Lookup.{entry_of, long_in, long_of, string_of, utf8_of, class_in, class_name_of, Signature, signature_of, Member, dynamic_of, ref_in, reference_of, member_in, member_of, computed_in, computed_of, where_named, const_in, const_of}
 use Rattle.jc_pool.specs.Pool.{PoolValue}
 use Rattle.jc_pool.specs.declared.index.Naming.TheVariants as naming
 use Rattle.jc_pool.proofs.KeyPlaceLaws.{has_name}
 use Rattle.jc_pool.proofs.AddedLaws.{entry_kept, utf8_kept}
-use Rattle.jc_pool.proofs.AddedMemberLaws.{member_kept}
+use Rattle.jc_pool.proofs.AddedMemberLaws.{signature_kept, member_kept}
+use Rattle.jc_body.proofs.ComputedLaws.{linked_by, computed_by, not_computed}
 use Rattle.jc_body.specs.Standing.{Found, of_member, of_constant, found_in, found_at, what_of, what_at, EntrySuits, PlaceSuits, HasRightEntry}
 use Rattle.jc_methods.specs.ProbeMembers.{init_type}
 use Rattle.jc_emit.specs.Marks.{invokestatic}
@@ -28,17 +30,17 @@ use Rattle.jc_instrument_reread.specs.Written.{init_method}
 
 -- what an entry stands for
 abbrev found_by : PoolValue → Entry → Option Found
-found_by pool e = found_in (member_in pool e) (class_in e >>= λ name. utf8_of pool name) (const_in pool e)
+found_by pool e = found_in (computed_in pool e) (member_in pool e) (class_in e >>= λ name. utf8_of pool name) (const_in pool e)
 
 found_is : (pool : PoolValue) (place : ℕ) (e : Entry) → entry_of pool place ≡ Some e → found_at pool place ≡ found_by pool e
-unfolding found_at member_of class_name_of const_of
+unfolding found_at computed_of member_of class_name_of const_of
 found_is pool place e is =
-    ap (λ (o : Option Entry). found_in (o >>= member_in pool) (o >>= λ x. class_in x >>= λ name. utf8_of pool name) (o >>= const_in pool)) is
+    ap (λ (o : Option Entry). found_in (o >>= computed_in pool) (o >>= member_in pool) (o >>= λ x. class_in x >>= λ name. utf8_of pool name) (o >>= const_in pool)) is
 
 found_none : (pool : PoolValue) (place : ℕ) → entry_of pool place ≡ None → found_at pool place ≡ None
-unfolding found_at member_of class_name_of const_of
+unfolding found_at computed_of member_of class_name_of const_of
 found_none pool place is =
-    ap (λ (o : Option Entry). found_in (o >>= member_in pool) (o >>= λ x. class_in x >>= λ name. utf8_of pool name) (o >>= const_in pool)) is
+    ap (λ (o : Option Entry). found_in (o >>= computed_in pool) (o >>= member_in pool) (o >>= λ x. class_in x >>= λ name. utf8_of pool name) (o >>= const_in pool)) is
 
 member_is : (pool : PoolValue) (place : ℕ) (e : Entry) → entry_of pool place ≡ Some e → member_of pool place ≡ member_in pool e
 unfolding member_of
@@ -75,59 +77,55 @@ module _ (old new : PoolValue) (more : Extends old new) where
 
   -- ---- what is found
 
-  member_found : (e : Entry) (place : ℕ) (found : Found) → entry_of old place ≡ Some e → found_in (member_in old e) None None ≡ Some found
-      → found_in (member_in new e) None None ≡ Some found
+  member_found : (e : Entry) (place : ℕ) (found : Found) → entry_of old place ≡ Some e → found_in None (member_in old e) None None ≡ Some found
+      → found_in None (member_in new e) None None ≡ Some found
   member_found e place found at is = by (member_in old e) refl is
     where
-      by : (o : Option Member) → member_in old e ≡ o → found_in o None None ≡ Some found → found_in (member_in new e) None None ≡ Some found
+      by : (o : Option Member) → member_in old e ≡ o → found_in None o None None ≡ Some found → found_in None (member_in new e) None None ≡ Some found
       by None there h = absurd (none-some found h)
-      by (Some m) there h = ap (λ (o : Option Member). found_in o None None) (in_kept e place m at there) ∙ h
+      by (Some m) there h = ap (λ (o : Option Member). found_in None o None None) (in_kept e place m at there) ∙ h
 
-  text_found : (c : ConstText) (text : ℕ) (found : Found) → found_in None None (where_named c (utf8_of old text)) ≡ Some found
-      → found_in None None (where_named c (utf8_of new text)) ≡ Some found
+  text_found : (c : ConstText) (text : ℕ) (found : Found) → found_in None None None (where_named c (utf8_of old text)) ≡ Some found
+      → found_in None None None (where_named c (utf8_of new text)) ≡ Some found
   text_found c text found is = by (utf8_of old text) refl is
     where
-      by : (o : Option (List ℕ)) → utf8_of old text ≡ o → found_in None None (where_named c o) ≡ Some found
-          → found_in None None (where_named c (utf8_of new text)) ≡ Some found
+      by : (o : Option (List ℕ)) → utf8_of old text ≡ o → found_in None None None (where_named c o) ≡ Some found
+          → found_in None None None (where_named c (utf8_of new text)) ≡ Some found
       by None there h = absurd (none-some found h)
-      by (Some t) there h = ap (λ (o : Option (List ℕ)). found_in None None (where_named c o)) (utf8_kept old new t text more there) ∙ h
+      by (Some t) there h = ap (λ (o : Option (List ℕ)). found_in None None None (where_named c o)) (utf8_kept old new t text more there) ∙ h
 
-  class_found : (name : ℕ) (found : Found) → found_in None (utf8_of old name) (where_named constants.Class (utf8_of old name)) ≡ Some found
-      → found_in None (utf8_of new name) (where_named constants.Class (utf8_of new name)) ≡ Some found
+  class_found : (name : ℕ) (found : Found) → found_in None None (utf8_of old name) (where_named constants.Class (utf8_of old name)) ≡ Some found
+      → found_in None None (utf8_of new name) (where_named constants.Class (utf8_of new name)) ≡ Some found
   class_found name found is = by (utf8_of old name) refl is
     where
-      by : (o : Option (List ℕ)) → utf8_of old name ≡ o → found_in None o (where_named constants.Class o) ≡ Some found
-          → found_in None (utf8_of new name) (where_named constants.Class (utf8_of new name)) ≡ Some found
+      by : (o : Option (List ℕ)) → utf8_of old name ≡ o → found_in None None o (where_named constants.Class o) ≡ Some found
+          → found_in None None (utf8_of new name) (where_named constants.Class (utf8_of new name)) ≡ Some found
       by None there h = absurd (none-some found h)
       by (Some t) there h =
-          ap (λ (o : Option (List ℕ)). found_in None o (where_named constants.Class o)) (utf8_kept old new t name more there) ∙ h
+          ap (λ (o : Option (List ℕ)). found_in None None o (where_named constants.Class o)) (utf8_kept old new t name more there) ∙ h
 
-  handle_found : (reference : ℕ) (found : Found) → found_in None None (where_named constants.Handle (reference_of old reference)) ≡ Some found
-      → found_in None None (where_named constants.Handle (reference_of new reference)) ≡ Some found
+  handle_found : (reference : ℕ) (found : Found) → found_in None None None (where_named constants.Handle (reference_of old reference)) ≡ Some found
+      → found_in None None None (where_named constants.Handle (reference_of new reference)) ≡ Some found
   handle_found reference found is = by (reference_of old reference) refl is
     where
-      by : (o : Option Member) → reference_of old reference ≡ o → found_in None None (where_named constants.Handle o) ≡ Some found
-          → found_in None None (where_named constants.Handle (reference_of new reference)) ≡ Some found
+      by : (o : Option Member) → reference_of old reference ≡ o → found_in None None None (where_named constants.Handle o) ≡ Some found
+          → found_in None None None (where_named constants.Handle (reference_of new reference)) ≡ Some found
       by None there h = absurd (none-some found h)
-      by (Some m) there h = ap (λ (o : Option Member). found_in None None (where_named constants.Handle o)) (reference_kept reference m there) ∙ h
+      by (Some m) there h = ap (λ (o : Option Member). found_in None None None (where_named constants.Handle o)) (reference_kept reference m there) ∙ h
 
-  computed_found : (bootstrap sig place : ℕ) (found : Found) → entry_of old place ≡ Some (entry.Dynamic bootstrap sig)
-      → found_in (dynamic_of old 17 sig) None (where_named constants.Computed (signature_of old sig)) ≡ Some found
-      → found_in (dynamic_of new 17 sig) None (where_named constants.Computed (signature_of new sig)) ≡ Some found
+  computed_found : (bootstrap sig : ℕ) (found : Found) → found_by old (entry.Dynamic bootstrap sig) ≡ Some found
+      → found_by new (entry.Dynamic bootstrap sig) ≡ Some found
   unfolding dynamic_of
-  computed_found bootstrap sig place found at is = by (dynamic_of old 17 sig) refl is
+  computed_found bootstrap sig found is = by (signature_of old sig) refl is
     where
-      unnamed : (s : Option Signature) → signature_of old sig ≡ s → dynamic_of old 17 sig ≡ None → found_in None None (where_named constants.Computed s) ≡ Some found → ⊥
-      unnamed None there none h = none-some found h
-      unnamed (Some s) there none h =
-          none-some (record { tag = 17; class = []; name = s.name; desc = s.desc })
-          (sym none ∙ ap (λ (o : Option Signature). o >>= λ s. Some (record { tag = 17; class = []; name = s.name; desc = s.desc })) there)
-
-      by : (o : Option Member) → dynamic_of old 17 sig ≡ o → found_in o None (where_named constants.Computed (signature_of old sig)) ≡ Some found
-          → found_in (dynamic_of new 17 sig) None (where_named constants.Computed (signature_of new sig)) ≡ Some found
-      by None there h = absurd (unnamed (signature_of old sig) refl there h)
-      by (Some m) there h =
-          ap (λ (o : Option Member). found_in o None (where_named constants.Computed (signature_of new sig))) (in_kept (entry.Dynamic bootstrap sig) place m at there) ∙ h
+      by : (o : Option Signature) → signature_of old sig ≡ o
+          → found_in (option_map (computed_by bootstrap) o) (o >>= λ s. Some (linked_by 17 s)) None (where_named constants.Computed o) ≡ Some found
+          → found_by new (entry.Dynamic bootstrap sig) ≡ Some found
+      by None there h = absurd (none-some found h)
+      by (Some s) there h =
+          ap (λ (o : Option Signature). found_in (option_map (computed_by bootstrap) o) (o >>= λ s. Some (linked_by 17 s)) None (where_named constants.Computed o))
+          (signature_kept old new s sig more there)
+          ∙ h
 
   entry_found : (e : Entry) (place : ℕ) (found : Found) → entry_of old place ≡ Some e → found_by old e ≡ Some found → found_by new e ≡ Some found
   entry_found (entry.Utf8 text) place found at is = absurd (none-some found is)
@@ -143,7 +141,7 @@ module _ (old new : PoolValue) (more : Extends old new) where
   entry_found (entry.NameAndType name desc) place found at is = absurd (none-some found is)
   entry_found (entry.MethodHandle kind reference) place found at is = handle_found reference found is
   entry_found (entry.MethodType desc) place found at is = text_found constants.MethodKind desc found is
-  entry_found (entry.Dynamic bootstrap sig) place found at is = computed_found bootstrap sig place found at is
+  entry_found (entry.Dynamic bootstrap sig) place found at is = computed_found bootstrap sig found is
   entry_found (entry.InvokeDynamic bootstrap sig) place found at is = member_found (entry.InvokeDynamic bootstrap sig) place found at is
   entry_found (entry.Module name) place found at is = absurd (none-some found is)
   entry_found (entry.Package name) place found at is = absurd (none-some found is)
@@ -178,9 +176,11 @@ module _ (old new : PoolValue) (more : Extends old new) where
 
 -- ---- members and constants
 
-pub member_found_at : (pool : PoolValue) (place : ℕ) (m : Member) → member_of pool place ≡ Some m → found_at pool place ≡ Some (of_member m)
+pub member_found_at : (pool : PoolValue) (place : ℕ) (m : Member) → member_of pool place ≡ Some m → (m.tag ≡ 17 → ⊥)
+    → found_at pool place ≡ Some (of_member m)
 unfolding found_at
-member_found_at pool place m is = ap (λ (o : Option Member). found_in o (class_name_of pool place) (const_of pool place)) is
+member_found_at pool place m is other =
+    λ i. found_in (not_computed pool place m is other i) (is i) (class_name_of pool place) (const_of pool place)
 
 long_entry : (e : Entry) (value : ℤ) → long_in e ≡ Some value → e ≡ entry.Long value
 long_entry (entry.Long other) value is = ap entry.Long (same_Some other value is)
@@ -195,7 +195,7 @@ long_found_at pool place value is =
 pub string_found_at : (pool : PoolValue) (place : ℕ) (text : List ℕ) → string_of pool place ≡ Some text → found_at pool place ≡ Some (of_constant constants.Text)
 string_found_at pool place text is =
     let n = has_name naming.String pool place text is in
-    found_is pool place (entry.String n.0) n.1 ∙ ap (λ (o : Option (List ℕ)). found_in None None (where_named constants.Text o)) n.2
+    found_is pool place (entry.String n.0) n.1 ∙ ap (λ (o : Option (List ℕ)). found_in None None None (where_named constants.Text o)) n.2
 
 -- ---- the method that the prelude calls
 
@@ -211,7 +211,7 @@ init_described = (
 
 module _ (pool : PoolValue) (owner : List ℕ) (call : ℕ) (is : member_of pool call ≡ Some (init_method owner)) where
   call_found : found_at pool call ≡ Some (of_member (init_method owner))
-  call_found = member_found_at pool call (init_method owner) is
+  call_found = member_found_at pool call (init_method owner) is (λ e. omega (arith, e))
 
   pub call_what : what_at pool call ≡ Some (probe_init owner)
   call_what = ap (option_and_then what_of) call_found

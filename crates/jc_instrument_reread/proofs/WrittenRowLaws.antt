@@ -19,7 +19,7 @@ use Rattle.jc_methods.specs.declared.insn.Insn.{Insn}
 use Rattle.jc_methods.specs.declared.kind.State.{State}
 use Rattle.jc_pool.specs.declared.constant.ConstText.{ConstText}
 use Rattle.jc_pool.specs.declared.constant.ConstText.TheVariants as constants
-use Rattle.jc_pool.specs.Lookup.{Member, member_of, class_name_of, const_of}
+use Rattle.jc_pool.specs.Lookup.{Member, member_of, Computed, computed_of, class_name_of, const_of}
 use Rattle.jc_pool.specs.Pool.{PoolValue}
 use Rattle.jc_body.specs.Faults.{IsClassOrNone, IsRow}
 use Rattle.jc_body.specs.Standing.{found_in, found_at, what_of_member, what_of_constant, what_of, what_at}
@@ -42,14 +42,13 @@ use Rattle.jc_instrument_reread.proofs.StartLaws.{wide_places_rise}
 -- ---- the class of a row
 
 no_member : (m : Member) → IsClass (what_of_member m) → ⊥
-no_member m class = by (nat_eq m.tag 9) (nat_eq m.tag 17) (nat_eq m.tag 18) class
+no_member m class = by (nat_eq m.tag 9) (nat_eq m.tag 18) class
   where
-    by : (a b c : Bool)
-        → IsClass (if a then whats.Field m.class m.name m.desc else if b then whats.Computed m.desc else if c then whats.Call m.name m.desc else whats.Method m.class m.name m.desc) → ⊥
-    by true b c h = h
-    by false true c h = h
-    by false false true h = h
-    by false false false h = h
+    by : (a b : Bool)
+        → IsClass (if a then whats.Field m.class m.name m.desc else if b then whats.Call m.name m.desc else whats.Method m.class m.name m.desc) → ⊥
+    by true b h = h
+    by false true h = h
+    by false false h = h
 
 no_constant : (k : ConstText) (what : What) → what_of_constant k ≡ Some what → IsClass what → ⊥
 no_constant (constants.Int value) what is class = subst IsClass (sym (same_Some (whats.Int value) what is)) class
@@ -66,14 +65,16 @@ no_constant constants.Computed what is class = none-some what is
 pub class_there : (pool : PoolValue) (place : ℕ) (what : What) → what_at pool place ≡ Some what → IsClass what
     → (name : List ℕ) × (class_name_of pool place ≡ Some name)
 unfolding found_at
-class_there pool place what is class = by (member_of pool place) (class_name_of pool place) (const_of pool place) refl is
+class_there pool place what is class = by (computed_of pool place) (member_of pool place) (class_name_of pool place) (const_of pool place) refl is
   where
-    by : (m : Option Member) (c : Option (List ℕ)) (k : Option ConstText) → class_name_of pool place ≡ c
-        → option_and_then what_of (found_in m c k) ≡ Some what → (name : List ℕ) × (class_name_of pool place ≡ Some name)
-    by (Some m) c k there h = absurd (no_member m (subst IsClass (sym (same_Some (what_of_member m) what h)) class))
-    by None (Some name) k there h = (name, there)
-    by None None (Some k) there h = absurd (no_constant k what h class)
-    by None None None there h = absurd (none-some what h)
+    by : (d : Option Computed) (m : Option Member) (c : Option (List ℕ)) (k : Option ConstText) → class_name_of pool place ≡ c
+        → option_and_then what_of (found_in d m c k) ≡ Some what → (name : List ℕ) × (class_name_of pool place ≡ Some name)
+    by (Some d) m c k there h =
+        absurd (subst IsClass (sym (same_Some (whats.Computed d.signed.name d.signed.desc d.bootstrap) what h)) class)
+    by None (Some m) c k there h = absurd (no_member m (subst IsClass (sym (same_Some (what_of_member m) what h)) class))
+    by None None (Some name) k there h = (name, there)
+    by None None None (Some k) there h = absurd (no_constant k what h class)
+    by None None None None there h = absurd (none-some what h)
 
 -- ---- places
 

@@ -107,7 +107,7 @@ module _ (p : Program) (at : Location) where
   same_member op (Some whats.Text) = refl
   same_member op (Some whats.Handle) = refl
   same_member op (Some whats.MethodKind) = refl
-  same_member op (Some (whats.Computed desc)) = refl
+  same_member op (Some (whats.Computed name desc bootstrap)) = refl
 
   -- ---- all instructions
 

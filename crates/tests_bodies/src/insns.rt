@@ -121,7 +121,15 @@ fn put_what(what: &What, out: &mut Answer) {
         What::Method { class, name, desc } => put_texts("method", &[class, name, desc], out),
         What::Call { name, desc } => put_texts("call", &[name, desc], out),
         What::Class(name) => put_texts("class", &[name], out),
-        What::Computed { desc } => put_texts("computed", &[desc], out),
+        What::Computed {
+            name,
+            desc,
+            bootstrap,
+        } => {
+            put_texts("computed", &[name, desc], out);
+            out.put(" ");
+            out.show(bootstrap);
+        }
         other => put_constant(other, out),
     }
 }

@@ -16,6 +16,19 @@ fn call(alloc: Global, name: &str, desc: &str, out: &mut Answer) -> Option<What>
     Some(What::Call { name, desc })
 }
 
+/// A constant that a bootstrap method gives.
+fn computed(
+    alloc: Global,
+    [name, desc, bootstrap]: [&str; 3],
+    out: &mut Answer,
+) -> Option<What> {
+    Some(What::Computed {
+        name: text(alloc, name, out)?,
+        desc: text(alloc, desc, out)?,
+        bootstrap: number::<u16>(bootstrap, out)?,
+    })
+}
+
 /// A field or a method.
 fn member(
     alloc: Global,
@@ -45,15 +58,12 @@ fn untold(word: &str, out: &mut Answer) -> Option<What> {
     }
 }
 
-/// A class, or a constant with a value or a descriptor.
+/// A class, or a constant with a value.
 fn constant(alloc: Global, form: &str, value: &str, out: &mut Answer) -> Option<What> {
     match form {
         "Class" => Some(What::Class(text(alloc, value, out)?)),
         "Int" => Some(What::Int(number::<i32>(value, out)?)),
         "Long" => Some(What::Long(number::<i64>(value, out)?)),
-        "Computed" => Some(What::Computed {
-            desc: text(alloc, value, out)?,
-        }),
         form => out.wrong_word("no use", form),
     }
 }
@@ -63,6 +73,9 @@ fn of_parts(alloc: Global, parts: &[&str], out: &mut Answer) -> Option<What> {
     match parts {
         ["Field", class, name, desc] => member(alloc, true, [*class, *name, *desc], out),
         ["Method", class, name, desc] => member(alloc, false, [*class, *name, *desc], out),
+        ["Computed", name, desc, bootstrap] => {
+            computed(alloc, [*name, *desc, *bootstrap], out)
+        }
         ["Call", name, desc] => call(alloc, name, desc, out),
         [form, value] => constant(alloc, form, value, out),
         [word] => untold(word, out),
@@ -102,7 +115,15 @@ fn put_what(what: &What, out: &mut Answer) {
         What::Method { class, name, desc } => put_texts("Method", &[class, name, desc], out),
         What::Call { name, desc } => put_texts("Call", &[name, desc], out),
         What::Class(name) => put_texts("Class", &[name], out),
-        What::Computed { desc } => put_texts("Computed", &[desc], out),
+        What::Computed {
+            name,
+            desc,
+            bootstrap,
+        } => {
+            put_texts("Computed", &[name, desc], out);
+            out.put(" ");
+            out.show(bootstrap);
+        }
         other => out.debug(other),
     }
 }
