@@ -237,7 +237,14 @@ inc_verdict : verdict_of (codes "[Z" ∷ []) inc ≡ passes
 unfolding types_from rest_from table forms_at after_of state_of verdict_of
 inc_verdict = refl
 
-inc_static : IsLinked (codes "[Z" ∷ []) (record { name = c_name; bodies = inc ∷ []; statics = record { name = codes "x"; desc = codes "I"; first = pos 0 } ∷ []; has_clinit = false; probes = None })
+inc_static : IsLinked (codes "[Z" ∷ []) (record {
+  name = c_name;
+  version = 52;
+  bodies = inc ∷ [];
+  statics = record { name = codes "x"; desc = codes "I"; first = pos 0 } ∷ [];
+  has_clinit = false;
+  probes = None;
+})
 unfolding types_from
 inc_static = record {
   bodies = All-from_recursion (IsProgramBody (codes "[Z" ∷ [])) (inc ∷ [])

@@ -1,5 +1,5 @@
 -- Single instructions as worked examples.
-use Rattle.std.specs.Prelude.{ℕ, pos, negsuc, true, false, List, [], ◌∷◌, Option, Some, slice_set, codes}
+use Rattle.std.specs.Prelude.{ℕ, pos, negsuc, true, false, List, [], ◌∷◌, Option, Some, None, slice_set, codes}
 use Rattle.jc_bytes.specs.Descriptor as types
 use Rattle.jc_methods.specs.declared.insn.Insn.{Insn}
 use Rattle.jc_methods.specs.declared.insn.Insn.TheVariants as insns
@@ -115,7 +115,7 @@ does_returning desc insn stack = does_in (codes "f") desc [] insn [] stack
 abbrev pub does_in_init : What → Insn → List Value → Result
 does_in_init what insn stack =
     result_of (surrounding (record (around (codes "$jacocoInit") (codes "()[Z") (use_at 1 what
-    ∷ []) insn) { probes = Some (record { id = 5; count = 3 }) })) shared (frame_with 0 [] stack)
+    ∷ []) insn) { probes = Some (record { id = 5; count = 3; bootstrap = None }) })) shared (frame_with 0 [] stack)
 
 -- it goes on with this stack
 abbrev pub leaves_stack : List Value → Result

@@ -54,7 +54,7 @@ static_field name desc first = record { name = name; desc = desc; first = first 
 
 -- a class without probes
 abbrev pub class : List ℕ → List Body → List StaticField → Linked
-class name bodies statics = record { name = name; bodies = bodies; statics = statics; has_clinit = false; probes = None }
+class name bodies statics = record { name = name; version = 52; bodies = bodies; statics = statics; has_clinit = false; probes = None }
 
 abbrev pub program : List Linked → Program
 program classes = record { classes = classes; names = codes "[Z" ∷ [] }
@@ -100,10 +100,11 @@ init_use name = use_at 95 (whats.Method name (codes "$jacocoInit") (codes "()[Z"
 abbrev pub probed_class : List ℕ → ℕ → ℤ → ℕ → List Body → List StaticField → Linked
 probed_class name id id_value count bodies statics = record {
   name = name;
+  version = 52;
   bodies = bodies ++ init name id_value count ∷ [];
   statics = statics ++ static_field (codes "$jacocoData") (codes "[Z") (pos 0) ∷ [];
   has_clinit = false;
-  probes = Some (record { id = id; count = count });
+  probes = Some (record { id = id; count = count; bootstrap = None });
 }
 
 -- a probe: the array in this slot, a small id

@@ -1,5 +1,5 @@
 -- A program of one class with one method, and its twin.
-use Rattle.std.proofs.Common.{◌≡◌, refl, sym, ap, subst, ℕ, ◌+◌, ℤ, ⊎_elim, pos, List, [], ◌∷◌, Some, inr, codes}
+use Rattle.std.proofs.Common.{◌≡◌, refl, sym, ap, subst, ℕ, ◌+◌, ℤ, ⊎_elim, pos, List, [], ◌∷◌, Some, None, inr, codes}
 use Rattle.std.specs.Prelude.{Contains}
 use Rattle.std.specs.Int.{w64, cast_signed}
 use Rattle.std.specs.List.{sum_by}
@@ -62,6 +62,7 @@ module _ (b b' : Body) (id count : ℕ) where
       → (IsAddedName b.name → ⊥) → NoneStraddles b → HasTwinBody names names b.owner 0 b b' → IsChangedPair names names one probed_one
   changed same counted few no_added none_straddles twin = record {
     name = refl;
+    version = refl;
     has_clinit = refl;
     none_added = record { bodies = λ x c n. no_added (subst (λ (x : Body). IsAddedName x.name) (sym (only b x c)) n); statics = λ f c n. none_in f c };
     no_probes = refl;
@@ -72,7 +73,7 @@ module _ (b b' : Body) (id count : ℕ) where
     added_is = subst (λ (n : ℕ). IsInitBody names b.owner (cast_signed w64 id) n (init b.owner (pos id) count)) (sym counted)
         (subst (λ (v : ℤ). IsInitBody names b.owner v count (init b.owner (pos id) count)) (sym same) (init_is b.owner (pos id) count few));
     statics = refl;
-    probes = ap (λ (n : ℕ). (Some (record { id = id; count = n }))) (sym counted);
+    probes = ap (λ (n : ℕ). (Some (record { id = id; count = n; bootstrap = None }))) (sym counted);
   }
 
   -- the program with its probes is a twin

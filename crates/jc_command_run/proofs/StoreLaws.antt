@@ -32,6 +32,7 @@ same_class : (names others : Names) (a b : Linked) → IsSameLinked names others
 same_class names others a b same =
     λ i. record {
       name = sym same.name i;
+      version = sym same.version i;
       bodies = same_bodies names others a.bodies b.bodies same.bodies i;
       statics = sym same.statics i;
       has_clinit = sym same.has_clinit i;

@@ -38,6 +38,7 @@ AreSameBodies names new_names _ _ = ⊥
 -- the two are equal
 pub record IsUnchangedPair (names new_names : Names) (class new : Linked) : Type 0 where
   pub name : new.name ≡ class.name
+  pub version : new.version ≡ class.version
   pub bodies : AreSameBodies names new_names class.bodies new.bodies
   pub statics : new.statics ≡ class.statics
   pub has_clinit : new.has_clinit ≡ class.has_clinit
@@ -74,6 +75,7 @@ data_static = record { name = data_name; desc = data_type; first = pos 0 }
 -- The second has a twin of each body of the first, which calls the method that was added to this class.
 pub record IsChangedPair (names new_names : Names) (class new : Linked) : Type 0 where
   pub name : new.name ≡ class.name
+  pub version : new.version ≡ class.version
   pub has_clinit : new.has_clinit ≡ class.has_clinit
   pub none_added : HasNeither class
   pub no_probes : class.probes ≡ None
@@ -83,7 +85,7 @@ pub record IsChangedPair (names new_names : Names) (class new : Linked) : Type 0
   pub bodies : AreTwinBodies names new_names class.name 0 class.bodies new.bodies added
   pub added_is : IsInitBody new_names class.name (cast_signed w64 id) (sum_by probe_count class.bodies) added
   pub statics : new.statics ≡ class.statics ++ data_static ∷ []
-  pub probes : new.probes ≡ Some (record { id = id; count = sum_by probe_count class.bodies })
+  pub probes : new.probes ≡ Some (record { id = id; count = sum_by probe_count class.bodies; bootstrap = None })
 
 abbrev pub IsPair : Names → Names → Linked → Linked → Type 0
 IsPair names new_names class new = IsUnchangedPair names new_names class new ⊎ IsChangedPair names new_names class new

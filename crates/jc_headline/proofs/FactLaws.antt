@@ -1,5 +1,5 @@
 -- A file of a report, the class that is linked of it, and that of what was written of it.
-use Rattle.std.proofs.Common.{◌≡◌, ◌⊎◌, inl, inr, ℕ, ◌+◌, Bool, true, false, ◌||◌, List, [], ◌∷◌, map, Some, Contains, refl, sym, ◌∙◌, ap, subst}
+use Rattle.std.proofs.Common.{◌≡◌, ◌⊎◌, inl, inr, ℕ, ◌+◌, Bool, true, false, ◌||◌, List, [], ◌∷◌, map, Some, None, Contains, refl, sym, ◌∙◌, ap, subst}
 use Rattle.std.specs.List.{AllByRecursion, list_any, sum_by}
 use Rattle.std.proofs.lemmas.Bool.{or_left, or_right}
 use Rattle.std.proofs.lemmas.Option.{same_Some}
@@ -125,7 +125,7 @@ module _ (names new_names : Names) (o w : List ℕ) (l n : Linked) (short : IsSh
           let pair = changed_pair o w short.0 are_new twin names new_names l n p q in
           record {
             declares = has_init n.bodies pair.added (last_in names new_names l.name 0 l.bodies n.bodies pair.added pair.bodies) pair.added_is.name;
-            init = record { id = class_id o; count = sum_by probe_count l.bodies };
+            init = record { id = class_id o; count = sum_by probe_count l.bodies; bootstrap = None };
             probes = probes_new o w short.0 are_new twin names new_names l n p q;
             id = sym is.described.id;
             count = refl;

@@ -259,6 +259,9 @@ module _ (original written : List ℕ) (are : AreBytes original) (are_new : AreB
       some_is : {x y : List ℕ} → Some x ≡ Some y → x ≡ y
       some_is e = cc
 
+  version_new : n.version ≡ l.version
+  version_new = q_is.version ∙ h.outside.major ∙ sym p_is.version
+
   clinit_new : n.has_clinit ≡ l.has_clinit
   clinit_new =
       q_is.clinit
@@ -305,8 +308,8 @@ module _ (original written : List ℕ) (are : AreBytes original) (are_new : AreB
       (added_is.code ∙ ap (init_code added_is.places) (sym count_is))
       ∙ ap Some (name_is ∙ sym name_new)
 
-  pub probes_new : n.probes ≡ Some (record { id = id; count = sum_by probe_count l.bodies })
-  probes_new = one_probes t.pool n.name n.bodies (Some (record { id = id; count = sum_by probe_count l.bodies })) n.probes (record {
+  pub probes_new : n.probes ≡ Some (record { id = id; count = sum_by probe_count l.bodies; bootstrap = None })
+  probes_new = one_probes t.pool n.name n.bodies (Some (record { id = id; count = sum_by probe_count l.bodies; bootstrap = None })) n.probes (record {
     body = moved.last;
     first = last_first;
     asks = record {
@@ -320,6 +323,7 @@ module _ (original written : List ℕ) (are : AreBytes original) (are_new : AreB
         id_fits = id_below original are;
         text_is = refl;
         fetch_is = added_is.fetch_is;
+        bootstrap_is = refl;
       };
       name_is = named;
     };
@@ -328,6 +332,7 @@ module _ (original written : List ℕ) (are : AreBytes original) (are_new : AreB
   pub changed_pair : IsChangedPair names new_names l n
   changed_pair = record {
     name = name_new;
+    version = version_new;
     has_clinit = clinit_new;
     none_added = has_neither names c l p_is not_added;
     no_probes = no_probes names c l p_is not_added;

@@ -129,11 +129,11 @@ module _ (pool : PoolValue) (name : List ℕ) (b : Body) where
       by (inr few) (inl code) (inl members) (inr none) text = inr (λ h. none (id_there h))
       by (inr few) (inl code) (inl members) (inl id) (inr other) = inr (λ h. other (text_there h))
       by (inr few) (inl code) (inl members) (inl id) (inl text) = inl (
-        record { id = id.0; count = a.count },
+        record { id = id.0; count = a.count; bootstrap = None },
         record {
           text = a.name;
-          code = meant_asks name b a (record { id = id.0; count = a.count }) a.name
-              (record { count = refl; few = few; code = code; members = members; id = id.1.0; name = refl }) id.1.1;
+          code = meant_asks name b a (record { id = id.0; count = a.count; bootstrap = None }) a.name
+              (record { count = refl; few = few; code = code; members = members; id = id.1.0; name = refl }) id.1.1 refl;
           name_is = text;
         },
       )

@@ -178,6 +178,7 @@ module _ (c : ClassFile) (is : IsClassFile c) (read : IsReadPool c.pool) (most :
           grows = grows_both front under s.names (all.names, refl) s.grows;
           linked = record {
             name = is.this_class.0;
+            version = c.major;
             bodies = raised;
             statics = statics_of c;
             has_clinit = has_clinit c;
@@ -185,6 +186,7 @@ module _ (c : ClassFile) (is : IsClassFile c) (read : IsReadPool c.pool) (most :
           };
           are = record {
             name = is.this_class.1;
+            version = refl;
             bodies = record {
               are = now;
               checked = λ k d less. passes c is read most none s.names raised now k (get_or raised k d) (slice_get-get_or raised k d less);

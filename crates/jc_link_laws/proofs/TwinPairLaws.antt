@@ -131,6 +131,7 @@ unchanged_pair original names new_names l n accepted p q =
     let none = none_added (class_id original) p.file (subst (λ (c : ClassFile). NoCause (probe_causes (class_id original) c)) file accepted.2) in
     record {
       name = same.name;
+      version = same.version;
       bodies = same.bodies;
       statics = same.statics;
       has_clinit = same.has_clinit;

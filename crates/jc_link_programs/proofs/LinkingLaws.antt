@@ -45,6 +45,7 @@ linked_more old new bytes c grows h = record {
   no_cause = h.no_cause;
   is = record {
     name = h.is.name;
+    version = h.is.version;
     bodies = under_more old new h.file c.bodies grows h.is.bodies;
     states = states_more old new h.file c.bodies grows h.is.bodies h.is.states;
     statics = h.is.statics;
@@ -147,9 +148,10 @@ next_fits old new classes more c grows before last e = all_put (IsLinked new) cl
 -- ---- a class with what was found of it
 
 pub linked_is : (names : Names) (c : ClassFile) (bodies : List Body) (l : Linked) → AreCheckedUnder names c bodies → All (HasStates names) bodies
-    → class_name_of c.pool c.this_class ≡ Some l.name → l.bodies ≡ bodies → l.statics ≡ statics_of c → l.has_clinit ≡ has_clinit c
+    → class_name_of c.pool c.this_class ≡ Some l.name → l.version ≡ c.major → l.bodies ≡ bodies → l.statics ≡ statics_of c → l.has_clinit ≡ has_clinit c
     → AreProbes c.pool l.name l.bodies l.probes → IsLinkedOf names c l
-linked_is names c bodies l are states name same statics clinit probes = record {
+linked_is names c bodies l are states name version same statics clinit probes = record {
+  version = version;
   name = name;
   bodies = subst (AreCheckedUnder names c) (sym same) are;
   states = subst (All (HasStates names)) (sym same) states;

@@ -77,8 +77,9 @@ asks_meant class b a there init text c =
       name = c.text_is;
     })
 
-pub meant_asks : (class : List ℕ) (b : Body) (a : Asked) (init : ProbeInit) (text : ℕ) → Meant class b a init text → init.id < 2 ^ 64 → CodeAsks class b init text
-meant_asks class b a init text m less = record {
+pub meant_asks : (class : List ℕ) (b : Body) (a : Asked) (init : ProbeInit) (text : ℕ) → Meant class b a init text → init.id < 2 ^ 64 → init.bootstrap ≡ None
+    → CodeAsks class b init text
+meant_asks class b a init text m less none = record {
   places = places_of a;
   code = m.code ∙ ap (init_code (places_of a)) (sym m.count);
   count_fits = subst (λ n. n ≤ most_probes) (sym m.count) m.few;
@@ -87,6 +88,7 @@ meant_asks class b a init text m less = record {
   id_fits = less;
   text_is = m.name;
   fetch_is = (m.members).fetch_is;
+  bootstrap_is = none;
 }
 
 -- ---- what code asks for is told by it
@@ -109,4 +111,5 @@ module _ (class : List ℕ) (b : Body) (i j : ProbeInit) (t u : ℕ) (c : CodeAs
       let place = ap (λ (a : Asked). a.id) same_asked in
       let signed = same_long _ _ (sym c.id_is ∙ ap (λ (n : ℕ). what_used b.uses n) place ∙ d.id_is) in
       let id = sym (of_z-to_z w64 i.id c.id_fits) ∙ ap (cast_unsigned w64) signed ∙ of_z-to_z w64 j.id d.id_fits in
-      λ k. record { id = id k; count = count k }
+      let bootstrap = c.bootstrap_is ∙ sym d.bootstrap_is in
+      λ k. record { id = id k; count = count k; bootstrap = bootstrap k }

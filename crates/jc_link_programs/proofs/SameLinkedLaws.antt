@@ -94,6 +94,7 @@ module _ (names others : Names) where
           id_fits = a.id_fits;
           text_is = a.text_is;
           fetch_is = a.fetch_is;
+          bootstrap_is = a.bootstrap_is;
         };
         name_is = h.name_is;
       })
@@ -130,6 +131,7 @@ same_of names others c a b p q =
     let bodies = same_lists names others c a.bodies b.bodies p.bodies.are q.bodies.are in
     record {
       name = name;
+      version = q.version ∙ sym p.version;
       bodies = bodies;
       statics = q.statics ∙ sym p.statics;
       has_clinit = q.clinit ∙ sym p.clinit;

@@ -33,6 +33,7 @@ LinkReason = ReasonBy link_causes
 -- what is linked of a class file, with the classes of its frames by their numbers in the list of names
 pub record IsLinkedOf (names : Names) (file : ClassFile) (linked : Linked) : Type 0 where
   pub name : class_name_of file.pool file.this_class ≡ Some linked.name
+  pub version : linked.version ≡ file.major
   -- the bodies of its methods, each of which passes the kind check
   pub bodies : AreCheckedUnder names file linked.bodies
   pub states : All (HasStates names) linked.bodies

@@ -33,6 +33,7 @@ pub record CodeAsks (name : List ℕ) (b : Body) (init : ProbeInit) (text : ℕ)
   pub id_fits : init.id < 2 ^ 64
   pub text_is : places.name ≡ text
   pub fetch_is : what_used b.uses places.fetch ≡ Some (whats.Method runtime_class fetch_name fetch_type)
+  pub bootstrap_is : init.bootstrap ≡ None
 
 -- The code asks for these probes of the class with this name.
 pub record AsksFor (pool : PoolValue) (name : List ℕ) (b : Body) (init : ProbeInit) : Type 0 where

@@ -8,6 +8,7 @@ use Rattle.jc_emit.specs.TwinProgram.{AreSameBodies}
 -- the two are equal, where classes are compared by their names
 pub record IsSameLinked (names others : Names) (a b : Linked) : Type 0 where
   pub name : b.name ≡ a.name
+  pub version : b.version ≡ a.version
   pub bodies : AreSameBodies names others a.bodies b.bodies
   pub statics : b.statics ≡ a.statics
   pub has_clinit : b.has_clinit ≡ a.has_clinit

@@ -42,6 +42,7 @@ fn class_name(alloc: Global, class: &ClassFile) -> Result<Bytes, Memory>
 fn class_with(alloc: Global, class: &ClassFile, bodies: List<Body>) -> Result<Linked, Memory>
     requires { IsClassFile class.now }
     ensures name { IfOk result (λ c. class_name_of class.now.pool class.now.this_class ≡ Some c.name) }
+    ensures version { IfOk result (λ c. c.version ≡ class.now.major) }
     ensures bodies { IfOk result (λ c. c.bodies ≡ bodies) }
     ensures statics { IfOk result (λ c. c.statics ≡ statics_of class.now) }
     ensures firsts { IfOk result (λ c. All IsStatic c.statics) }
@@ -52,6 +53,7 @@ fn class_with(alloc: Global, class: &ClassFile, bodies: List<Body>) -> Result<Li
     let name = class_name(alloc, class)?;
     let probes = probes_of(alloc, &class.pool, &name, &bodies)?;
     Ok(Linked {
+        version: class.major,
         statics: statics_of(alloc, class)?,
         has_clinit: has_clinit(class),
         name,

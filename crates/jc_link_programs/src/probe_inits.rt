@@ -236,8 +236,12 @@ fn code_asks(alloc: Global, class: &[u8], body: &Body) -> Result<Option<(ProbeIn
     }
     match id_at(&body.uses, asked.id) {
         Some(id) => {
-            let count = asked.count;
-            Ok(Some((ProbeInit { id, count }, asked.name)))
+            let init = ProbeInit {
+                id,
+                count: asked.count,
+                bootstrap: None,
+            };
+            Ok(Some((init, asked.name)))
         }
         None => Ok(None),
     }

@@ -110,7 +110,7 @@ module _ (p p' : Program) (sides : Entry → Side) where
     b = c.pair.added
 
     abbrev init : ProbeInit
-    init = record { id = c.pair.id; count = sum_by probe_count t.class.bodies }
+    init = record { id = c.pair.id; count = sum_by probe_count t.class.bodies; bootstrap = None }
 
     abbrev array : Value
     array = probes k init.count

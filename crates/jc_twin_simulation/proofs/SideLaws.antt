@@ -30,7 +30,7 @@ use Rattle.jc_twin_simulation.proofs.ClassLaws.{other_name, original_declares, u
 -- ---- where there is no method
 
 no_class : Linked
-no_class = record { name = []; bodies = []; statics = []; has_clinit = false; probes = None }
+no_class = record { name = []; version = 0; bodies = []; statics = []; has_clinit = false; probes = None }
 
 no_side : Side
 no_side = record { class = no_class; new = no_class; body = no_body; twin = no_body; slot = None; ids = no_ids; items = []; places = unplaced }

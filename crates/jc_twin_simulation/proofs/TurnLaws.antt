@@ -320,7 +320,7 @@ module _ (p p' : Program) (sides : Entry → Side) where
       init_same x y e = cc
 
       abbrev its_init : ProbeInit
-      its_init = record { id = change.pair.id; count = sum_by probe_count under.class.bodies }
+      its_init = record { id = change.pair.id; count = sum_by probe_count under.class.bodies; bootstrap = None }
 
       which_init : its_init ≡ i.init
       which_init = init_same its_init i.init (sym change.pair.probes ∙ i.has)

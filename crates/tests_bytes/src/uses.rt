@@ -17,11 +17,7 @@ fn call(alloc: Global, name: &str, desc: &str, out: &mut Answer) -> Option<What>
 }
 
 /// A constant that a bootstrap method gives.
-fn computed(
-    alloc: Global,
-    [name, desc, bootstrap]: [&str; 3],
-    out: &mut Answer,
-) -> Option<What> {
+fn computed(alloc: Global, [name, desc, bootstrap]: [&str; 3], out: &mut Answer) -> Option<What> {
     Some(What::Computed {
         name: text(alloc, name, out)?,
         desc: text(alloc, desc, out)?,
@@ -73,9 +69,7 @@ fn of_parts(alloc: Global, parts: &[&str], out: &mut Answer) -> Option<What> {
     match parts {
         ["Field", class, name, desc] => member(alloc, true, [*class, *name, *desc], out),
         ["Method", class, name, desc] => member(alloc, false, [*class, *name, *desc], out),
-        ["Computed", name, desc, bootstrap] => {
-            computed(alloc, [*name, *desc, *bootstrap], out)
-        }
+        ["Computed", name, desc, bootstrap] => { computed(alloc, [*name, *desc, *bootstrap], out) }
         ["Call", name, desc] => call(alloc, name, desc, out),
         [form, value] => constant(alloc, form, value, out),
         [word] => untold(word, out),

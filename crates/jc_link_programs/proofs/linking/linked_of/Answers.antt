@@ -6,8 +6,8 @@ pub returns-clause-linked : goal.returns-clause-linked
 returns-clause-linked c =
     let found = c.in_ok-bodies.ensures in
     let e = c.in_ok-class_with.ensures in
-    linked_is c.named_bodies.new.names c.args.class.now c.in_ok-bodies.bodies c.in_ok-class_with.field-0 found.bodies found.states e.name e.bodies e.statics
-    e.clinit e.probes
+    linked_is c.named_bodies.new.names c.args.class.now c.in_ok-bodies.bodies c.in_ok-class_with.field-0 found.bodies found.states e.name e.version e.bodies
+    e.statics e.clinit e.probes
 
 pub returns-clause-fits : goal.returns-clause-fits
 returns-clause-fits c =
