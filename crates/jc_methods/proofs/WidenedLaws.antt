@@ -146,7 +146,7 @@ one_wide : (flow : Flow) → widths_by flow false ≡ 1
 one_wide flows.Branches = refl
 one_wide flow = refl
 
-places_stay : (n : ℕ) (code : List Insn) (place : ℕ) → wide_place_from none_wide n code place ≡ place
+pub places_stay : (n : ℕ) (code : List Insn) (place : ℕ) → wide_place_from none_wide n code place ≡ place
 places_stay n [] place = refl
 places_stay n (x ∷ code) zero = refl
 places_stay n (x ∷ code) (suc place) = omega (arith, one_wide (flow_of x), places_stay (suc n) code place)
