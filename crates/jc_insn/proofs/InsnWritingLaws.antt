@@ -14,6 +14,7 @@ use Rattle.jc_methods.specs.Flow.{is_conditional_branch, targets_of}
 use Rattle.std.proofs.Math.Seq.{drop-cons, take-suc}
 use Rattle.std.proofs.lemmas.List.Elements.{All-tail, All-more}
 use Rattle.jc_methods.specs.Insn.{IsWellFormed, with_places, arm_with_place}
+use Rattle.jc_methods.specs.Widened.{WideSet}
 use Rattle.jc_insn.specs.Writing.{insn_text, code_text, arm_text, IsInRange}
 use Rattle.jc_methods.specs.declared.insn.Insn.{Insn}
 use Rattle.jc_methods.specs.declared.insn.Insn.TheVariants as insns
@@ -62,20 +63,21 @@ pub local_of : (insn : Insn) (op slot : ℕ) → insn ≡ insns.Local op slot �
 local_of insn op slot is well = local_codes op (subst IsWellFormed is well)
 
 -- one instruction more
-pub writes_on : (places : ℕ → ℕ) (wide : Bool) (code : List Insn) (starts : List ℕ) (number : ℕ) (insn : Insn) (old new whole : List ℕ)
+pub writes_on : (places : ℕ → ℕ) (wide : WideSet) (code : List Insn) (starts : List ℕ) (number : ℕ) (insn : Insn) (old new whole : List ℕ)
     → number < length code → number < length starts → insn ≡ get_or code number insn
-    → old ++ code_text places wide (drop number code) (drop number starts) ≡ whole
-    → new ≡ old ++ insn_text (get_or starts number 0) wide (with_places places insn)
-    → new ++ code_text places wide (drop (number + 1) code) (drop (number + 1) starts) ≡ whole
+    → old ++ code_text places wide number (drop number code) (drop number starts) ≡ whole
+    → new ≡ old ++ insn_text (get_or starts number 0) (wide number) (with_places places insn)
+    → new ++ code_text places wide (number + 1) (drop (number + 1) code) (drop (number + 1) starts) ≡ whole
 writes_on places wide code starts number insn old new whole in_code in_starts insn_is so_far wrote =
     let next : number + 1 ≡ suc number = omega arith in
     let code_is : drop number code ≡ insn ∷ drop (suc number) code = drop-cons code number insn in_code
     ∙ ap (λ (i : Insn). i ∷ drop (suc number) code) (sym insn_is) in
     let starts_is : drop number starts ≡ get_or starts number 0 ∷ drop (suc number) starts = drop-cons starts number 0 in_starts in
-    let front = insn_text (get_or starts number 0) wide (with_places places insn) in
-    let rest = code_text places wide (drop (suc number) code) (drop (suc number) starts) in
-    let unrolled : code_text places wide (drop number code) (drop number starts) ≡ front ++ rest = λ i. code_text places wide (code_is i) (starts_is i) in
-    ap (λ (k : ℕ). new ++ code_text places wide (drop k code) (drop k starts)) next
+    let front = insn_text (get_or starts number 0) (wide number) (with_places places insn) in
+    let rest = code_text places wide (suc number) (drop (suc number) code) (drop (suc number) starts) in
+    let unrolled : code_text places wide number (drop number code) (drop number starts) ≡ front ++ rest =
+    λ i. code_text places wide number (code_is i) (starts_is i) in
+    ap (λ (k : ℕ). new ++ code_text places wide k (drop k code) (drop k starts)) next
     ∙ ap (λ (l : List ℕ). l ++ rest) wrote
     ∙ append_assoc old front rest
     ∙ ap (λ (l : List ℕ). old ++ l) (sym unrolled)
@@ -87,26 +89,26 @@ pub record ArmsPut (at : ℕ) (starts : List ℕ) (arms : List Arm) (count : ℕ
   pub keys : All (λ arm. FitsSigned w32 arm.key) (take count arms)
 
 -- what was put and what is left are the whole code, and the fields of what was put have room
-pub record CodePut (starts : List ℕ) (wide : Bool) (code : List Insn) (number : ℕ) (text : List ℕ) : Type 0 where
-  pub whole : text ++ code_text (slice_index starts) wide (drop number code) (drop number starts) ≡ code_text (slice_index starts) wide code starts
+pub record CodePut (starts : List ℕ) (wide : WideSet) (code : List Insn) (number : ℕ) (text : List ℕ) : Type 0 where
+  pub whole : text ++ code_text (slice_index starts) wide number (drop number code) (drop number starts) ≡ code_text (slice_index starts) wide 0 code starts
   pub ranges : All IsInRange (take number code)
 
-pub puts_insn : (starts : List ℕ) (wide : Bool) (code : List Insn) (number : ℕ) (insn : Insn) (old new : List ℕ) → number < length code
+pub puts_insn : (starts : List ℕ) (wide : WideSet) (code : List Insn) (number : ℕ) (insn : Insn) (old new : List ℕ) → number < length code
     → number < length starts → insn ≡ get_or code number insn → CodePut starts wide code number old
-    → new ≡ old ++ insn_text (get_or starts number 0) wide (with_places (slice_index starts) insn) → IsInRange insn
+    → new ≡ old ++ insn_text (get_or starts number 0) (wide number) (with_places (slice_index starts) insn) → IsInRange insn
     → CodePut starts wide code (number + 1) new
 puts_insn starts wide code number insn old new in_code in_starts insn_is so_far wrote range = record {
   whole = writes_on (slice_index starts) wide code starts number insn old new
-      (code_text (slice_index starts) wide code starts) in_code in_starts insn_is so_far.whole wrote;
+      (code_text (slice_index starts) wide 0 code starts) in_code in_starts insn_is so_far.whole wrote;
   ranges = All-more IsInRange code number insn in_code so_far.ranges (subst IsInRange insn_is range);
 }
 
-code_at_end : (places : ℕ → ℕ) (wide : Bool) (code : List Insn) (starts : List ℕ) (number : ℕ) → length code ≤ number
-    → code_text places wide (drop number code) starts ≡ []
-code_at_end places wide code starts number end = ap (λ (l : List Insn). code_text places wide l starts) (drop_of_length-le code end)
+code_at_end : (places : ℕ → ℕ) (wide : WideSet) (code : List Insn) (starts : List ℕ) (number : ℕ) → length code ≤ number
+    → code_text places wide number (drop number code) starts ≡ []
+code_at_end places wide code starts number end = ap (λ (l : List Insn). code_text places wide number l starts) (drop_of_length-le code end)
 
-pub all_put : (starts : List ℕ) (wide : Bool) (code : List Insn) (number : ℕ) (text : List ℕ) → length code ≤ number
-    → CodePut starts wide code number text → (text ≡ code_text (slice_index starts) wide code starts) × All IsInRange code
+pub all_put : (starts : List ℕ) (wide : WideSet) (code : List Insn) (number : ℕ) (text : List ℕ) → length code ≤ number
+    → CodePut starts wide code number text → (text ≡ code_text (slice_index starts) wide 0 code starts) × All IsInRange code
 all_put starts wide code number text end so_far = (
   sym (append-nil text) ∙ ap (λ (l : List ℕ). text ++ l) (sym (code_at_end (slice_index starts) wide code (drop number starts) number end)) ∙ so_far.whole,
   subst (λ (l : List Insn). All IsInRange l) (take_all number code end) so_far.ranges,

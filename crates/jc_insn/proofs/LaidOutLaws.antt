@@ -1,5 +1,5 @@
 -- Code and the offsets at which it begins, as `encode` takes them.
-use Rattle.std.proofs.Common.{◌⊎◌, inl, inr, ℕ, ◌<◌, ◌≤◌, Bool, List, [], ◌∷◌, length, get_or, All, arith}
+use Rattle.std.proofs.Common.{◌⊎◌, inl, inr, ℕ, ◌<◌, ◌≤◌, List, [], ◌∷◌, length, get_or, All, arith}
 use Rattle.std.proofs.lemmas.List.Elements.{All-tail}
 use Rattle.std.specs.Prelude.{slice_index}
 use Rattle.std.proofs.lemmas.List.{get_or_past, get_or_default}
@@ -7,6 +7,7 @@ use Rattle.std.proofs.lemmas.Bool.{cases_lt}
 use Rattle.jc_methods.specs.declared.insn.Insn.{Insn}
 use Rattle.jc_methods.specs.Insn.{IsWellFormed, with_places}
 use Rattle.jc_methods.specs.Flow.{targets_of}
+use Rattle.jc_methods.specs.Widened.{WideSet}
 use Rattle.jc_insn.specs.Sizes.{StartAt}
 use Rattle.jc_insn.specs.Writing.{IsInRange}
 use Rattle.jc_insn.proofs.ShortestSpellingLaws.{Fits}
@@ -14,8 +15,8 @@ use Rattle.jc_insn.proofs.SizeSumsLaws.{below_last}
 use Rattle.jc_insn.proofs.PlacesLaws.{well_formed_with, in_range_with, targets_fit}
 
 -- the code that `encode` takes: all that it asks of the instructions and their offsets
-pub record IsLaidOut (wide : Bool) (code : List Insn) (starts : List ℕ) : Type 0 where
-  pub starts_at : StartAt wide 0 code starts
+pub record IsLaidOut (wide : WideSet) (code : List Insn) (starts : List ℕ) : Type 0 where
+  pub starts_at : StartAt wide code starts
   pub end : slice_index starts (length code) ≤ 2147483647
   pub well_formed : All IsWellFormed code
   pub in_range : All IsInRange code
@@ -41,18 +42,18 @@ each_fits places (insn ∷ code) (at ∷ starts) small starts_fit well fit = (
       (All-tail IsInRange insn code fit),
 )
 
-pub small_starts : (wide : Bool) (code : List Insn) (starts : List ℕ) → StartAt wide 0 code starts → get_or starts (length code) 0 ≤ 2147483647 → (k : ℕ)
+pub small_starts : (wide : WideSet) (code : List Insn) (starts : List ℕ) → StartAt wide code starts → get_or starts (length code) 0 ≤ 2147483647 → (k : ℕ)
     → get_or starts k 0 < 4294967296
 small_starts wide code starts s end k = by (cases_lt k (length starts))
   where
     by : (k < length starts) ⊎ (length starts ≤ k) → get_or starts k 0 < 4294967296
-    by (inl below) = let h = below_last wide 0 code starts s k below in omega (arith, h, end)
+    by (inl below) = let h = below_last wide 0 0 code starts s k below in omega (arith, h, end)
     by (inr past) = let h = get_or_past starts k 0 past in omega (arith, h)
 
-pub all_small : (wide : Bool) (code : List Insn) (starts : List ℕ) → StartAt wide 0 code starts → get_or starts (length code) 0 ≤ 2147483647
+pub all_small : (wide : WideSet) (code : List Insn) (starts : List ℕ) → StartAt wide code starts → get_or starts (length code) 0 ≤ 2147483647
     → All (λ s. s < 4294967296) starts
 all_small wide code starts s end k d below = rw (get_or_default starts k d 0 below) (small_starts wide code starts s end k)
 
-pub all_low : (wide : Bool) (code : List Insn) (starts : List ℕ) → IsLaidOut wide code starts → All (λ s. s ≤ 2147483647) starts
-all_low wide code starts out k d below = let h = below_last wide 0 code starts out.starts_at k below in rw (get_or_default starts k d 0 below)
+pub all_low : (wide : WideSet) (code : List Insn) (starts : List ℕ) → IsLaidOut wide code starts → All (λ s. s ≤ 2147483647) starts
+all_low wide code starts out k d below = let h = below_last wide 0 0 code starts out.starts_at k below in rw (get_or_default starts k d 0 below)
     (omega (arith, h, out.end))

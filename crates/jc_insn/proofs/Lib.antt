@@ -13,7 +13,6 @@ pub mod TextSizesLaws
 pub mod PlacesLaws
 pub mod LaidOutLaws
 pub mod WideCodeLaws
-pub mod SpellingLaws
 pub mod SpelledInsnLaws
 pub mod DecodedInsnLaws
 pub mod SpelledOrRefusedLaws

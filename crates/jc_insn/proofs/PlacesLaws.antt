@@ -1,5 +1,5 @@
 -- Instructions whose places in the code are replaced.
-use Rattle.std.proofs.Common.{◌≡◌, ℕ, ◌<◌, ◌≤◌, List, [], ◌∷◌, map, get_or, All, refl, sym, ◌∙◌, ap, subst, arith, w32, pos}
+use Rattle.std.proofs.Common.{◌≡◌, ℕ, ◌<◌, ◌≤◌, List, [], ◌∷◌, map, get_or, All, refl, sym, ap, subst, arith, w32, pos}
 use Rattle.std.specs.Prelude.{FitsSigned, ◌≤ℤ◌, ◌+ℤ◌}
 use Rattle.std.proofs.lemmas.List.{length-map}
 use Rattle.std.proofs.lemmas.List.Elements.{All-map, All-nil, All-cons, All-tail}
@@ -8,7 +8,6 @@ use Rattle.jc_methods.specs.declared.insn.Insn.TheVariants as insns
 use Rattle.jc_methods.specs.declared.insn.Arm.{Arm}
 use Rattle.jc_methods.specs.Insn.{IsWellFormed, IsAscending, with_places, arm_with_place}
 use Rattle.jc_methods.specs.Flow.{targets_of}
-use Rattle.jc_methods.proofs.PlacedInsnLaws.{places_same}
 use Rattle.jc_insn.specs.Writing.{IsInRange}
 
 ascending_map : (f : ℕ → ℕ) (arms : List Arm) → IsAscending arms → IsAscending (map (arm_with_place f) arms)
@@ -58,11 +57,3 @@ places_both f g h (insns.Table low default arms) all = λ i. insns.Table low (al
 places_both f g h (insns.Lookup default arms) all = λ i. insns.Lookup (all 0 default (omega arith) i)
     (arms_both f g h arms (All-tail (λ x. g (f x) ≡ h x) default (map (λ (a : Arm). a.to) arms) all) i)
 places_both f g h insn all = refl
-
--- places that are replaced and replaced back
-pub code_back : (f g : ℕ → ℕ) (code : List Insn) → All (λ insn. All (λ to. g (f to) ≡ to) (targets_of insn)) code
-    → map (with_places g) (map (with_places f) code) ≡ code
-code_back f g [] all = refl
-code_back f g (insn ∷ code) all =
-    λ i. (places_both f g (λ to. to) insn (all 0 insn (omega arith)) ∙ places_same insn) i ∷ code_back f g code
-    (All-tail (λ insn. All (λ to. g (f to) ≡ to) (targets_of insn)) insn code all) i

@@ -1,5 +1,5 @@
 -- Offsets that are the sums of sizes.
-use Rattle.std.proofs.Common.{◌≡◌, ◌≢◌, ℕ, zero, suc, ◌+◌, ◌<◌, ◌≤◌, Bool, true, false, cond, List, [], ◌∷◌, length, get_or, nat_eq, nat_lt, refl, ◌∙◌, ap, arith}
+use Rattle.std.proofs.Common.{◌≡◌, ◌≢◌, ℕ, zero, suc, ◌+◌, ◌<◌, ◌≤◌, Bool, true, false, cond, List, [], ◌∷◌, length, get_or, nat_eq, nat_lt, refl, ap, arith}
 use Rattle.std.proofs.lemmas.Bool.{eq-eqb, ne_eqb}
 use Rattle.jc_methods.specs.Opcode as opcode
 use Rattle.jc_methods.specs.declared.form.Form.{Form}
@@ -7,7 +7,8 @@ use Rattle.jc_methods.specs.declared.form.Form.TheVariants as forms
 use Rattle.jc_methods.specs.InsnForm.{form_of}
 use Rattle.jc_methods.specs.declared.insn.Insn.{Insn}
 use Rattle.jc_methods.specs.declared.insn.Insn.TheVariants as insns
-use Rattle.jc_insn.specs.Sizes.{push_size, is_narrow_inc, size_of, StartAt}
+use Rattle.jc_methods.specs.Widened.{WideSet}
+use Rattle.jc_insn.specs.Sizes.{push_size, is_narrow_inc, size_of, StartFrom}
 use Rattle.jc_methods.specs.Starts.{insn_number}
 
 some_of : (b : Bool) (m n : ℕ) → 1 ≤ m → 1 ≤ n → 1 ≤ cond b m n
@@ -27,44 +28,51 @@ some_size at wide (insns.Constant place) = some_of (nat_lt place 256) 2 3 (omega
 some_size at wide (insns.Jump op to) = some_of wide _ 3 (some_of (nat_eq op opcode.goto) 5 8 (omega arith) (omega arith)) (omega arith)
 some_size at wide insn = omega arith
 
-pub count_starts : (wide : Bool) (at : ℕ) (code : List Insn) (starts : List ℕ) → StartAt wide at code starts → length starts ≡ length code + 1
-count_starts wide at [] starts s = ap length s
-count_starts wide at (insn ∷ code) starts (later, is, more) = let e = ap length is in let ih = count_starts wide
-    (at + size_of at wide insn) code later more in omega (arith, e, ih)
+-- ---- offsets of code of which these jumps are wide; the first instruction has the number n
 
-pub first_start : (wide : Bool) (at : ℕ) (code : List Insn) (starts : List ℕ) → StartAt wide at code starts → get_or starts 0 0 ≡ at
-first_start wide at [] starts s = ap (λ (l : List ℕ). get_or l 0 0) s
-first_start wide at (insn ∷ code) starts (later, is, more) = ap (λ (l : List ℕ). get_or l 0 0) is
+module _ (wide : WideSet) where
+  pub count_starts : (n at : ℕ) (code : List Insn) (starts : List ℕ) → StartFrom wide n at code starts → length starts ≡ length code + 1
+  count_starts n at [] starts s = ap length s
+  count_starts n at (insn ∷ code) starts (later, is, more) =
+      let e = ap length is in
+      let ih = count_starts (suc n) (at + size_of at (wide n) insn) code later more in
+      omega (arith, e, ih)
 
--- none of the offsets is below the first
-pub above_first : (wide : Bool) (at : ℕ) (code : List Insn) (starts : List ℕ) → StartAt wide at code starts → (k : ℕ) → k < length starts
-    → at ≤ get_or starts k 0
-above_first wide at [] starts s zero below = let e = ap (λ (l : List ℕ). get_or l 0 0) s in omega (arith, e)
-above_first wide at [] starts s (suc k) below = let e = ap length s in absurd (omega (arith, e, below))
-above_first wide at (insn ∷ code) starts (later, is, more) zero below = let e = ap (λ (l : List ℕ). get_or l 0 0) is in omega (arith, e)
-above_first wide at (insn ∷ code) starts (later, is, more) (suc k) below =
-    let e = ap (λ (l : List ℕ). get_or l (suc k) 0) is in
-    let long = ap length is in
-    let ih = above_first wide (at + size_of at wide insn) code later more k (omega (arith, long, below)) in
-    omega (arith, e, ih)
+  pub first_start : (n at : ℕ) (code : List Insn) (starts : List ℕ) → StartFrom wide n at code starts → get_or starts 0 0 ≡ at
+  first_start n at [] starts s = ap (λ (l : List ℕ). get_or l 0 0) s
+  first_start n at (insn ∷ code) starts (later, is, more) = ap (λ (l : List ℕ). get_or l 0 0) is
 
--- and none is above the last
-pub below_last : (wide : Bool) (at : ℕ) (code : List Insn) (starts : List ℕ) → StartAt wide at code starts → (k : ℕ) → k < length starts
-    → get_or starts k 0 ≤ get_or starts (length code) 0
-below_last wide at [] starts s zero below = omega arith
-below_last wide at [] starts s (suc k) below = let e = ap length s in absurd (omega (arith, e, below))
-below_last wide at (insn ∷ code) starts (later, is, more) zero below =
-    let e = ap (λ (l : List ℕ). get_or l 0 0) is in
-    let end = ap (λ (l : List ℕ). get_or l (suc (length code)) 0) is in
-    let long = count_starts wide (at + size_of at wide insn) code later more in
-    let above = above_first wide (at + size_of at wide insn) code later more (length code) (omega (arith, long)) in
-    omega (arith, e, end, above)
-below_last wide at (insn ∷ code) starts (later, is, more) (suc k) below =
-    let e = ap (λ (l : List ℕ). get_or l (suc k) 0) is in
-    let end = ap (λ (l : List ℕ). get_or l (suc (length code)) 0) is in
-    let long = ap length is in
-    let ih = below_last wide (at + size_of at wide insn) code later more k (omega (arith, long, below)) in
-    omega (arith, e, end, ih)
+  -- none of the offsets is below the first
+  pub above_first : (n at : ℕ) (code : List Insn) (starts : List ℕ) → StartFrom wide n at code starts → (k : ℕ) → k < length starts
+      → at ≤ get_or starts k 0
+  above_first n at [] starts s zero below = let e = ap (λ (l : List ℕ). get_or l 0 0) s in omega (arith, e)
+  above_first n at [] starts s (suc k) below = let e = ap length s in absurd (omega (arith, e, below))
+  above_first n at (insn ∷ code) starts (later, is, more) zero below = let e = ap (λ (l : List ℕ). get_or l 0 0) is in omega (arith, e)
+  above_first n at (insn ∷ code) starts (later, is, more) (suc k) below =
+      let e = ap (λ (l : List ℕ). get_or l (suc k) 0) is in
+      let long = ap length is in
+      let ih = above_first (suc n) (at + size_of at (wide n) insn) code later more k (omega (arith, long, below)) in
+      omega (arith, e, ih)
+
+  -- and none is above the last
+  pub below_last : (n at : ℕ) (code : List Insn) (starts : List ℕ) → StartFrom wide n at code starts → (k : ℕ) → k < length starts
+      → get_or starts k 0 ≤ get_or starts (length code) 0
+  below_last n at [] starts s zero below = omega arith
+  below_last n at [] starts s (suc k) below = let e = ap length s in absurd (omega (arith, e, below))
+  below_last n at (insn ∷ code) starts (later, is, more) zero below =
+      let e = ap (λ (l : List ℕ). get_or l 0 0) is in
+      let end = ap (λ (l : List ℕ). get_or l (suc (length code)) 0) is in
+      let long = count_starts (suc n) (at + size_of at (wide n) insn) code later more in
+      let above = above_first (suc n) (at + size_of at (wide n) insn) code later more (length code) (omega (arith, long)) in
+      omega (arith, e, end, above)
+  below_last n at (insn ∷ code) starts (later, is, more) (suc k) below =
+      let e = ap (λ (l : List ℕ). get_or l (suc k) 0) is in
+      let end = ap (λ (l : List ℕ). get_or l (suc (length code)) 0) is in
+      let long = ap length is in
+      let ih = below_last (suc n) (at + size_of at (wide n) insn) code later more k (omega (arith, long, below)) in
+      omega (arith, e, end, ih)
+
+-- ---- numbers of offsets
 
 pub step_in : (at offset : ℕ) (later : List ℕ) → at ≢ offset → 1 ≤ length later → insn_number (at ∷ later) offset ≡ 1 + insn_number later offset
 step_in at offset [] other some = absurd (omega (arith, some))
@@ -73,18 +81,3 @@ step_in at offset (next ∷ later) other some = rw (ne_eqb at offset other) refl
 pub first_number : (at : ℕ) (later : List ℕ) → 1 ≤ length later → insn_number (at ∷ later) at ≡ 0
 first_number at [] some = absurd (omega (arith, some))
 first_number at (x ∷ later) some = rw (eq-eqb at at refl) refl
-
--- the offset of an instruction has its number
-pub number_of_start : (wide : Bool) (at : ℕ) (code : List Insn) (starts : List ℕ) → StartAt wide at code starts → (k : ℕ) → k < length code
-    → insn_number starts (get_or starts k 0) ≡ k
-number_of_start wide at [] starts s k below = absurd (omega (arith, below))
-number_of_start wide at (insn ∷ code) starts (later, is, more) zero below =
-    ap (λ (l : List ℕ). insn_number l (get_or l 0 0)) is ∙ first_number at later
-    (let long = count_starts wide (at + size_of at wide insn) code later more in omega (arith, long))
-number_of_start wide at (insn ∷ code) starts (later, is, more) (suc k) below =
-    let long = count_starts wide (at + size_of at wide insn) code later more in
-    let above = above_first wide (at + size_of at wide insn) code later more k (omega (arith, long, below)) in
-    let some = some_size at wide insn in
-    let ih = number_of_start wide (at + size_of at wide insn) code later more k (omega (arith, below)) in
-    ap (λ (l : List ℕ). insn_number l (get_or l (suc k) 0)) is ∙ step_in at (get_or later k 0) later (λ e. absurd (omega (arith, e, above, some)))
-    (omega (arith, long)) ∙ omega (arith, ih)

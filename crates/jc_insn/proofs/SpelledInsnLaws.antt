@@ -291,7 +291,7 @@ is_shortest at insn size is = λ places spelled text same small item.
     let e : size_of at false spelled ≡ size = sym (same_size places at false spelled) ∙ ap (size_of at false) same ∙ sym is in
     omega (arith, h, e)
 
--- only jumps take another number of bytes in the wide layout
+-- only wide jumps take another number of bytes
 pub layout_size : (at : ℕ) (wide : Bool) (insn : Insn) → (wide ≡ true → IsJump insn → ⊥) → size_of at wide insn ≡ size_of at false insn
 layout_size at false insn other = refl
 layout_size at true (insns.Jump op to) other = absurd (other refl tt)

@@ -1,5 +1,5 @@
 -- The shortest spelling of instructions.
-use Rattle.std.specs.Prelude.{◌<◌, ◌≤◌, ⊤, ℕ, ◌+◌, ◌-◌, ◌*◌, ◌%◌, ◌^◌, ℤ, pos, ◌+ℤ◌, Bool, List, [], ◌∷◌, ◌++◌, length, replicate, nat_eq, nat_lt, if◌then◌else◌, FitsSigned, All}
+use Rattle.std.specs.Prelude.{◌≡◌, ◌<◌, ◌≤◌, ⊤, ℕ, suc, ◌+◌, ◌-◌, ◌*◌, ◌%◌, ◌^◌, ℤ, pos, ◌+ℤ◌, Bool, false, List, [], ◌∷◌, ◌++◌, length, replicate, nat_eq, nat_lt, if◌then◌else◌, FitsSigned, All}
 use Rattle.std.specs.List.{flat_map}
 use Rattle.std.specs.Int.{w16, w32, cast_unsigned}
 use Rattle.jc_bytes.specs.BigNumbers.{short, word}
@@ -12,6 +12,7 @@ use Rattle.jc_methods.specs.declared.insn.Insn.TheVariants as insns
 use Rattle.jc_methods.specs.declared.insn.Arm.{Arm}
 use Rattle.jc_methods.specs.Flow.{inverse_of}
 use Rattle.jc_methods.specs.Insn.{with_places}
+use Rattle.jc_methods.specs.Widened.{WideSet}
 use Rattle.jc_insn.specs.Items.{padding}
 use Rattle.jc_insn.specs.Sizes.{is_narrow_inc}
 
@@ -51,13 +52,13 @@ inc_text slot by =
 abbrev pub constant_text : ℕ → List ℕ
 constant_text place = if nat_lt place 256 then opcode.ldc ∷ place ∷ [] else opcode.ldc_w ∷ short place
 
--- goto_w, or a conditional jump that its inverse leads past a goto_w
+-- a wide jump: goto_w, or a conditional jump that its inverse leads past a goto_w
 abbrev pub wide_jump_text : ℕ → ℕ → ℕ → List ℕ
 wide_jump_text at op to =
     if nat_eq op opcode.goto then opcode.goto_w ∷ word (difference at to)
     else inverse_of op ∷ short 8 ++ opcode.goto_w ∷ word (difference (at + 3) to)
 
--- a jump in two bytes, or in the wide layout
+-- a jump in two bytes, or a wide one
 abbrev pub jump_text : ℕ → Bool → ℕ → ℕ → List ℕ
 jump_text at wide op to = if wide then wide_jump_text at op to else op ∷ short (difference at to % 65536)
 
@@ -109,11 +110,12 @@ insn_text at wide (insns.Jump op to) = jump_text at wide op to
 insn_text at wide (insns.Table low default arms) = table_text at low default arms
 insn_text at wide (insns.Lookup default arms) = lookup_text at default arms
 
--- The spellings of instructions, one behind the other, each at its offset. `places` gives the offset of a
+-- The spellings of instructions, one behind the other, each at its offset; the first has the number n. `places` gives the offset of a
 -- place in the code.
-abbrev pub code_text : (ℕ → ℕ) → Bool → List Insn → List ℕ → List ℕ
-code_text places wide (insn ∷ code) (at ∷ starts) = insn_text at wide (with_places places insn) ++ code_text places wide code starts
-code_text places wide code starts = []
+abbrev pub code_text : (ℕ → ℕ) → WideSet → (n : ℕ) → List Insn → List ℕ → List ℕ
+code_text places wide n (insn ∷ code) (at ∷ starts) =
+    insn_text at (wide n) (with_places places insn) ++ code_text places wide (suc n) code starts
+code_text places wide n code starts = []
 
 -- a jump from one offset to the other has room in two bytes of two's complement
 abbrev pub IsNear : ℕ → ℕ → Type 0
@@ -124,10 +126,11 @@ abbrev pub IsNearJump : ℕ → Insn → Type 0
 IsNearJump at (insns.Jump op to) = IsNear at to
 IsNearJump at insn = ⊤
 
--- each instruction at its offset has room for its jump
-abbrev pub AllNear : (ℕ → ℕ) → List Insn → List ℕ → Type 0
-AllNear places (insn ∷ code) (at ∷ starts) = IsNearJump at (with_places places insn) × AllNear places code starts
-AllNear places code starts = ⊤
+-- each instruction at its offset has room for its jump, or is a wide one
+abbrev pub AllNear : (ℕ → ℕ) → WideSet → (n : ℕ) → List Insn → List ℕ → Type 0
+AllNear places wide n (insn ∷ code) (at ∷ starts) =
+    (wide n ≡ false → IsNearJump at (with_places places insn)) × AllNear places wide (suc n) code starts
+AllNear places wide n code starts = ⊤
 
 -- the numbers that are no opcodes and no places in the code fit their types
 abbrev pub IsInRange : Insn → Type 0

@@ -1,8 +1,9 @@
 //! Instructions as bytes.
-ghost use Rattle.std.specs.Prelude.{◌≡◌, ◌≤◌, ◌<◌, ◌++◌, List, ℕ, false, length, slice_index, OnOk, OnErr, All};
+ghost use Rattle.std.specs.Prelude.{◌≡◌, ◌≤◌, ◌<◌, ◌++◌, List, ℕ, length, slice_index, OnOk, OnErr, All};
 ghost use Rattle.jc_bytes.specs.Reader.{most_read};
 ghost use Rattle.jc_methods.specs.Flow.{targets_of};
 ghost use Rattle.jc_methods.specs.Insn.{arm_count, IsWellFormed, with_places};
+ghost use Rattle.jc_methods.specs.Widened.{listed};
 ghost use Rattle.jc_insn.specs.Sizes.{StartAt};
 ghost use Rattle.jc_insn.specs.Writing.{insn_text, code_text, AllNear, IsInRange};
 ghost use Rattle.jc_insn.specs.Layouts.{AppendsSpelling};
@@ -52,34 +53,50 @@ fn put_insn(
     Ok(())
 }
 
+/// Whether the instruction of this number is a wide jump.
+fn is_listed(wide: &[bool], number: usize) -> bool
+    ensures { result ≡ listed wide.now number }
+{
+    wide.get(number).copied().unwrap_or(false)
+}
+
 /// Puts the bytes of instructions, each in its shortest spelling, at the end of `into`
 /// (JVM Specification 4.7.3 and 6.5).
 ///
-/// `starts` has the offset of each instruction and then the length of the code. A jump takes two
-/// bytes for its operand. In the wide layout, where `wide` is true, `goto` is written as `goto_w`,
-/// and a conditional jump as its inverse over a `goto_w`. What pads a switch, the last byte of
-/// `invokeinterface` and the last two of `invokedynamic` are 0. An `Err` leaves `into` as it was.
+/// `starts` has the offset of each instruction and then the length of the code. `wide` says of each
+/// instruction whether it is a wide jump, and of those behind its end that they are none; of what is
+/// no jump it says nothing. A jump takes two bytes for its operand. A wide `goto` is written as
+/// `goto_w`, and a wide conditional jump as its inverse over a `goto_w`. What pads a switch, the
+/// last byte of `invokeinterface` and the last two of `invokedynamic` are 0. An `Err` leaves `into`
+/// as it was.
 pub fn encode(
     alloc: Global,
     code: &[Insn],
     starts: &[u32],
-    wide: bool,
+    wide: &[bool],
     into: &mut Vec<u8>,
 ) -> Result<(), Memory>
-    requires starts { StartAt wide 0 code.now starts.now }
+    requires starts { StartAt (listed wide.now) code.now starts.now }
     requires end { slice_index starts.now (length code.now) ≤ 2147483647 }
     requires well_formed { All IsWellFormed code.now }
     requires places { All (λ insn. All (λ to. to < length code.now) (targets_of insn)) code.now }
     requires few { All (λ insn. arm_count insn ≤ most_read) code.now }
-    requires near { wide ≡ false → AllNear (slice_index starts.now) code.now starts.now }
-    ensures ok { OnOk result (into.new.items ≡ into.old.items ++ code_text (slice_index starts.now) wide code.now starts.now) }
-    // What is written spells the code, and in the wide layout its wide form.
-    ensures spelled { OnOk result (AppendsSpelling wide into.old.items into.new.items code.now starts.now) }
+    requires near { AllNear (slice_index starts.now) (listed wide.now) 0 code.now starts.now }
+    ensures ok { OnOk result (into.new.items
+        ≡ into.old.items ++ code_text (slice_index starts.now) (listed wide.now) 0 code.now starts.now) }
+    // What is written spells the wide form of the code.
+    ensures spelled { OnOk result (AppendsSpelling (listed wide.now) into.old.items into.new.items code.now starts.now) }
     ensures err { OnErr result (into.new.items ≡ into.old.items) }
 {
     let mut text = Vec::new(alloc);
     'writing: for (number, insn) in code.iter().enumerate() {
-        put_insn(&mut text, starts[number], starts, wide, insn)?;
+        put_insn(
+            &mut text,
+            starts[number],
+            starts,
+            is_listed(wide, number),
+            insn,
+        )?;
     }
     into.extend_from_slice(&text)?;
     Ok(())

@@ -1,11 +1,11 @@
 //! Laws of the spelling of code.
 //!
 //! [`each_code_is_spelled_or_refused`] is the promise of this crate; the others are steps, which the crates above cite too.
-ghost use Rattle.std.specs.Prelude.{◌≡◌, ◌⊎◌, ◌++◌, ◌+◌, ◌≤◌, ℕ, List, length, slice_index};
+ghost use Rattle.std.specs.Prelude.{◌≡◌, ◌⊎◌, ◌++◌, ◌+◌, ℕ, List, length, slice_index};
 ghost use Rattle.jc_insn.specs.declared.item.CodeItem.{CodeItem};
 ghost use Rattle.jc_methods.specs.declared.insn.Insn.{Insn};
 ghost use Rattle.jc_bytes.specs.declared.refusal.Refusal.{Refusal};
-ghost use Rattle.jc_methods.specs.Widened.{all_wide, wide_place};
+ghost use Rattle.jc_methods.specs.Widened.{WideSet, none_wide, wide_place};
 ghost use Rattle.jc_insn.specs.Layouts.{wide_starts};
 ghost use Rattle.jc_insn.specs.Items.{IsItem};
 ghost use Rattle.jc_insn.specs.Spells.{Spells, IsRefused};
@@ -31,8 +31,10 @@ pub fn one_code()
         → Spells bytes other others → (code ≡ other) × (starts ≡ others) }
 {}
 
-/// What stands in the wide layout for an instruction begins where the instruction does.
+/// What stands in the wide form for an instruction begins where the instruction does. Where no jump
+/// is wide, the wide form begins where the code does.
 pub fn each_image_begins_where_its_instruction_does()
-    ensures { (code : List Insn) (starts : List ℕ) (place : ℕ) → length starts ≡ length code + 1 → place ≤ length code
-        → slice_index (wide_starts code starts) (wide_place all_wide code place) ≡ slice_index starts place }
+    ensures each { (wide : WideSet) (code : List Insn) (starts : List ℕ) (place : ℕ) → length starts ≡ length code + 1
+        → slice_index (wide_starts wide 0 code starts) (wide_place wide code place) ≡ slice_index starts place }
+    ensures none { (code : List Insn) (starts : List ℕ) → wide_starts none_wide 0 code starts ≡ starts }
 {}

@@ -95,12 +95,12 @@ fn by_form(insn: &Insn, at: u32, wide: bool) -> u32
 /// The length of the shortest spelling of an instruction at the offset `at` of the code
 /// (JVM Specification 6.5), which for a switch depends on `at`.
 ///
-/// A jump takes three bytes. In the wide layout, where `wide` is true, `goto` takes the five of
-/// `goto_w`, and a conditional jump the eight of its inverse over a `goto_w`.
+/// A jump takes three bytes. Where `wide` is true, a `goto` takes the five of `goto_w`, and a
+/// conditional jump the eight of its inverse over a `goto_w`.
 pub fn size_of(insn: &Insn, at: u32, wide: bool) -> u32
     requires { arm_count insn.now ≤ most_read }
     ensures size { result ≡ size_of at wide insn.now }
-    // No spelling is shorter, but for jumps of the wide layout.
+    // No spelling is shorter, but for wide jumps.
     ensures shortest { (wide ≡ true → IsJump insn.now → ⊥) → IsShortest at insn.now result }
 {
     by_form(insn, at, wide)

@@ -114,7 +114,7 @@ fn put_goto(out: &mut Vec<u8>, at: u32, to: u32) -> Result<(), Memory>
     Ok(())
 }
 
-/// A jump of the wide layout.
+/// A wide jump.
 fn put_wide_jump(out: &mut Vec<u8>, at: u32, op: u8, to: u32) -> Result<(), Memory>
     requires form { form_of op ≡ forms.Jump }
     requires at { at ≤ 2147483647 }
