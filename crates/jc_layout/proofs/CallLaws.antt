@@ -16,10 +16,10 @@ use Rattle.jc_methods.specs.declared.body.Body.{Body}
 use Rattle.jc_methods.specs.declared.body.Use.{Use}
 use Rattle.jc_insn.specs.declared.item.CodeItem.TheVariants as items
 use Rattle.jc_insn.specs.Items.{operands, IsItem}
+use Rattle.jc_methods.specs.Widened.{WideSet}
 use Rattle.jc_insn.specs.Sizes.{StartAt}
 use Rattle.jc_insn.specs.Spells.{SpellsFrom, Spells}
 use Rattle.jc_insn.specs.Writing.{insn_text, code_text}
-use Rattle.jc_insn.specs.Layouts.{laid_starts}
 use Rattle.jc_insn.proofs.ItemReadingLaws.{same_item}
 use Rattle.jc_insn.proofs.OperandsSpelledLaws.{item_of, one_number}
 use Rattle.jc_insn.proofs.ReadBackLaws.{short_size, big_short}
@@ -27,7 +27,7 @@ use Rattle.jc_emit.specs.Sizes.{narrow, layout_form}
 use Rattle.jc_emit.specs.Emission.{emission}
 use Rattle.jc_emit.specs.Items.{insn_of, twin_items}
 use Rattle.jc_emit.specs.Marks.{unplaced, invokestatic}
-use Rattle.jc_layout.specs.Layout.{is_wide, chosen_starts, chosen_text}
+use Rattle.jc_layout.specs.Layout.{layout_set, laid_starts, is_wide, chosen_starts, chosen_text}
 use Rattle.jc_layout.specs.LaidBody.{with_call, with_place, laid_body, SpellsLaid}
 use Rattle.jc_layout.proofs.ChoiceLaws.{chosen_stand}
 use Rattle.jc_layout.proofs.LaidCodeLaws.{begins_so, laid_is}
@@ -109,17 +109,17 @@ placed_text call rest =
     let two = two_of (short 0) (short_size 0) in
     ap (λ (l : List ℕ). with_place call ((opcode.invokestatic ∷ l) ++ rest)) two.is
 
-text_begins : (places : ℕ → ℕ) (wide : Bool) (code : List Insn) (starts : List ℕ) → StartAt wide 0 (invokestatic 0 ∷ code) starts
-    → (rest : List ℕ) × (code_text places wide (invokestatic 0 ∷ code) starts ≡ call_text 0 ++ rest)
+text_begins : (places : ℕ → ℕ) (wide : WideSet) (code : List Insn) (starts : List ℕ) → StartAt wide (invokestatic 0 ∷ code) starts
+    → (rest : List ℕ) × (code_text places wide 0 (invokestatic 0 ∷ code) starts ≡ call_text 0 ++ rest)
 unfolding insn_text
 text_begins places wide code starts (later, is, more) =
-    (code_text places wide code later, ap (code_text places wide (invokestatic 0 ∷ code)) is)
+    (code_text places wide 1 code later, ap (code_text places wide 0 (invokestatic 0 ∷ code)) is)
 
 chosen_begins : (code : List Insn) → (rest : List ℕ) × (chosen_text (invokestatic 0 ∷ code) ≡ call_text 0 ++ rest)
 unfolding chosen_text
 chosen_begins code =
     let whole = invokestatic 0 ∷ code in
-    text_begins (slice_index (chosen_starts whole)) (is_wide whole) code (chosen_starts whole) (chosen_stand whole)
+    text_begins (slice_index (chosen_starts whole)) (layout_set (is_wide whole)) code (chosen_starts whole) (chosen_stand whole)
 
 with_called : (call : ℕ) (bytes starts : List ℕ) (whole code : List Insn) → call < 65536
     → bytes ≡ chosen_text (invokestatic 0 ∷ whole) → Spells bytes (invokestatic 0 ∷ code) starts

@@ -13,7 +13,6 @@ use Rattle.jc_methods.specs.declared.body.VarAt.{VarAt}
 use Rattle.jc_methods.specs.declared.body.Use.{Use}
 use Rattle.jc_methods.specs.declared.emitted.Emitted.{Emitted}
 use Rattle.jc_bytes.proofs.BooleanLaws.{in_map, of_map}
-use Rattle.jc_insn.specs.Layouts.{laid_code}
 use Rattle.jc_emit.specs.Sizes.{narrow, widest, layout_form}
 use Rattle.jc_emit.specs.Shift.{probe_array_class}
 use Rattle.jc_emit.specs.Marks.{unplaced, giver_at, image_place, land_place, lead_place}
@@ -29,6 +28,7 @@ use Rattle.jc_emit.proofs.FrameLaws.{layout_told}
 use Rattle.jc_emit.proofs.WidenedLaws.{lead_is, land_is}
 use Rattle.jc_emit.proofs.WideTwinLaws.{widened_frames}
 use Rattle.jc_emit.proofs.WideFrameLaws.{emitted}
+use Rattle.jc_layout.specs.Layout.{laid_code}
 use Rattle.jc_layout.specs.Merged.{merged}
 use Rattle.jc_layout.specs.LaidBody.{with_call, laid_place, placed_var, laid_frames, laid_body}
 use Rattle.jc_layout.proofs.MergedLaws.{merged_cases, merged_left, merged_right, merged_rises, rising_widened}
@@ -70,7 +70,8 @@ module _ (b : Body) (first : ℕ) (states : List State) (array : ℕ) (names : L
   e = emission b first states array
 
   pub are_widened : AreWidened (emission b first states array)
-      (map (widened_frame (wide_place all_wide (emission b first states array).code)) (merged (emission b first states array).frames (emission b first states array).wide_frames))
+      (map (widened_frame (wide_place all_wide (emission b first states array).code))
+      (merged (emission b first states array).frames (emission b first states array).wide_frames))
   are_widened =
       let told = emitted b first states array names well fit named in record {
         rising =

@@ -11,7 +11,6 @@ use Rattle.jc_methods.specs.declared.insn.Flow.{Flow}
 use Rattle.jc_methods.specs.declared.insn.Flow.TheVariants as flows
 use Rattle.jc_methods.specs.declared.body.Body.{Body}
 use Rattle.jc_methods.specs.Widened.{inverted}
-use Rattle.jc_insn.specs.Layouts.{laid_code}
 use Rattle.jc_plan.specs.declared.branch.Branch.{Branch}
 use Rattle.jc_plan.specs.Probed.{probe_of}
 use Rattle.jc_plan.specs.Plan.{lead_probe}
@@ -22,6 +21,7 @@ use Rattle.jc_emit.specs.Items.{Item, start, insn_of, lead_part, early_part, hop
 use Rattle.jc_emit.specs.Local.{IsBehind}
 use Rattle.jc_emit.proofs.WidenedLaws.{widened_is}
 use Rattle.jc_layout.specs.LaidBody.{with_call}
+use Rattle.jc_layout.specs.Layout.{laid_code}
 
 -- ---- behind the prelude no instruction names the method
 

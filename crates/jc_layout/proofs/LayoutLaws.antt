@@ -1,33 +1,34 @@
 -- The offsets of a layout are one list, and the test chooses the layout.
-use Rattle.std.proofs.Common.{◌≡◌, ℕ, ◌+◌, Bool, true, false, not, List, [], ◌∷◌, refl, sym, ap, ◌∙◌, nat_lt, nat_le}
+use Rattle.std.proofs.Common.{◌≡◌, ℕ, suc, ◌+◌, Bool, true, false, not, List, [], ◌∷◌, refl, sym, ap, ◌∙◌, nat_lt, nat_le}
 use Rattle.std.specs.Prelude.{slice_index}
 use Rattle.std.proofs.lemmas.Bool.{and_parts, and_from, ltb-true, lt-ltb, leb-true, le-leb}
 use Rattle.jc_methods.specs.declared.insn.Insn.{Insn}
 use Rattle.jc_methods.specs.declared.insn.Insn.TheVariants as insns
 use Rattle.jc_methods.specs.Insn.{with_places}
-use Rattle.jc_insn.specs.Sizes.{size_of, StartAt}
+use Rattle.jc_methods.specs.Widened.{none_wide}
+use Rattle.jc_insn.specs.Sizes.{size_of, StartFrom, StartAt}
 use Rattle.jc_insn.specs.Writing.{IsNear, IsNearJump, AllNear}
-use Rattle.jc_layout.specs.Layout.{starts_from, starts_of, IsChosen, is_near, is_near_jump, all_near, is_wide}
+use Rattle.jc_layout.specs.Layout.{layout_set, starts_from, starts_of, IsChosen, is_near, is_near_jump, all_near, is_wide}
 
 -- ---- offsets
 
-stand_from : (wide : Bool) (at : ℕ) (code : List Insn) → StartAt wide at code (starts_from wide at code)
-stand_from wide at [] = refl
-stand_from wide at (insn ∷ code) =
-    (starts_from wide (at + size_of at wide insn) code, refl, stand_from wide (at + size_of at wide insn) code)
+stand_from : (wide : Bool) (n at : ℕ) (code : List Insn) → StartFrom (layout_set wide) n at code (starts_from wide at code)
+stand_from wide n at [] = refl
+stand_from wide n at (insn ∷ code) =
+    (starts_from wide (at + size_of at wide insn) code, refl, stand_from wide (suc n) (at + size_of at wide insn) code)
 
-pub starts_stand : (wide : Bool) (code : List Insn) → StartAt wide 0 code (starts_of wide code)
+pub starts_stand : (wide : Bool) (code : List Insn) → StartAt (layout_set wide) code (starts_of wide code)
 unfolding starts_of
-starts_stand wide code = stand_from wide 0 code
+starts_stand wide code = stand_from wide 0 0 code
 
-one_from : (wide : Bool) (at : ℕ) (code : List Insn) (starts : List ℕ) → StartAt wide at code starts → starts ≡ starts_from wide at code
-one_from wide at [] starts s = s
-one_from wide at (insn ∷ code) starts (later, is, more) =
-    is ∙ ap (λ (l : List ℕ). at ∷ l) (one_from wide (at + size_of at wide insn) code later more)
+one_from : (wide : Bool) (n at : ℕ) (code : List Insn) (starts : List ℕ) → StartFrom (layout_set wide) n at code starts → starts ≡ starts_from wide at code
+one_from wide n at [] starts s = s
+one_from wide n at (insn ∷ code) starts (later, is, more) =
+    is ∙ ap (λ (l : List ℕ). at ∷ l) (one_from wide (suc n) (at + size_of at wide insn) code later more)
 
-pub one_list : (wide : Bool) (code : List Insn) (starts : List ℕ) → StartAt wide 0 code starts → starts ≡ starts_of wide code
+pub one_list : (wide : Bool) (code : List Insn) (starts : List ℕ) → StartAt (layout_set wide) code starts → starts ≡ starts_of wide code
 unfolding starts_of
-one_list wide code starts s = one_from wide 0 code starts s
+one_list wide code starts s = one_from wide 0 0 code starts s
 
 -- ---- the choice
 
@@ -46,24 +47,28 @@ jump_from : (at : ℕ) (insn : Insn) → IsNearJump at insn → is_near_jump at 
 jump_from at (insns.Jump op to) h = near_from at to h
 jump_from at insn h = refl
 
-all_to : (places : ℕ → ℕ) (code : List Insn) (starts : List ℕ) → all_near places code starts ≡ true → AllNear places code starts
-all_to places [] starts h = tt
-all_to places (insn ∷ code) [] h = tt
-all_to places (insn ∷ code) (at ∷ starts) h =
+all_to : (places : ℕ → ℕ) (n : ℕ) (code : List Insn) (starts : List ℕ) → all_near places code starts ≡ true → AllNear places none_wide n code starts
+all_to places n [] starts h = tt
+all_to places n (insn ∷ code) [] h = tt
+all_to places n (insn ∷ code) (at ∷ starts) h =
     let p = and_parts (is_near_jump at (with_places places insn)) (all_near places code starts) h in
-    (jump_to at (with_places places insn) p.0, all_to places code starts p.1)
+    (λ narrow. jump_to at (with_places places insn) p.0, all_to places (suc n) code starts p.1)
 
-all_from : (places : ℕ → ℕ) (code : List Insn) (starts : List ℕ) → AllNear places code starts → all_near places code starts ≡ true
-all_from places [] starts h = refl
-all_from places (insn ∷ code) [] h = refl
-all_from places (insn ∷ code) (at ∷ starts) h =
-    and_from (is_near_jump at (with_places places insn)) (all_near places code starts) (jump_from at (with_places places insn) h.0)
-    (all_from places code starts h.1)
+all_from : (places : ℕ → ℕ) (n : ℕ) (code : List Insn) (starts : List ℕ) → AllNear places none_wide n code starts → all_near places code starts ≡ true
+all_from places n [] starts h = refl
+all_from places n (insn ∷ code) [] h = refl
+all_from places n (insn ∷ code) (at ∷ starts) h =
+    and_from (is_near_jump at (with_places places insn)) (all_near places code starts) (jump_from at (with_places places insn) (h.0 refl))
+    (all_from places (suc n) code starts h.1)
+
+-- each jump has room at these offsets
+abbrev HaveRoom : List Insn → List ℕ → Type 0
+HaveRoom code starts = AllNear (slice_index starts) none_wide 0 code starts
 
 chosen_by : (code : List Insn) (starts : List ℕ) (t : Bool) → all_near (slice_index starts) code starts ≡ t
-    → (not t ≡ false → AllNear (slice_index starts) code starts) × (not t ≡ true → AllNear (slice_index starts) code starts → ⊥)
-chosen_by code starts true e = (λ h. all_to (slice_index starts) code starts e, λ h. cc)
-chosen_by code starts false e = (λ h. cc, λ h fits. differ (sym e ∙ all_from (slice_index starts) code starts fits))
+    → (not t ≡ false → HaveRoom code starts) × (not t ≡ true → HaveRoom code starts → ⊥)
+chosen_by code starts true e = (λ h. all_to (slice_index starts) 0 code starts e, λ h. cc)
+chosen_by code starts false e = (λ h. cc, λ h fits. differ (sym e ∙ all_from (slice_index starts) 0 code starts fits))
   where
     differ : false ≡ true → ⊥
     differ x = cc

@@ -1,5 +1,6 @@
 pub mod LayoutLaws
 pub mod OffsetLaws
+pub mod AllOrNoneLaws
 pub mod ChoiceLaws
 pub mod FormedLaws
 pub mod ItemTargetsLaws

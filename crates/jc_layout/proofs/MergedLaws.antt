@@ -1,5 +1,5 @@
 -- The frames of the wide layout are in rising order.
-use Rattle.std.proofs.Common.{◌≡◌, ◌⊎◌, inl, inr, ⊎_elim, ℕ, zero, suc, ◌+◌, ◌≤◌, Bool, true, false, List, [], ◌∷◌, map, refl, sym, ap, subst, arith, nat_lt, if◌then◌else◌}
+use Rattle.std.proofs.Common.{◌≡◌, ◌⊎◌, inl, inr, ⊎_elim, ℕ, zero, suc, ◌+◌, ◌<◌, ◌≤◌, Bool, true, false, List, [], ◌∷◌, map, refl, subst, arith, nat_lt, if◌then◌else◌}
 use Rattle.std.specs.Prelude.{Contains}
 use Rattle.std.proofs.lemmas.Bool.{ltb-true}
 use Rattle.std.proofs.lemmas.Bool.Decides.{nat_tests}
@@ -98,47 +98,30 @@ merged_rises frames (f ∷ others) from r s apart =
     (λ later. let above = risen (f.at + 1) others g s.1 later in absurd (omega (arith, above, e)))
     (merged_cases frames others g c))
 
--- ---- in the wide code
+-- ---- in the wide form of code
 
 pub some_width : (flow : Flow) (wide : Bool) → 1 ≤ widths_by flow wide
 some_width flows.Branches true = omega arith
 some_width flow wide = omega arith
 
-place_above : (wide : WideSet) (n : ℕ) (code : List Insn) (k : ℕ) → k ≤ wide_place_from wide n code k
-place_above wide n [] k = omega arith
-place_above wide n (insn ∷ code) zero = omega arith
-place_above wide n (insn ∷ code) (suc k) =
-    let more = place_above wide (suc n) code k in let some = some_width (flow_of insn) (wide n) in omega (arith, more, some)
+module _ (wide : WideSet) where
+  places_rise : (n : ℕ) (code : List Insn) (i j : ℕ) → i < j → wide_place_from wide n code i < wide_place_from wide n code j
+  places_rise n [] i j lt = lt
+  places_rise n (insn ∷ code) i zero lt = absurd (omega (arith, lt))
+  places_rise n (insn ∷ code) zero (suc j) lt = let some = some_width (flow_of insn) (wide n) in omega (arith, some)
+  places_rise n (insn ∷ code) (suc i) (suc j) lt = let more = places_rise (suc n) code i j (omega (arith, lt)) in omega (arith, more)
 
-place_apart : (wide : WideSet) (n : ℕ) (code : List Insn) (q k : ℕ) → wide_place_from wide n code q + k ≤ wide_place_from wide n code (q + k)
-place_apart wide n [] q k = omega arith
-place_apart wide n (insn ∷ code) zero k =
-    let above = place_above wide n (insn ∷ code) k in
-    let e : 0 + k ≡ k = omega arith in
-    subst (λ p. 0 + k ≤ wide_place_from wide n (insn ∷ code) p) (sym e) (omega (arith, above))
-place_apart wide n (insn ∷ code) (suc q) k =
-    let e : suc q + k ≡ suc (q + k) = omega arith in
-    let more = place_apart wide (suc n) code q k in
-    subst (λ p. widths_by (flow_of insn) (wide n) + wide_place_from wide (suc n) code q + k ≤ wide_place_from wide n (insn ∷ code) p) (sym e)
-    (omega (arith, more))
+  pub wide_places_rise : (code : List Insn) (i j : ℕ) → i < j → wide_place wide code i < wide_place wide code j
+  wide_places_rise code i j lt = places_rise 0 code i j lt
 
-place_grows : (wide : WideSet) (code : List Insn) (q r : ℕ) → q + 1 ≤ r → wide_place wide code q + 1 ≤ wide_place wide code r
-place_grows wide code q r le = up (difference q r le)
-  where
-    difference : (q r : ℕ) → q + 1 ≤ r → (k : ℕ) × (q + (k + 1) ≡ r)
-    difference q zero le = absurd (omega arith)
-    difference zero (suc r) le = (r, omega arith)
-    difference (suc q) (suc r) le = let d = difference q r (omega arith) in (d.0, let e = d.1 in omega (arith, e))
+  widened_rise : (code : List Insn) (a b : ℕ) (frames : List FrameAt) → RiseFrom a frames
+      → ((r : ℕ) → a ≤ r → b ≤ wide_place wide code r) → RiseFrom b (map (widened_frame (wide_place wide code)) frames)
+  widened_rise code a b [] r h = tt
+  widened_rise code a b (f ∷ frames) r h = (
+    h f.at r.0,
+    widened_rise code (f.at + 1) (wide_place wide code f.at + 1) frames r.1
+        (λ q le. let up = wide_places_rise code f.at q (omega (arith, le)) in omega (arith, up)),
+  )
 
-    up : (k : ℕ) × (q + (k + 1) ≡ r) → wide_place wide code q + 1 ≤ wide_place wide code r
-    up (k, e) = let h = place_apart wide 0 code q (k + 1) in let s = ap (wide_place wide code) e in omega (arith, h, s)
-
-widened_rise : (wide : WideSet) (code : List Insn) (a b : ℕ) (frames : List FrameAt) → RiseFrom a frames
-    → ((r : ℕ) → a ≤ r → b ≤ wide_place wide code r) → RiseFrom b (map (widened_frame (wide_place wide code)) frames)
-widened_rise wide code a b [] r h = tt
-widened_rise wide code a b (f ∷ frames) r h =
-    (h f.at r.0, widened_rise wide code (f.at + 1) (wide_place wide code f.at + 1) frames r.1 (λ q le. place_grows wide code f.at q le))
-
-pub rising_widened : (wide : WideSet) (code : List Insn) (frames : List FrameAt) → RiseFrom 0 frames
-    → RiseFrom 0 (map (widened_frame (wide_place wide code)) frames)
-rising_widened wide code frames r = widened_rise wide code 0 0 frames r (λ q le. omega arith)
+  pub rising_widened : (code : List Insn) (frames : List FrameAt) → RiseFrom 0 frames → RiseFrom 0 (map (widened_frame (wide_place wide code)) frames)
+  rising_widened code frames r = widened_rise code 0 0 frames r (λ q le. omega arith)

@@ -12,13 +12,12 @@ use Rattle.jc_methods.specs.declared.body.VarAt.{VarAt}
 use Rattle.jc_methods.specs.declared.body.What.{What}
 use Rattle.jc_methods.specs.declared.kind.State.{State}
 use Rattle.jc_methods.specs.declared.emitted.Emitted.{Emitted}
-use Rattle.jc_insn.specs.Layouts.{laid_code, laid_starts}
 use Rattle.jc_insn.specs.Spells.{Spells}
 use Rattle.jc_emit.specs.Emission.{emission, widened_frame}
 use Rattle.jc_emit.specs.Marks.{invokestatic}
 use Rattle.jc_emit.specs.Twin.{probe_init, Twin}
 use Rattle.jc_emit.specs.TwinTables.{moved_row, moved_line}
-use Rattle.jc_layout.specs.Layout.{chosen_text}
+use Rattle.jc_layout.specs.Layout.{laid_code, laid_starts, chosen_text}
 use Rattle.jc_layout.specs.Merged.{merged}
 
 -- ---- the method that the prelude calls

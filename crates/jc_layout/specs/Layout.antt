@@ -1,5 +1,5 @@
 -- Where the instructions of code stand, and whether its jumps are wide (JVM Specification 4.7.3 and 6.5, goto_w).
-use Rattle.std.specs.Prelude.{◌≡◌, ⊤, ℕ, ◌+◌, ◌<◌, Bool, true, false, ◌&&◌, not, List, [], ◌∷◌, length, None, slice_index, nat_lt, nat_le}
+use Rattle.std.specs.Prelude.{◌≡◌, ⊤, ℕ, ◌+◌, ◌<◌, Bool, true, false, ◌&&◌, not, if◌then◌else◌, List, [], ◌∷◌, length, None, slice_index, nat_lt, nat_le}
 use Rattle.jc_bytes.specs.declared.fail.Fail.{Fail}
 use Rattle.jc_bytes.specs.declared.fail.Fail.TheVariants as fails
 use Rattle.jc_bytes.specs.declared.refusal.Refusal.{Refusal}
@@ -7,8 +7,23 @@ use Rattle.jc_bytes.specs.declared.refusal.RefusalKind.TheVariants as kinds
 use Rattle.jc_methods.specs.declared.insn.Insn.{Insn}
 use Rattle.jc_methods.specs.declared.insn.Insn.TheVariants as insns
 use Rattle.jc_methods.specs.Insn.{with_places}
+use Rattle.jc_methods.specs.Widened.{WideSet, none_wide, all_wide, widened}
+use Rattle.jc_insn.specs.Layouts.{wide_starts}
 use Rattle.jc_insn.specs.Sizes.{size_of}
 use Rattle.jc_insn.specs.Writing.{AllNear, code_text}
+
+-- ---- the two layouts
+
+-- all jumps of the wide layout are wide, and none of the narrow one
+abbrev pub layout_set : (all : Bool) → WideSet
+layout_set all place = all
+
+-- the instructions that stand in a layout of the code, and where they begin
+abbrev pub laid_code : Bool → List Insn → List Insn
+laid_code wide code = if wide then widened all_wide code else code
+
+abbrev pub laid_starts : Bool → List Insn → List ℕ → List ℕ
+laid_starts wide code starts = if wide then wide_starts all_wide 0 code starts else starts
 
 -- ---- offsets
 
@@ -24,7 +39,7 @@ starts_of wide code = starts_from wide 0 code
 
 -- each jump of the narrow layout has room in two bytes
 abbrev pub FitsNarrow : List Insn → Type 0
-FitsNarrow code = AllNear (slice_index (starts_of false code)) code (starts_of false code)
+FitsNarrow code = AllNear (slice_index (starts_of false code)) none_wide 0 code (starts_of false code)
 
 -- the layout is narrow exactly where each jump has room
 pub record IsChosen (code : List Insn) (wide : Bool) : Type 0 where
@@ -59,7 +74,7 @@ chosen_length code = slice_index (chosen_starts code) (length code)
 
 -- the bytes
 unfoldable pub chosen_text : List Insn → List ℕ
-chosen_text code = code_text (slice_index (chosen_starts code)) (is_wide code) code (chosen_starts code)
+chosen_text code = code_text (slice_index (chosen_starts code)) (layout_set (is_wide code)) 0 code (chosen_starts code)
 
 -- ---- code that is too large
 

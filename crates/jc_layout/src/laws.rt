@@ -12,7 +12,7 @@ ghost use Rattle.jc_insn.specs.Sizes.{StartAt};
 ghost use Rattle.jc_emit.specs.Emission.{emission, HasFrameStates, IsArrayNumber};
 ghost use Rattle.jc_layout.specs.LaidBody.{LaidBodiesAreSpelled, LaidBodiesAreTwins};
 ghost use Rattle.jc_layout.specs.Layable.{IsLayable};
-ghost use Rattle.jc_layout.specs.Layout.{starts_of, IsChosen, is_wide};
+ghost use Rattle.jc_layout.specs.Layout.{layout_set, starts_of, IsChosen, is_wide};
 
 /// The body that stands in a layout of the instrumented code is a twin of the body, in either
 /// layout, where the method that the prelude calls has its place in the pool and what the body uses
@@ -25,8 +25,8 @@ pub fn each_laid_body_has_a_twin()
 /// In each layout there is one list of offsets at which the instructions begin, whatever padding
 /// switches need, and one layout is chosen.
 pub fn each_layout_is_chosen()
-    ensures starts { (wide : Bool) (code : List Insn) → StartAt wide 0 code (starts_of wide code) }
-    ensures one { (wide : Bool) (code : List Insn) (starts : List ℕ) → StartAt wide 0 code starts → starts ≡ starts_of wide code }
+    ensures starts { (wide : Bool) (code : List Insn) → StartAt (layout_set wide) code (starts_of wide code) }
+    ensures one { (wide : Bool) (code : List Insn) (starts : List ℕ) → StartAt (layout_set wide) code starts → starts ≡ starts_of wide code }
     ensures chosen { (code : List Insn) → IsChosen code (is_wide code) }
     ensures one_choice { (code : List Insn) (wide : Bool) → IsChosen code wide → wide ≡ is_wide code }
 {}

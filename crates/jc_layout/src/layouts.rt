@@ -1,10 +1,9 @@
 //! The layout of code.
-ghost use Rattle.std.specs.Prelude.{◌≡◌, ◌≤◌, IfOk, IfErr, length};
-ghost use Rattle.jc_insn.specs.Layouts.{laid_code, laid_starts};
+ghost use Rattle.std.specs.Prelude.{◌≡◌, ◌≤◌, IfOk, IfErr, length, replicate};
 ghost use Rattle.jc_insn.specs.Sizes.{StartAt};
 ghost use Rattle.jc_insn.specs.Spells.{Spells};
 ghost use Rattle.jc_layout.specs.Layable.{IsLayable};
-ghost use Rattle.jc_layout.specs.Layout.{IsChosen, is_wide, chosen_starts, chosen_length, chosen_text, most_bytes, too_large, IsTooLarge};
+ghost use Rattle.jc_layout.specs.Layout.{layout_set, laid_code, laid_starts, IsChosen, is_wide, chosen_starts, chosen_length, chosen_text, most_bytes, too_large, IsTooLarge};
 
 use crate::near::all_near;
 use crate::offsets::offsets;
@@ -52,6 +51,13 @@ fn choose(alloc: Global, code: &[Insn]) -> Result<Choice, Memory>
     Ok(Choice { starts, wide: true })
 }
 
+/// Of each instruction whether its jump is wide in this layout.
+fn wide_jumps(alloc: Global, insns: &[Insn], wide: bool) -> Result<Vec<bool>, Memory>
+    ensures { IfOk result (λ jumps. jumps.items ≡ replicate (length insns.now) wide) }
+{
+    Ok(vec![in alloc; wide; insns.len()]?)
+}
+
 /// The refusal of code of this length.
 fn too_large(length: u32) -> Refusal
     ensures { result ≡ too_large length }
@@ -78,7 +84,7 @@ pub fn layout_code(alloc: Global, insns: &[Insn]) -> Result<Laid, Fail<Refusal>>
     // The layout is narrow exactly where each jump has room in two bytes.
     ensures chosen { IfOk result (λ l. IsChosen insns.now l.wide) }
     // The instructions begin one directly behind the other.
-    ensures starts { IfOk result (λ l. StartAt l.wide 0 insns.now l.starts) }
+    ensures starts { IfOk result (λ l. StartAt (layout_set l.wide) insns.now l.starts) }
     // The bytes are the shortest spelling of each, and spell the code, in the wide layout its wide form.
     ensures text { IfOk result (λ l. l.code ≡ chosen_text insns.now) }
     ensures spelled { IfOk result (λ l. Spells l.code (laid_code l.wide insns.now)
@@ -93,8 +99,9 @@ pub fn layout_code(alloc: Global, insns: &[Insn]) -> Result<Laid, Fail<Refusal>>
     if length > MOST_BYTES {
         return Err(Fail::Said(too_large(length)));
     }
+    let jumps = wide_jumps(alloc, insns, wide)?;
     let mut code = Vec::new(alloc);
-    encode(alloc, insns, &starts, wide, &mut code)?;
+    encode(alloc, insns, &starts, &jumps, &mut code)?;
     Ok(Laid {
         code: List::from_vec(code),
         starts: List::from_vec(starts),
@@ -113,7 +120,7 @@ pub fn layout(alloc: Global, emitted: &Emitted) -> Result<Laid, Fail<Refusal>>
     // The layout is narrow exactly where each jump has room in two bytes.
     ensures chosen { IfOk result (λ l. IsChosen emitted.now.code l.wide) }
     // The instructions begin one directly behind the other.
-    ensures starts { IfOk result (λ l. StartAt l.wide 0 emitted.now.code l.starts) }
+    ensures starts { IfOk result (λ l. StartAt (layout_set l.wide) emitted.now.code l.starts) }
     // The bytes are the shortest spelling of each, and spell the code, in the wide layout its wide form.
     ensures text { IfOk result (λ l. l.code ≡ chosen_text emitted.now.code) }
     ensures spelled { IfOk result (λ l. Spells l.code (laid_code l.wide emitted.now.code)
