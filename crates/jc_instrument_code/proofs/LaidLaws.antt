@@ -6,28 +6,29 @@ use Rattle.jc_methods.specs.declared.body.FrameAt.{FrameAt}
 use Rattle.jc_methods.specs.declared.emitted.Emitted.{Emitted}
 use Rattle.jc_methods.specs.declared.insn.Insn.{Insn}
 use Rattle.jc_frames.specs.FullTable.{AreRisingOffsets, AreShort, CanBeWritten, FitsFull}
-use Rattle.jc_insn.specs.Sizes.{size_of, StartAt}
+use Rattle.jc_methods.specs.Widened.{WideSet}
+use Rattle.jc_insn.specs.Sizes.{size_of, StartFrom, StartAt}
 use Rattle.jc_insn.proofs.SizeSumsLaws.{below_last, first_start, some_size}
-use Rattle.jc_layout.specs.Layout.{IsChosen, is_wide, starts_of, chosen_starts, chosen_text, chosen_length, most_bytes}
+use Rattle.jc_layout.specs.Layout.{layout_set, IsChosen, is_wide, starts_of, chosen_starts, chosen_text, chosen_length, most_bytes}
 use Rattle.jc_layout.specs.declared.layouts.Laid.{Laid}
 use Rattle.jc_layout.proofs.ChoiceLaws.{chosen_count, chosen_stand, text_length}
 use Rattle.jc_layout.proofs.LayoutLaws.{one_choice, one_list}
 use Rattle.jc_instrument_code.specs.Given.{AreFrames, IsLaid}
 
-rises : (wide : Bool) (at : ℕ) (code : List Insn) (starts : List ℕ) → StartAt wide at code starts → AreRisingOffsets starts
-rises wide at [] starts s k lt = let e = ap (λ (l : List ℕ). length l) s in absurd (omega (arith, e, lt))
-rises wide at (insn ∷ code) starts (later, is, more) zero lt =
+rises : (wide : WideSet) (n at : ℕ) (code : List Insn) (starts : List ℕ) → StartFrom wide n at code starts → AreRisingOffsets starts
+rises wide n at [] starts s k lt = let e = ap (λ (l : List ℕ). length l) s in absurd (omega (arith, e, lt))
+rises wide n at (insn ∷ code) starts (later, is, more) zero lt =
     let here = ap (λ (l : List ℕ). get_or l 0 0) is in
     let next = ap (λ (l : List ℕ). get_or l 1 0) is in
-    let first = first_start wide (at + size_of at wide insn) code later more in
-    let some = some_size at wide insn in
+    let first = first_start wide (suc n) (at + size_of at (wide n) insn) code later more in
+    let some = some_size at (wide n) insn in
     omega (arith, here, next, first, some)
-rises wide at (insn ∷ code) starts (later, is, more) (suc k) lt =
+rises wide n at (insn ∷ code) starts (later, is, more) (suc k) lt =
     let long = ap (λ (l : List ℕ). length l) is in
     let same : suc k + 1 ≡ suc (k + 1) = omega arith in
     let here = ap (λ (l : List ℕ). get_or l (suc k) 0) is in
-    let next = ap (λ (n : ℕ). get_or starts n 0) same ∙ ap (λ (l : List ℕ). get_or l (suc (k + 1)) 0) is in
-    let above = rises wide (at + size_of at wide insn) code later more k (omega (arith, long, lt)) in
+    let next = ap (λ (j : ℕ). get_or starts j 0) same ∙ ap (λ (l : List ℕ). get_or l (suc (k + 1)) 0) is in
+    let above = rises wide (suc n) (at + size_of at (wide n) insn) code later more k (omega (arith, long, lt)) in
     omega (arith, here, next, above)
 
 module _ (e : Emitted) (l : Laid) (laid : IsLaid e l) where
@@ -41,7 +42,7 @@ module _ (e : Emitted) (l : Laid) (laid : IsLaid e l) where
       omega (arith, size, few)
 
   pub laid_rise : AreRisingOffsets l.starts
-  laid_rise = subst AreRisingOffsets (sym laid.starts) (rises (is_wide e.code) 0 e.code (chosen_starts e.code) (chosen_stand e.code))
+  laid_rise = subst AreRisingOffsets (sym laid.starts) (rises (layout_set (is_wide e.code)) 0 0 e.code (chosen_starts e.code) (chosen_stand e.code))
 
   pub laid_short : AreShort l.starts
   laid_short = subst AreShort (sym laid.starts) short
@@ -51,7 +52,7 @@ module _ (e : Emitted) (l : Laid) (laid : IsLaid e l) where
           let all = chosen_starts e.code in
           let stand = chosen_stand e.code in
           let read = get_or_default all k d 0 lt in
-          let last = below_last (is_wide e.code) 0 e.code all stand k lt in
+          let last = below_last (layout_set (is_wide e.code)) 0 0 e.code all stand k lt in
           let few = laid_length in
           omega (arith, read, last, few)
 
@@ -64,11 +65,11 @@ module _ (e : Emitted) (l : Laid) (laid : IsLaid e l) where
     each = subst (λ (n : ℕ). AllByRecursion (FitsFull n names) frames) (sym count) are.each;
   }
 
-starts_are : (code : List Insn) (starts : List ℕ) (wide : Bool) → IsChosen code wide → StartAt wide 0 code starts → starts ≡ chosen_starts code
+starts_are : (code : List Insn) (starts : List ℕ) (wide : Bool) → IsChosen code wide → StartAt (layout_set wide) code starts → starts ≡ chosen_starts code
 unfolding chosen_starts
 starts_are code starts wide chosen stand = one_list wide code starts stand ∙ ap (λ (t : Bool). starts_of t code) (one_choice code wide chosen)
 
-pub is_laid : (e : Emitted) (l : Laid) → IsChosen e.code l.wide → StartAt l.wide 0 e.code l.starts → l.code ≡ chosen_text e.code
+pub is_laid : (e : Emitted) (l : Laid) → IsChosen e.code l.wide → StartAt (layout_set l.wide) e.code l.starts → l.code ≡ chosen_text e.code
     → length l.code ≡ chosen_length e.code → chosen_length e.code ≤ most_bytes → IsLaid e l
 is_laid e l chosen stand text size few = record {
   wide = one_choice e.code l.wide chosen;

@@ -27,6 +27,7 @@ use Rattle.jc_bytes.specs.BigNumbers.{short, word}
 use Rattle.jc_methods.proofs.InsnFormLaws.{unknown_beyond, local_codes}
 use Rattle.jc_kinds_after.specs.Shift.{with_slot}
 use Rattle.jc_insn.specs.Items.{padding, IsItem, operands, wide_operands, table_operands, lookup_operands}
+use Rattle.jc_methods.specs.Widened.{WideSet}
 use Rattle.jc_insn.specs.Sizes.{is_narrow_inc}
 use Rattle.jc_insn.specs.Spells.{Spells, SpellsFrom}
 use Rattle.jc_insn.specs.Writing.{difference, signed_byte, signed_short, push_text, short_code, local_text, inc_text, constant_text, jump_text, arm_text, pad_text, insn_text, code_text}
@@ -42,7 +43,7 @@ use Rattle.jc_emit.specs.Marks.{unplaced, push}
 use Rattle.jc_emit.specs.Sizes.{narrow, insn_at, early_probe, late_probe, arms_at}
 use Rattle.jc_emit.specs.TwinCode.{to_of}
 use Rattle.jc_layout.specs.LaidBody.{with_place}
-use Rattle.jc_layout.specs.Layout.{is_wide, chosen_starts, chosen_text}
+use Rattle.jc_layout.specs.Layout.{layout_set, is_wide, chosen_starts, chosen_text}
 use Rattle.jc_layout.proofs.FormedLaws.{inverse_form}
 use Rattle.jc_layout.proofs.LayableLaws.{all_formed}
 use Rattle.jc_instrument.specs.RoomCauses.{probed_code}
@@ -184,14 +185,14 @@ places_byte f (insns.Interface place count) small = small
 places_byte f (insns.Multi place dims) small = small
 places_byte f insn small = tt
 
-code_are : (places : ℕ → ℕ) (wide : Bool) (code : List Insn) (starts : List ℕ) → AllByRecursion IsWellFormed code → AllByRecursion HasByte code
-    → AreBytes (code_text places wide code starts)
-code_are places wide [] starts formed small = tt
-code_are places wide (insn ∷ code) [] formed small = tt
-code_are places wide (insn ∷ code) (at ∷ starts) formed small =
-    bytes_both (insn_text at wide (with_places places insn)) (code_text places wide code starts)
-    (insn_are at wide (with_places places insn) (well_formed_with places insn formed.0) (places_byte places insn small.0))
-    (code_are places wide code starts formed.1 small.1)
+code_are : (places : ℕ → ℕ) (wide : WideSet) (n : ℕ) (code : List Insn) (starts : List ℕ) → AllByRecursion IsWellFormed code
+    → AllByRecursion HasByte code → AreBytes (code_text places wide n code starts)
+code_are places wide n [] starts formed small = tt
+code_are places wide n (insn ∷ code) [] formed small = tt
+code_are places wide n (insn ∷ code) (at ∷ starts) formed small =
+    bytes_both (insn_text at (wide n) (with_places places insn)) (code_text places wide (suc n) code starts)
+    (insn_are at (wide n) (with_places places insn) (well_formed_with places insn formed.0) (places_byte places insn small.0))
+    (code_are places wide (suc n) code starts formed.1 small.1)
 
 pub placed_are : (call : ℕ) (bytes : List ℕ) → AreBytes bytes → AreBytes (with_place call bytes)
 placed_are call [] are = tt
@@ -282,7 +283,7 @@ module _ (b : Body) (first : ℕ) (small : AllByRecursion HasByte b.code) where
   unfolding chosen_text
   text_are made =
       let code = probed_code b first in
-      code_are (slice_index (chosen_starts code)) (is_wide code) code (chosen_starts code)
+      code_are (slice_index (chosen_starts code)) (layout_set (is_wide code)) 0 code (chosen_starts code)
       (recursion_from_All IsWellFormed code (all_formed b first made.code)) (mapped_byte (twin_items b first narrow) items_byte)
 
 -- ---- the code that was read
