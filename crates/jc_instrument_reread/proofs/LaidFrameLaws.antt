@@ -22,7 +22,6 @@ use Rattle.jc_pool.specs.Lookup.{class_name_of}
 use Rattle.jc_frames.specs.Frames.{Ground, is_new}
 use Rattle.jc_frames.specs.FullFrames.{Places, AreWritable}
 use Rattle.jc_frames.specs.FullTable.{HasPlace, named_by_all, FitsFull}
-use Rattle.jc_insn.specs.Layouts.{laid_code}
 use Rattle.jc_kinds.specs.Answers.{AreStates}
 use Rattle.jc_kinds_after.specs.Shift.{shifted}
 use Rattle.jc_emit.specs.Marks.{giver_at}
@@ -31,6 +30,7 @@ use Rattle.jc_emit.specs.Emission.{emission, widened_frame, HasFrameStates, IsAr
 use Rattle.jc_emit.specs.Items.{insn_of, image_of, twin_items}
 use Rattle.jc_emit.specs.Shift.{image_kind}
 use Rattle.jc_emit.specs.Straddling.{NoneStraddles}
+use Rattle.jc_layout.specs.Layout.{laid_code}
 use Rattle.jc_layout.specs.LaidBody.{laid_frames, laid_place, with_call}
 use Rattle.jc_layout.specs.Merged.{merged}
 use Rattle.jc_layout.proofs.LaidBodyLaws.{laid_told}

@@ -13,7 +13,7 @@ use Rattle.jc_methods.specs.InsnUse.{LocalsWithin, is_of_two_slots}
 use Rattle.jc_bytes.specs.PlainLists.{pieces}
 use Rattle.jc_methods.specs.ProbeMembers.{most_probes, most_short}
 use Rattle.jc_methods.specs.WellMade.{IsWellMadeOfAnySize}
-use Rattle.jc_methods.specs.Widened.{inverted}
+use Rattle.jc_methods.specs.Widened.{none_wide, inverted}
 use Rattle.jc_methods.specs.declared.body.Body.{Body}
 use Rattle.jc_methods.specs.declared.insn.Flow.{Flow}
 use Rattle.jc_methods.specs.declared.insn.Flow.TheVariants as flows
@@ -28,19 +28,18 @@ use Rattle.jc_plan.specs.Plan.{lead_probe}
 use Rattle.jc_plan.specs.Probed.{Position, id_if, is_before, is_probed, position_of, probe_count, probe_of, probes_before}
 use Rattle.jc_plan.proofs.CountLaws.{count_le}
 use Rattle.jc_frames.proofs.ReadLaws.{each_of}
-use Rattle.jc_insn.specs.Layouts.{laid_code, laid_starts}
 use Rattle.jc_insn.specs.Spells.{Spells}
 use Rattle.jc_insn.specs.Writing.{AllNear, IsInRange, code_text}
 use Rattle.jc_insn.proofs.LaidOutLaws.{IsLaidOut}
 use Rattle.jc_insn.proofs.PlacesLaws.{in_range_with}
-use Rattle.jc_insn.proofs.SpellingLaws.{spells_code}
 use Rattle.jc_insn.proofs.WideCodeLaws.{spells_wide}
 use Rattle.jc_emit.specs.Emission.{emission}
 use Rattle.jc_emit.specs.Items.{Item, arm_parts, early_part, hop_part, image_part, insn_of, lead_part, probe, segment, test_part, tests_part, twin_items, image_of, land_of, lead_of}
 use Rattle.jc_emit.specs.Marks.{unplaced, push}
 use Rattle.jc_emit.specs.Sizes.{narrow, arms_at, early_by, early_probe, insn_at, late_by, late_probe}
 use Rattle.jc_emit.specs.TwinCode.{arm_place, to_of}
-use Rattle.jc_layout.specs.Layout.{chosen_length, chosen_starts, chosen_text, is_wide}
+use Rattle.jc_layout.specs.Layout.{layout_set, laid_code, laid_starts, chosen_length, chosen_starts, chosen_text, is_wide}
+use Rattle.jc_layout.proofs.AllOrNoneLaws.{near_so, layout_says, spells_laid}
 use Rattle.jc_layout.proofs.ChoiceLaws.{chosen_stand, near}
 use Rattle.jc_layout.proofs.LayableLaws.{all_formed, all_within}
 
@@ -210,10 +209,13 @@ module _ (b : Body) (first : ℕ) (states : List State) (array : ℕ) (well : Is
 
 -- ---- layouts
 
-spelled_by : (code : List Insn) (starts : List ℕ) (wide : Bool) → IsLaidOut wide code starts → (wide ≡ false → AllNear (slice_index starts) code starts)
-    → Spells (code_text (slice_index starts) wide code starts) (laid_code wide code) (laid_starts wide code starts)
-spelled_by code starts false out near = spells_code code starts out (near refl)
-spelled_by code starts true out near = spells_wide code starts out
+spelled_by : (code : List Insn) (starts : List ℕ) (wide : Bool) → IsLaidOut (layout_set wide) code starts
+    → (wide ≡ false → AllNear (slice_index starts) none_wide 0 code starts)
+    → Spells (code_text (slice_index starts) (layout_set wide) 0 code starts) (laid_code wide code) (laid_starts wide code starts)
+spelled_by code starts wide out near =
+    spells_laid wide (code_text (slice_index starts) (layout_set wide) 0 code starts) code starts
+    (spells_wide (layout_set wide) code starts out
+    (near_so wide (layout_set wide) (slice_index starts) 0 code starts (layout_says wide 0 code) near))
 
 -- the layout that is chosen spells the instrumented code of a body whose instructions fit their types, where its ids can be pushed
 pub chosen_spelled : (b : Body) (first : ℕ) (states : List State) (array : ℕ) → IsWellMadeOfAnySize b → All IsInRange b.code → b.max_locals + 1 ≤ 65535

@@ -16,7 +16,6 @@ use Rattle.jc_methods.specs.declared.body.VarAt.{VarAt}
 use Rattle.jc_methods.specs.declared.emitted.Emitted.{Emitted}
 use Rattle.jc_methods.specs.declared.insn.Insn.{Insn}
 use Rattle.jc_methods.specs.declared.kind.State.{State}
-use Rattle.jc_insn.specs.Layouts.{laid_code, laid_starts}
 use Rattle.jc_pool.specs.Pool.{PoolValue}
 use Rattle.jc_body.specs.Attributes.{AreTables}
 use Rattle.jc_body.specs.BodyOf.{handler_of, is_start, keeps_line, keeps_var, line_of, lines_of, var_of, vars_in, vars_of}
@@ -25,7 +24,7 @@ use Rattle.jc_emit.specs.Emission.{emission}
 use Rattle.jc_emit.specs.Items.{lead_of}
 use Rattle.jc_emit.specs.TwinTables.{moved_line, moved_row}
 use Rattle.jc_layout.specs.LaidBody.{laid_body, laid_place, placed_var, with_call, with_place}
-use Rattle.jc_layout.specs.Layout.{chosen_length, chosen_starts, chosen_text, is_wide}
+use Rattle.jc_layout.specs.Layout.{laid_code, laid_starts, chosen_length, chosen_starts, chosen_text, is_wide}
 use Rattle.jc_instrument_code.specs.TwinCode.{code_attributes, offset_in, written_frames}
 use Rattle.jc_instrument_code.specs.declared.code.CodePlaces.{CodePlaces}
 use Rattle.jc_instrument_reread.specs.ReadCode.{line_at, row_at, var_at, written_coded, written_insns, written_starts, written_tables}

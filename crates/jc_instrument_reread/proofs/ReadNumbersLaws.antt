@@ -31,7 +31,6 @@ use Rattle.jc_body.specs.declared.items.CodeItems.{CodeItems}
 use Rattle.jc_body.specs.declared.items.LineEntry.{LineEntry}
 use Rattle.jc_body.specs.declared.items.Row.{Row}
 use Rattle.jc_body.specs.declared.items.VarEntry.{VarEntry}
-use Rattle.jc_insn.specs.Layouts.{laid_code, laid_starts}
 use Rattle.jc_insn.specs.Spells.{Spells}
 use Rattle.jc_insn.specs.Writing.{IsInRange}
 use Rattle.jc_plan.specs.Probed.{probe_count}
@@ -39,7 +38,7 @@ use Rattle.jc_emit.specs.Sizes.{narrow}
 use Rattle.jc_emit.specs.Emission.{emission}
 use Rattle.jc_emit.specs.Items.{land_of, lead_of}
 use Rattle.jc_emit.specs.TwinTables.{moved_line, moved_row, moved_var}
-use Rattle.jc_layout.specs.Layout.{chosen_length, chosen_starts, chosen_text, is_wide}
+use Rattle.jc_layout.specs.Layout.{laid_code, laid_starts, chosen_length, chosen_starts, chosen_text, is_wide}
 use Rattle.jc_instrument_reread.specs.WrittenCode.{HasShortNumbers, IsShortVar}
 use Rattle.jc_instrument_reread.proofs.LaidRangeLaws.{chosen_spelled}
 use Rattle.jc_instrument_reread.proofs.RangeLaws.{code_range}

@@ -17,6 +17,7 @@ use Rattle.jc_methods.specs.declared.body.What.TheVariants as whats
 use Rattle.jc_methods.specs.declared.emitted.Emitted.{Emitted}
 use Rattle.jc_methods.specs.declared.insn.Insn.{Insn}
 use Rattle.jc_methods.specs.declared.kind.State.{State}
+use Rattle.jc_methods.specs.Widened.{all_wide}
 use Rattle.jc_pool.specs.declared.constant.ConstText.{ConstText}
 use Rattle.jc_pool.specs.declared.constant.ConstText.TheVariants as constants
 use Rattle.jc_pool.specs.Lookup.{Member, member_of, Computed, computed_of, class_name_of, const_of}
@@ -33,11 +34,10 @@ use Rattle.jc_emit.proofs.BuiltLaws.{length_twin}
 use Rattle.jc_emit.proofs.RowLaws.{total_grows}
 use Rattle.jc_layout.specs.LaidBody.{laid_place}
 use Rattle.jc_layout.specs.Layout.{is_wide, chosen_length}
+use Rattle.jc_layout.proofs.MergedLaws.{wide_places_rise}
 use Rattle.jc_instrument_code.specs.TwinCode.{offset_in}
 use Rattle.jc_instrument_reread.specs.ReadCode.{row_at, written_insns, written_starts}
 use Rattle.jc_instrument_reread.proofs.OffsetLaws.{offset_at, number_at}
-use Rattle.jc_methods.specs.Widened.{all_wide}
-use Rattle.jc_instrument_reread.proofs.StartLaws.{wide_places_rise}
 
 -- ---- the class of a row
 

@@ -6,9 +6,8 @@ use Rattle.jc_methods.specs.declared.body.VarAt.{VarAt}
 use Rattle.jc_methods.specs.declared.emitted.Emitted.{Emitted}
 use Rattle.jc_pool.specs.Lookup.{utf8_of}
 use Rattle.jc_pool.specs.Pool.{PoolValue}
-use Rattle.jc_insn.specs.Layouts.{laid_code, laid_starts}
 use Rattle.jc_insn.specs.Spells.{Spells}
-use Rattle.jc_layout.specs.Layout.{is_wide, chosen_starts, chosen_text, chosen_length}
+use Rattle.jc_layout.specs.Layout.{laid_code, laid_starts, is_wide, chosen_starts, chosen_text, chosen_length}
 use Rattle.jc_instrument_code.specs.declared.code.CodePlaces.{CodePlaces}
 use Rattle.jc_instrument_code.specs.Given.{AreNamed}
 use Rattle.jc_instrument_code.specs.TwinCode.{twin_code}
