@@ -1,12 +1,13 @@
 //! Code: decoded, and encoded again.
-ghost use Rattle.std.specs.Prelude.{◌≤◌, ◌<◌, ◌≡◌, All, IsTrue, false, length, slice_index};
+ghost use Rattle.std.specs.Prelude.{◌≤◌, ◌<◌, ◌≡◌, ◌+◌, All, IsTrue, length, slice_index};
 ghost use Rattle.jc_base.specs.Flow.{targets_of};
 ghost use Rattle.jc_base.specs.Insn.{with_places};
+ghost use Rattle.jc_base.specs.Widened.{listed};
 ghost use Rattle.jc_insn.specs.Decoding.{IsInsnAmong};
-ghost use Rattle.jc_insn.specs.Sizes.{StartAt};
+ghost use Rattle.jc_insn.specs.Sizes.{StartFrom, StartAt};
 ghost use Rattle.jc_insn.specs.Writing.{AllNear, IsNearJump};
 
-use crate::insns::{has_few_arms, is_wide, of_opcode, put_insn};
+use crate::insns::{has_few_arms, of_opcode, put_insn};
 use jc_base::Insn;
 use jc_insn::{Decoded, decode, encode, size_of};
 use std::alloc::Global;
@@ -37,9 +38,17 @@ fn read(alloc: Global, code: &mut Vec<Insn>, words: &[&str], out: &mut Answer) -
     Some(())
 }
 
-/// Whether instructions begin at these offsets in a layout, the first at this one, and end at the last.
-fn start_at(wide: bool, at: u32, code: &[Insn], starts: &[u32]) -> bool
-    ensures { IsTrue result → StartAt wide at code.now starts.now }
+/// Whether the instruction of this number is a wide jump.
+fn is_listed(wide: &[bool], number: usize) -> bool
+    ensures { result ≡ listed wide.now number }
+{
+    wide.get(number).copied().unwrap_or(false)
+}
+
+/// Whether instructions begin at these offsets, the first, which has this number, at this one, and end at the last.
+fn start_at(wide: &[bool], number: usize, at: u32, code: &[Insn], starts: &[u32]) -> bool
+    requires { number + length code.now ≤ 65535 }
+    ensures { IsTrue result → StartFrom (listed wide.now) number at code.now starts.now }
 {
     match code {
         [] => matches!(starts, [end] if *end == at),
@@ -47,9 +56,12 @@ fn start_at(wide: bool, at: u32, code: &[Insn], starts: &[u32]) -> bool
             if !has_few_arms(insn) {
                 return false;
             }
-            match (starts, at.checked_add(size_of(insn, at, wide))) {
+            match (
+                starts,
+                at.checked_add(size_of(insn, at, is_listed(wide, number))),
+            ) {
                 ([start, later @ ..], Some(next)) => *start == at
-                    && start_at(wide, next, code, later),
+                    && start_at(wide, number + 1, next, code, later),
                 _ => false,
             }
         }
@@ -72,15 +84,18 @@ fn is_near(insn: &Insn, at: u32, starts: &[u32]) -> bool
     }
 }
 
-/// Whether each instruction has room in two bytes for its jump, where they begin at these offsets.
-fn all_near(code: &[Insn], begins: &[u32], starts: &[u32]) -> bool
-    ensures { IsTrue result → AllNear (slice_index starts.now) code.now begins.now }
+/// Whether each instruction, the first of which has this number, is a wide jump or has room in two bytes for its jump, where
+/// they begin at these offsets.
+fn all_near(wide: &[bool], number: usize, code: &[Insn], begins: &[u32], starts: &[u32]) -> bool
+    requires { number + length code.now ≤ 65535 }
+    ensures { IsTrue result → AllNear (slice_index starts.now) (listed wide.now) number code.now begins.now }
 {
     match code {
         [] => true,
         [insn, code @ ..] => match begins {
             [] => true,
-            [at, later @ ..] => is_near(insn, *at, starts) && all_near(code, later, starts),
+            [at, later @ ..] => (is_listed(wide, number) || is_near(insn, *at, starts))
+                && all_near(wide, number + 1, code, later, starts),
         },
     }
 }
@@ -102,22 +117,23 @@ fn leads_inside(code: &[Insn], count: u32) -> bool
     code.iter().all(|insn| insn.leads_within(count))
 }
 
-/// Whether these are the offsets of the instructions and of the end in a layout in which each jump has room.
-fn are_laid(code: &[Insn], starts: &[u32], wide: bool) -> bool
-    ensures starts { IsTrue result → StartAt wide 0 code.now starts.now }
+/// Whether these are the offsets of the instructions and of the end, where these jumps are wide and each other one has room.
+fn are_laid(code: &[Insn], starts: &[u32], wide: &[bool]) -> bool
+    requires { length code.now ≤ 65535 }
+    ensures starts { IsTrue result → StartAt (listed wide.now) code.now starts.now }
     ensures end { IsTrue result → slice_index starts.now (length code.now) ≤ 2147483647 }
-    ensures near { IsTrue result → wide ≡ false → AllNear (slice_index starts.now) code.now starts.now }
+    ensures near { IsTrue result → AllNear (slice_index starts.now) (listed wide.now) 0 code.now starts.now }
 {
-    start_at(wide, 0, code, starts)
-        && (ends_low(code, starts) && (wide || all_near(code, starts, starts)))
+    start_at(wide, 0, 0, code, starts)
+        && (ends_low(code, starts) && all_near(wide, 0, code, starts, starts))
 }
 
-/// Puts the bytes of code whose instructions begin at these offsets in a layout.
+/// Puts the bytes of code whose instructions begin at these offsets, where these jumps are wide.
 fn put_encoded(
     alloc: Global,
     code: &[Insn],
     starts: &[u32],
-    wide: bool,
+    wide: &[bool],
     out: &mut Answer,
 ) -> Option<()>
     requires { All (IsInsnAmong (length code.now)) code.now }
@@ -135,26 +151,32 @@ fn put_encoded(
     Some(())
 }
 
-/// Decodes the bytes, and puts the bytes of their code in a layout.
+/// What a word says of each instruction: 1 where it is a wide jump, else another number.
+fn wide_jumps(alloc: Global, word: &str, out: &mut Answer) -> Option<Vec<bool>> {
+    let numbers = listed(alloc, word, out)?;
+    out.got(numbers.iter().map(|number| *number == 1).collect(alloc))
+}
+
+/// Decodes the bytes, and puts the bytes of their code, where these jumps are wide.
 fn encoded(
     alloc: Global,
-    layout: &str,
+    jumps: &str,
     starts: &str,
     words: &[&str],
     out: &mut Answer,
 ) -> Option<()> {
-    let wide = is_wide(layout, out)?;
+    let wide = wide_jumps(alloc, jumps, out)?;
     let starts = listed(alloc, starts, out)?;
     let bytes = bytes(alloc, words, out)?;
     let decoded = out.accepted(decode(alloc, &bytes))?;
-    put_encoded(alloc, decoded.code.as_slice(), &starts, wide, out)
+    put_encoded(alloc, decoded.code.as_slice(), &starts, &wide, out)
 }
 
 /// What a call answers.
 pub fn answer(alloc: Global, code: &mut Vec<Insn>, words: &[&str], out: &mut Answer) -> Option<()> {
     match words {
         ["decode", text @ ..] => read(alloc, code, text, out),
-        ["encode", layout, starts, text @ ..] => encoded(alloc, layout, starts, text, out),
+        ["encode", jumps, starts, text @ ..] => encoded(alloc, jumps, starts, text, out),
         [call, op] => of_opcode(call, op, out),
         words => out.unknown(words),
     }
