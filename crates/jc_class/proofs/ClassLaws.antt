@@ -20,7 +20,7 @@ use Rattle.jc_class.specs.ClassFormat.{magic, class_file}
 use Rattle.jc_class.specs.ItemReading.{magic_at}
 use Rattle.jc_class.specs.ClassReading.{class_at, Stops, GivesWhole}
 use Rattle.jc_class.specs.ClassText.{ClassText, FirstBad, RefusedAs, not_a_class}
-use Rattle.jc_class.proofs.PartLaws.{agrees_named, agrees_attributes, agrees_member}
+use Rattle.jc_class.proofs.PartLaws.{agrees_named, agrees_attributes, agrees_field, agrees_method}
 
 magic_takes : (bytes : List ℕ) (x : Unit {0}) (left : List ℕ) → magic_at bytes ≡ Some (x, left) → (front : List ℕ) × (bytes ≡ front ++ left) × IsBig 4 front 0xcafebabe
 unfolding magic_at
@@ -49,8 +49,8 @@ class_agrees =
     agrees_followed _ _ _ _ (agrees_named pool named.Class) (λ this_class.
     agrees_followed _ _ _ _ (agrees_named pool named.ClassOrNone) (λ super_class.
     agrees_followed _ _ _ _ (agrees_counted _ _ (agrees_named pool named.Class)) (λ interfaces.
-    agrees_followed _ _ _ _ (agrees_counted _ _ (agrees_member pool named.FieldDescriptor)) (λ fields.
-    agrees_followed _ _ _ _ (agrees_counted _ _ (agrees_member pool named.MethodDescriptor)) (λ methods.
+    agrees_followed _ _ _ _ (agrees_counted _ _ (agrees_field pool)) (λ fields.
+    agrees_followed _ _ _ _ (agrees_counted _ _ (agrees_method pool)) (λ methods.
     agrees_followed _ _ _ _ (agrees_attributes pool) (λ attributes.
     agrees_nothing (record {
       minor = minor;

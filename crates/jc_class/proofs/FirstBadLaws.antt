@@ -5,11 +5,13 @@ use Rattle.jc_bytes.specs.ItemForms.{number}
 use Rattle.jc_bytes.specs.Grammar.{Grammar, nothing, one, followed_by, times, WholeFails}
 use Rattle.jc_bytes.proofs.GrammarLaws.{whole_or_fails, never_both, one_value, one_failure}
 use Rattle.jc_pool.specs.declared.entry.Entry.{Entry}
-use Rattle.jc_pool.specs.Pool.{is_wide}
+use Rattle.jc_pool.specs.Pool.{PoolValue, is_wide}
 use Rattle.jc_pool.specs.EntryFormat.{IsEntry}
 use Rattle.jc_pool.specs.PoolGrammar.{IsCount, IsNarrow, behind, by_size, places, pool}
+use Rattle.jc_class.specs.declared.class_file.Attribute.{Attribute}
 use Rattle.jc_class.specs.declared.class_file.ClassFile.{ClassFile}
-use Rattle.jc_class.specs.ClassFormat.{attribute, member, class_file}
+use Rattle.jc_class.specs.ClassFormat.{HasText, HasFieldDescriptor, HasMethodDescriptor}
+use Rattle.jc_class.specs.ClassFormat.{attribute, field_attribute, member_of, member, field, class_file}
 use Rattle.jc_class.specs.ClassReading.{class_at}
 use Rattle.jc_class.specs.ClassText.{ClassText, FirstBad}
 use Rattle.jc_class.proofs.ClassLaws.{class_agrees}
@@ -68,13 +70,28 @@ inside_attribute HasName =
     inside_followed _ _ (inside_one _) (λ body.
     inside_nothing (record { name = name; body = body }))))
 
-inside_member : (HasName HasDescriptor : ℕ → Type 0) → FailsInside (member HasName HasDescriptor)
-inside_member HasName HasDescriptor =
+inside_field_attribute : (entries : PoolValue) (flags : ℕ) → FailsInside (field_attribute entries flags)
+inside_field_attribute entries flags =
+    inside_followed _ _ (inside_one _) (λ name.
+    inside_followed _ _ (inside_one _) (λ size.
+    inside_followed _ _ (inside_one _) (λ body.
+    inside_nothing (record { name = name; body = body }))))
+
+inside_member : (HasName HasDescriptor : ℕ → Type 0) (of : ℕ → Grammar Attribute) → ((flags : ℕ) → FailsInside (of flags))
+    → FailsInside (member_of HasName HasDescriptor of)
+inside_member HasName HasDescriptor of each =
     inside_followed _ _ (inside_one _) (λ flags.
     inside_followed _ _ (inside_one _) (λ name.
     inside_followed _ _ (inside_one _) (λ desc.
-    inside_followed _ _ (inside_counted (attribute HasName) (inside_attribute HasName)) (λ attributes.
+    inside_followed _ _ (inside_counted (of flags) (each flags)) (λ attributes.
     inside_nothing (record { flags = flags; name = name; desc = desc; attributes = attributes })))))
+
+inside_method : (entries : PoolValue) → FailsInside (member (HasText entries) (HasMethodDescriptor entries))
+inside_method entries =
+    inside_member (HasText entries) (HasMethodDescriptor entries) (λ flags. attribute (HasText entries)) (λ flags. inside_attribute (HasText entries))
+
+inside_field : (entries : PoolValue) → FailsInside (field entries)
+inside_field entries = inside_member (HasText entries) (HasFieldDescriptor entries) (field_attribute entries) (inside_field_attribute entries)
 
 inside_class : FailsInside class_file
 unfolding class_file
@@ -87,8 +104,8 @@ inside_class =
     inside_followed _ _ (inside_one _) (λ this_class.
     inside_followed _ _ (inside_one _) (λ super_class.
     inside_followed _ _ (inside_counted _ (inside_one _)) (λ interfaces.
-    inside_followed _ _ (inside_counted _ (inside_member _ _)) (λ fields.
-    inside_followed _ _ (inside_counted _ (inside_member _ _)) (λ methods.
+    inside_followed _ _ (inside_counted _ (inside_field pool)) (λ fields.
+    inside_followed _ _ (inside_counted _ (inside_method pool)) (λ methods.
     inside_followed _ _ (inside_counted _ (inside_attribute _)) (λ attributes.
     inside_nothing (record {
       minor = minor;

@@ -1,6 +1,7 @@
 pub mod RemainderLaws
 pub mod NamingLaws
 pub mod PartLaws
+pub mod ConstantLaws
 pub mod ClassLaws
 pub mod ParsedLaws
 pub mod WritingLaws

@@ -1,5 +1,5 @@
 -- What is written names what it has to name.
-use Rattle.std.proofs.Common.{ℕ, zero, suc, List, [], ◌++◌, refl, sym, ◌∙◌, ap, subst}
+use Rattle.std.proofs.Common.{ℕ, List, [], ◌++◌, refl, sym, ◌∙◌, ap, subst}
 use Rattle.std.proofs.lemmas.List.{append-nil}
 use Rattle.std.proofs.lemmas.List.Elements.{All-from_recursion, recursion_from_All, All-weaker}
 use Rattle.jc_bytes.specs.Counted.{counted}
@@ -10,12 +10,12 @@ use Rattle.jc_class.specs.declared.class_file.ClassFile.{ClassFile}
 use Rattle.jc_class.specs.ClassText.{ClassText}
 use Rattle.std.specs.List.{AllByRecursion}
 use Rattle.jc_bytes.specs.Appending.{Appends, Appended}
-use Rattle.jc_bytes.specs.Grammar.{Grammar, times}
 use Rattle.jc_bytes.proofs.AppendingLaws.{joined}
 use Rattle.jc_class.specs.declared.class_file.Attribute.{Attribute}
 use Rattle.jc_class.specs.declared.class_file.Member.{Member}
 use Rattle.jc_class.specs.ClassFormat.{attribute, member, class_file, HasText, HasClass, HasFieldDescriptor, HasMethodDescriptor}
 use Rattle.jc_class.specs.Writable.{Anything, AreCounted, IsAttribute, IsMember, IsClassFile}
+use Rattle.jc_class.proofs.ConstantLaws.{counted_named, fields_joined}
 
 -- ---- each part can be written, whatever it names
 
@@ -30,17 +30,6 @@ any_members HasName HasDescriptor = counted_weaker (IsMember HasName HasDescript
     (λ m is. record { name = tt; desc = tt; attributes = any_attributes HasName m.attributes is.attributes })
 
 -- ---- and its text names what the part names
-
-module _ {X : Type 0} (g h : Grammar X) (Fact : X → Type 0) (named : (text : List ℕ) (x : X) → Fact x → g.Text text x → h.Text text x) where
-  times_named : (n : ℕ) (text : List ℕ) (xs : List X) → AllByRecursion Fact xs → (times n g).Text text xs → (times n h).Text text xs
-  times_named zero text xs all t = t
-  times_named (suc n) text xs all t =
-      let more = t.5 in
-      let each = subst (AllByRecursion Fact) more.5.1 all in
-      (t.0, t.1, t.2, t.3, named t.1 t.0 each.0 t.4, (more.0, more.1, more.2, more.3, times_named n more.1 more.0 each.1 more.4, more.5))
-
-  counted_named : (text : List ℕ) (xs : List X) → AllByRecursion Fact xs → (counted g).Text text xs → (counted h).Text text xs
-  counted_named text xs all t = (t.0, t.1, t.2, t.3, t.4, times_named t.0 t.2 xs all t.5)
 
 interface_named : (Fact : ℕ → Type 0) (text : List ℕ) (n : ℕ) → Fact n → (number_where Anything).Text text n → (number_where Fact).Text text n
 interface_named Fact text n fact t = (t.0, fact)
@@ -191,7 +180,8 @@ module _ (c : ClassFile) (is : IsClassFile c) where
                           fields.text,
                           t9,
                           refl,
-                          members_named (HasText c.pool) (HasFieldDescriptor c.pool) fields.text c.fields is.fields fields.spells,
+                          fields_joined c.pool fields.text c.fields is.constants
+                              (members_named (HasText c.pool) (HasFieldDescriptor c.pool) fields.text c.fields is.fields fields.spells),
                           (
                             c.methods,
                             methods.text,

@@ -4,10 +4,12 @@ use Rattle.jc_bytes.specs.Grammar.{nothing, followed_by}
 use Rattle.jc_bytes.specs.ItemForms.{number_where, piece}
 use Rattle.jc_bytes.proofs.OneTextLaws.{OneText, one_big, one_nothing, one_followed, one_number, one_number_where, one_piece, one_counted}
 use Rattle.jc_pool.proofs.OneTextLaws as pool_laws
+use Rattle.jc_pool.specs.Pool.{PoolValue}
 use Rattle.jc_class.specs.declared.class_file.Attribute.{Attribute}
 use Rattle.jc_class.specs.declared.class_file.Member.{Member}
 use Rattle.jc_class.specs.declared.class_file.ClassFile.{ClassFile}
-use Rattle.jc_class.specs.ClassFormat.{magic, attribute, member, class_file, HasText, HasClass, HasSuper, HasFieldDescriptor, HasMethodDescriptor}
+use Rattle.jc_class.specs.ClassFormat.{magic, attribute, member, field, class_file, HasText, HasClass, HasSuper, HasFieldDescriptor, HasMethodDescriptor}
+use Rattle.jc_class.proofs.ConstantLaws.{field_split}
 
 one_magic : OneText magic
 one_magic = record { same = λ a b x p q t u. one_big 4 a b 0xcafebabe p q t u }
@@ -37,6 +39,12 @@ one_member HasName HasDescriptor =
     (λ x z a b y t u. sym (ap (λ (k : Member). k.name) t.5.5.1) ∙ ap (λ (k : Member). k.name) u.5.5.1)))
     (λ x z a b y t u. sym (ap (λ (k : Member). k.flags) t.5.5.5.1) ∙ ap (λ (k : Member). k.flags) u.5.5.5.1))
 
+-- the text of a field is that of a member
+one_field : (pool : PoolValue) → OneText (field pool)
+one_field pool = record {
+  same = λ a b m p q t u. (one_member (HasText pool) (HasFieldDescriptor pool)).same a b m p q (field_split pool a m t).0 (field_split pool b m u).0;
+}
+
 pub one_class : OneText class_file
 unfolding class_file
 one_class =
@@ -48,7 +56,7 @@ one_class =
     (one_followed _ _ (one_number_where (HasClass pool)) (λ this_class.
     (one_followed _ _ (one_number_where (HasSuper pool)) (λ super_class.
     (one_followed _ _ (one_counted (number_where (HasClass pool)) (one_number_where (HasClass pool))) (λ interfaces.
-    (one_followed _ _ (one_counted (member (HasText pool) (HasFieldDescriptor pool)) (one_member (HasText pool) (HasFieldDescriptor pool))) (λ fields.
+    (one_followed _ _ (one_counted (field pool) (one_field pool)) (λ fields.
     (one_followed _ _ (one_counted (member (HasText pool) (HasMethodDescriptor pool)) (one_member (HasText pool) (HasMethodDescriptor pool))) (λ methods.
     (one_followed _ _ (one_counted (attribute (HasText pool)) (one_attribute (HasText pool))) (λ attributes.
     one_nothing (record {

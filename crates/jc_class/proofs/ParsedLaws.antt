@@ -12,7 +12,7 @@ use Rattle.jc_pool.specs.PoolReading.{pool_at}
 use Rattle.jc_class.specs.declared.item.Named.TheVariants as named
 use Rattle.jc_class.specs.declared.class_file.Member.{Member}
 use Rattle.jc_class.specs.ItemReading.{names, number_if, magic_at}
-use Rattle.jc_class.specs.ClassReading.{attributes_at, class_at, member_at, named_at}
+use Rattle.jc_class.specs.ClassReading.{attributes_at, class_at, field_at, method_at, named_at}
 
 -- what refuses a part refuses the whole, at the same item
 pub refused_later : {X Y : Type 0} (fail : Fail Refusal) (r : Result Y (Fail Refusal)) (old now new : Reading) (part : Parsed X) (all : Parsed Y)
@@ -30,16 +30,16 @@ module _ (l l₁ l₂ l₃ l₄ l₅ l₆ l₇ l₈ : List ℕ) (m : Unit {0}) (
     (e₆ : item (number_if (names pool named.Class)) l₅ ≡ Good this l₆)
     (e₇ : item (number_if (names pool named.ClassOrNone)) l₆ ≡ Good super l₇)
     (e₈ : counted_at (named_at pool named.Class) l₇ ≡ Good interfaces l₈) where
-  pub bad_fields : (left : List ℕ) → counted_at (member_at pool named.FieldDescriptor) l₈ ≡ Bad left → class_at l ≡ Bad left
+  pub bad_fields : (left : List ℕ) → counted_at (field_at pool) l₈ ≡ Bad left → class_at l ≡ Bad left
   unfolding class_at
   bad_fields left is = rw (e₁, e₂, e₃, e₄, e₅, e₆, e₇, e₈, is) refl
 
-  module _ (l₉ : List ℕ) (fields : List Member) (e₉ : counted_at (member_at pool named.FieldDescriptor) l₈ ≡ Good fields l₉) where
-    pub bad_methods : (left : List ℕ) → counted_at (member_at pool named.MethodDescriptor) l₉ ≡ Bad left → class_at l ≡ Bad left
+  module _ (l₉ : List ℕ) (fields : List Member) (e₉ : counted_at (field_at pool) l₈ ≡ Good fields l₉) where
+    pub bad_methods : (left : List ℕ) → counted_at (method_at pool) l₉ ≡ Bad left → class_at l ≡ Bad left
     unfolding class_at
     bad_methods left is = rw (e₁, e₂, e₃, e₄, e₅, e₆, e₇, e₈, e₉, is) refl
 
-    pub bad_attributes : (l₁₀ : List ℕ) (methods : List Member) → counted_at (member_at pool named.MethodDescriptor) l₉ ≡ Good methods l₁₀
+    pub bad_attributes : (l₁₀ : List ℕ) (methods : List Member) → counted_at (method_at pool) l₉ ≡ Good methods l₁₀
         → (left : List ℕ) → attributes_at pool l₁₀ ≡ Bad left → class_at l ≡ Bad left
     unfolding class_at
     bad_attributes l₁₀ methods e₁₀ left is = rw (e₁, e₂, e₃, e₄, e₅, e₆, e₇, e₈, e₉, e₁₀, is) refl

@@ -14,6 +14,7 @@ use Rattle.jc_class.specs.declared.class_file.ClassFile.{ClassFile}
 use Rattle.jc_class.specs.ClassFormat.{attribute, member, class_file, HasText, HasClass, HasFieldDescriptor, HasMethodDescriptor}
 use Rattle.jc_class.specs.ClassText.{ClassText}
 use Rattle.jc_class.specs.Writable.{AreCounted, IsAttribute, IsMember, IsClassFile}
+use Rattle.jc_class.proofs.ConstantLaws.{fields_split}
 
 -- ---- counted items
 
@@ -134,8 +135,9 @@ class_read text c are t0 =
     let minor_below : minor.0 < 256 ^ 2 = big_below 2 minor.0 minor.1 b1.0 minor.4 in
     let major_below : major.0 < 256 ^ 2 = big_below 2 major.0 major.1 b2.0 major.4 in
     let flags_below : flags.0 < 256 ^ 2 = big_below 2 flags.0 flags.1 b4.0 flags.4 in
+    let plain = fields_split p fields.1 fields.0 fields.4 in
     let each_field = counted_hold (member (HasText p) (HasFieldDescriptor p)) (λ m. IsField m × IsOfBytes m)
-    (member_read (HasText p) (HasFieldDescriptor p)) fields.1 fields.0 b8.0 fields.4 in
+    (member_read (HasText p) (HasFieldDescriptor p)) fields.1 fields.0 b8.0 plain.0 in
     let each_method = counted_hold (member (HasText p) (HasMethodDescriptor p)) (λ m. IsMethod m × IsOfBytes m)
     (member_read (HasText p) (HasMethodDescriptor p)) methods.1 methods.0 b9.0 methods.4 in
     let each_attribute = counted_hold (attribute (HasText p)) (λ a. IsAttribute (HasText p) a × HasBytes a)
@@ -146,6 +148,7 @@ class_read text c are t0 =
         super_class = super_class.4.1;
         interfaces = counted_hold (number_where (HasClass p)) (HasClass p) (λ text n are t. t.1) interfaces.1 interfaces.0 b7.0 interfaces.4;
         fields = counted_first IsField IsOfBytes fields.0 each_field;
+        constants = plain.1;
         methods = counted_first IsMethod IsOfBytes methods.0 each_method;
         attributes = counted_first (IsAttribute (HasText p)) HasBytes attributes.0 each_attribute;
       };

@@ -12,6 +12,7 @@ use Rattle.jc_class.specs.declared.class_file.ClassFile.{ClassFile}
 use Rattle.jc_class.specs.ClassFormat.{attribute, member, class_file, HasText, HasFieldDescriptor, HasMethodDescriptor}
 use Rattle.jc_class.specs.ClassText.{ClassText}
 use Rattle.jc_class.specs.Sizes.{BodiesWithin, AttributesWithin}
+use Rattle.jc_class.proofs.ConstantLaws.{fields_split}
 
 module _ (most : ℕ) where
   abbrev Short : Attribute → Type 0
@@ -89,7 +90,8 @@ module _ (most : ℕ) where
       let p = pool.0 in
       subst (AttributesWithin most) (sym attributes.5.1) (record {
         class = counted_within (attribute (HasText p)) Short (attribute_within (HasText p)) attributes.1 attributes.0 s10.0 attributes.4;
-        fields = counted_within (member (HasText p) (HasFieldDescriptor p)) AreShort (member_within (HasText p) (HasFieldDescriptor p)) fields.1 fields.0 s8.0 fields.4;
+        fields = counted_within (member (HasText p) (HasFieldDescriptor p)) AreShort (member_within (HasText p) (HasFieldDescriptor p))
+            fields.1 fields.0 s8.0 (fields_split p fields.1 fields.0 fields.4).0;
         methods = counted_within (member (HasText p) (HasMethodDescriptor p)) AreShort (member_within (HasText p) (HasMethodDescriptor p)) methods.1 methods.0 s9.0 methods.4;
       })
 

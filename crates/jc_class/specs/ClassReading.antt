@@ -13,7 +13,7 @@ use Rattle.jc_class.specs.declared.item.Named.TheVariants as named
 use Rattle.jc_class.specs.declared.class_file.Attribute.{Attribute}
 use Rattle.jc_class.specs.declared.class_file.Member.{Member}
 use Rattle.jc_class.specs.declared.class_file.ClassFile.{ClassFile}
-use Rattle.jc_class.specs.ItemReading.{names, number_if, magic_at}
+use Rattle.jc_class.specs.ItemReading.{names, number_if, magic_at, field_piece_at}
 
 -- a place that names what it is to name
 abbrev pub named_at : PoolValue → Named → List ℕ → Parsed ℕ
@@ -29,13 +29,28 @@ attribute_at pool left = do
 abbrev pub attributes_at : PoolValue → List ℕ → Parsed (List Attribute)
 attributes_at pool left = counted_at (attribute_at pool) left
 
-unfoldable pub member_at : PoolValue → Named → List ℕ → Parsed Member
-member_at pool what left = do
+-- the attribute of a field with these flags
+unfoldable pub field_attribute_at : PoolValue → (flags : ℕ) → List ℕ → Parsed Attribute
+field_attribute_at pool flags left = do
+  name ← named_at pool named.Text left
+  size ← item (number_at 4) name.1
+  body ← item (field_piece_at pool flags name.0 size.0) size.1
+  Good (record { name = name.0; body = body.0 }) body.1
+
+-- a field or a method, by the kind of its descriptor, with attributes that are read so
+abbrev pub member_at : PoolValue → Named → (of : (flags : ℕ) → List ℕ → Parsed Attribute) → List ℕ → Parsed Member
+member_at pool what of left = do
   flags ← item (number_at 2) left
   name ← named_at pool named.Text flags.1
   desc ← named_at pool what name.1
-  attributes ← attributes_at pool desc.1
+  attributes ← counted_at (of flags.0) desc.1
   Good (record { flags = flags.0; name = name.0; desc = desc.0; attributes = attributes.0 }) attributes.1
+
+unfoldable pub field_at : PoolValue → List ℕ → Parsed Member
+field_at pool left = member_at pool named.FieldDescriptor (field_attribute_at pool) left
+
+unfoldable pub method_at : PoolValue → List ℕ → Parsed Member
+method_at pool left = member_at pool named.MethodDescriptor (λ flags. attribute_at pool) left
 
 -- a whole class file, and what stands behind it
 unfoldable pub class_at : List ℕ → Parsed ClassFile
@@ -48,8 +63,8 @@ class_at left = do
   this_class ← named_at pool.0 named.Class flags.1
   super_class ← named_at pool.0 named.ClassOrNone this_class.1
   interfaces ← counted_at (named_at pool.0 named.Class) super_class.1
-  fields ← counted_at (member_at pool.0 named.FieldDescriptor) interfaces.1
-  methods ← counted_at (member_at pool.0 named.MethodDescriptor) fields.1
+  fields ← counted_at (field_at pool.0) interfaces.1
+  methods ← counted_at (method_at pool.0) fields.1
   attributes ← attributes_at pool.0 methods.1
   Good (record {
     minor = minor.0;

@@ -1,6 +1,8 @@
 -- Reading one item of a class file from the front of the bytes that are left.
-use Rattle.std.specs.Prelude.{ℕ, ◌==◌, Bool, false, ◌||◌, List, Option, Some, None, is_some, if◌then◌else◌}
-use Rattle.jc_bytes.specs.Decoder.{◌>>=◌, number_at}
+use Rattle.std.specs.Prelude.{ℕ, ◌+◌, ◌*◌, ◌==◌, nat_lt, Bool, true, false, not, ◌&&◌, ◌||◌, List, [], ◌∷◌, length, take, codes, bytes_eq}
+use Rattle.std.specs.Prelude.{Option, Some, None, is_some, if◌then◌else◌}
+use Rattle.std.specs.Int.Bits.{bit_and}
+use Rattle.jc_bytes.specs.Decoder.{◌>>=◌, first, number_at}
 use Rattle.jc_bytes.specs.Deciding.{is_modified_text, is_field_text, is_method_text}
 use Rattle.jc_pool.specs.Lookup.{utf8_of, class_name_of}
 use Rattle.jc_pool.specs.Pool.{PoolValue}
@@ -35,3 +37,20 @@ unfoldable pub magic_at : List ℕ → Option (Unit {0} × List ℕ)
 magic_at left = do
   n ← number_at 4 left
   if n.0 == 0xcafebabe then Some (tt, n.1) else None
+
+-- ---- the constant of a static field
+
+-- the bytes are a place of the pool, where they are two
+unfoldable pub names_place : PoolValue → List ℕ → Bool
+names_place pool (high ∷ low ∷ []) = nat_lt (high * 256 + low) (length pool)
+names_place pool bytes = true
+
+-- the attribute of a field with these flags holds the place of its constant
+unfoldable pub is_constant : PoolValue → (flags name : ℕ) → Bool
+is_constant pool flags name = not (bit_and flags 0x0008 == 0) && passes (λ text. bytes_eq text (codes "ConstantValue")) (utf8_of pool name)
+
+-- the bytes of an attribute of a field
+unfoldable pub field_piece_at : PoolValue → (flags name size : ℕ) → List ℕ → Option (List ℕ × List ℕ)
+field_piece_at pool flags name size left = do
+  piece ← first size (take size) left
+  if names_place pool piece.0 || not (is_constant pool flags name) then Some piece else None

@@ -3,9 +3,10 @@ ghost use Rattle.std.specs.Prelude.{◌≤◌};
 ghost use Rattle.jc_bytes.specs.Counted.{counted_at};
 ghost use Rattle.jc_bytes.specs.Decoder.{SameEnd};
 ghost use Rattle.jc_bytes.specs.Parsing.{Parses};
-ghost use Rattle.jc_class.specs.ClassReading.{named_at, attribute_at, attributes_at, member_at};
+ghost use Rattle.jc_class.specs.ClassReading.{named_at, attribute_at, attributes_at, field_attribute_at, field_at, method_at};
 ghost use Rattle.jc_class.specs.declared.item.Named.TheVariants as kinds;
 
+use crate::constant::field_piece_item;
 use crate::item::{Named, place_item};
 use crate::{Attribute, Member};
 use jc_bytes::{
@@ -87,24 +88,89 @@ pub fn read_attributes(
     counted(alloc, reader, &Attributes { pool })
 }
 
-/// Fields or methods (JVM Specification 4.5, 4.6), over the pool of their class.
+/// Attributes of a field (JVM Specification 4.5), over the pool of its class.
 #[derive(Drop)]
-struct Members<'a> {
+struct FieldAttributes<'a> {
     pool: &'a Pool,
-    /// The kind of their descriptors.
-    descriptor: Named,
+    /// The access flags of the field.
+    flags: u16,
 }
 
-impl ItemReader for Members<'_> {
+impl ItemReader for FieldAttributes<'_> {
+    type Item = Attribute;
+
+    ghost read_at = { λ items. field_attribute_at items.pool.now items.flags };
+
+    #[tactic(auto, unfolding(crate::specs::ClassReading::field_attribute_at))]
+    fn read_item(
+        &self,
+        alloc: Global,
+        reader: &mut Reader<'_>,
+    ) -> Result<Attribute, Fail<Refusal>> {
+        let name = place_item(reader, self.pool, Named::Text)?;
+        let size = u32_item(reader)?;
+        let piece = field_piece_item(reader, self.pool, self.flags, name, size)?;
+        let body = Bytes::copy_of(alloc, piece)?;
+        Ok(Attribute { name, body })
+    }
+}
+
+/// Fields (JVM Specification 4.5), over the pool of their class.
+#[derive(Drop)]
+struct Fields<'a> {
+    pool: &'a Pool,
+}
+
+impl ItemReader for Fields<'_> {
     type Item = Member;
 
-    ghost read_at = { λ items. member_at items.pool.now items.descriptor };
+    ghost read_at = { λ items. field_at items.pool.now };
 
-    #[tactic(auto, unfolding(crate::specs::ClassReading::member_at))]
+    #[tactic(auto, unfolding(crate::specs::ClassReading::field_at))]
+    fn read_item(&self, alloc: Global, reader: &mut Reader<'_>) -> Result<Member, Fail<Refusal>> {
+        let pool = self.pool;
+        let flags = u16_item(reader)?;
+        let name = place_item(reader, pool, Named::Text)?;
+        let desc = place_item(reader, pool, Named::FieldDescriptor)?;
+        let attributes = counted(alloc, reader, &FieldAttributes { pool, flags })?;
+        Ok(Member {
+            flags,
+            name,
+            desc,
+            attributes,
+        })
+    }
+}
+
+/// The fields of a class, behind their count (JVM Specification 4.5).
+pub fn read_fields(
+    alloc: Global,
+    reader: &mut Reader<'_>,
+    pool: &Pool,
+) -> Result<List<Member>, Fail<Refusal>>
+    ensures gives { Parses (λ x. x) result reader.old reader.new (counted_at (field_at pool.now) reader.old.left) }
+    ensures end { SameEnd reader.old reader.new }
+    ensures later { reader.old.place ≤ reader.new.place }
+{
+    counted(alloc, reader, &Fields { pool })
+}
+
+/// Methods (JVM Specification 4.6), over the pool of their class.
+#[derive(Drop)]
+struct Methods<'a> {
+    pool: &'a Pool,
+}
+
+impl ItemReader for Methods<'_> {
+    type Item = Member;
+
+    ghost read_at = { λ items. method_at items.pool.now };
+
+    #[tactic(auto, unfolding(crate::specs::ClassReading::method_at))]
     fn read_item(&self, alloc: Global, reader: &mut Reader<'_>) -> Result<Member, Fail<Refusal>> {
         let flags = u16_item(reader)?;
         let name = place_item(reader, self.pool, Named::Text)?;
-        let desc = place_item(reader, self.pool, self.descriptor)?;
+        let desc = place_item(reader, self.pool, Named::MethodDescriptor)?;
         let attributes = read_attributes(alloc, reader, self.pool)?;
         Ok(Member {
             flags,
@@ -115,16 +181,15 @@ impl ItemReader for Members<'_> {
     }
 }
 
-/// The fields or the methods, behind their count, whose descriptors are of this kind.
-pub fn read_members(
+/// The methods of a class, behind their count (JVM Specification 4.6).
+pub fn read_methods(
     alloc: Global,
     reader: &mut Reader<'_>,
     pool: &Pool,
-    descriptor: Named,
 ) -> Result<List<Member>, Fail<Refusal>>
-    ensures gives { Parses (λ x. x) result reader.old reader.new (counted_at (member_at pool.now descriptor) reader.old.left) }
+    ensures gives { Parses (λ x. x) result reader.old reader.new (counted_at (method_at pool.now) reader.old.left) }
     ensures end { SameEnd reader.old reader.new }
     ensures later { reader.old.place ≤ reader.new.place }
 {
-    counted(alloc, reader, &Members { pool, descriptor })
+    counted(alloc, reader, &Methods { pool })
 }

@@ -11,7 +11,7 @@ ghost use Rattle.jc_class.specs.declared.class_file.ClassFile.{ClassFile};
 
 use crate::ClassFile;
 use crate::item::{Named, magic_item, place_item};
-use crate::parts::{read_attributes, read_interfaces, read_members};
+use crate::parts::{read_attributes, read_fields, read_interfaces, read_methods};
 use jc_bytes::{Fail, Reader, Refusal, not_a_class, u16_item};
 use jc_pool::Pool;
 use std::alloc::Global;
@@ -30,8 +30,8 @@ fn parsed(alloc: Global, reader: &mut Reader<'_>) -> Result<ClassFile, Fail<Refu
     let this_class = place_item(reader, &pool, Named::Class)?;
     let super_class = place_item(reader, &pool, Named::ClassOrNone)?;
     let interfaces = read_interfaces(alloc, reader, &pool)?;
-    let fields = read_members(alloc, reader, &pool, Named::FieldDescriptor)?;
-    let methods = read_members(alloc, reader, &pool, Named::MethodDescriptor)?;
+    let fields = read_fields(alloc, reader, &pool)?;
+    let methods = read_methods(alloc, reader, &pool)?;
     let attributes = read_attributes(alloc, reader, &pool)?;
     Ok(ClassFile {
         minor,
@@ -62,8 +62,8 @@ fn whole(alloc: Global, bytes: &[u8]) -> Result<ClassFile, Fail<Refusal>>
 }
 
 /// Reads a class file (JVM Specification 4.1, 4.4 to 4.7). All bytes have to be its items, in their
-/// order. Versions and access flags are taken as they come, and the bodies of attributes are not
-/// looked into.
+/// order. Versions and access flags are taken as they come, and of the bodies of attributes only
+/// the places of constants of static fields are looked at.
 ///
 /// Each number is an item of its own, and so are each entry of the pool, from its tag on, and the
 /// body of each attribute.
@@ -75,7 +75,9 @@ fn whole(alloc: Global, bytes: &[u8]) -> Result<ClassFile, Fail<Refusal>>
 /// an item of the pool that fails, `this_class` or an interface that is no Class entry or one whose
 /// name is no modified UTF-8, `super_class` neither 0 nor such an entry, the name of a field, a
 /// method or an attribute that is no Utf8 entry, a field or a method whose descriptor is no Utf8
-/// entry or not well formed (JVM Specification 4.3.2, 4.3.3), or bytes that are left at the end.
+/// entry or not well formed (JVM Specification 4.3.2, 4.3.3), an attribute `ConstantValue` of a
+/// static field of two bytes that are a place at or above the count of the pool (JVM Specification
+/// 4.7.2), at these bytes, or bytes that are left at the end.
 pub fn read_class(alloc: Global, bytes: &[u8]) -> Result<ClassFile, Fail<Refusal>>
     requires { length bytes.now ≤ most_read }
     // What is read is the class file that the bytes spell, and other bytes are refused where they first fail.
