@@ -56,9 +56,9 @@ use Rattle.jc_link_programs.specs.ProbeInits.{init_of, is_init}
 use Rattle.jc_link_programs.specs.Statics.{is_clinit, static_of, statics_among}
 use Rattle.jc_link_programs.proofs.PairedLaws.{AreThere, IsThere, AreSameWhere, paired}
 use Rattle.jc_link_programs.proofs.SameLinkedLaws.{one_probes, same_lists, to_same}
-use Rattle.jc_link_laws.specs.TwinFiles.{IsWrittenTwin, NamePlaces}
+use Rattle.jc_link_laws.specs.TwinFiles.{IsWrittenTwin}
 use Rattle.jc_link_laws.proofs.InitProbesLaws.{added_at, text_is}
-use Rattle.jc_link_laws.proofs.KeptStaticsLaws.{NoNewInteger, any_put, clinits_same, data_field_static, init_no_clinit, no_new_integer, statics_same}
+use Rattle.jc_link_laws.proofs.KeptStaticsLaws.{any_put, clinits_same, data_field_static, init_no_clinit, statics_same}
 use Rattle.jc_link_laws.proofs.MovedTwinLaws.{AreMovedTwins, counts_same, moved_twins}
 use Rattle.jc_link_laws.proofs.TwinPairLaws.{has_neither, init_named, no_probes, none_added}
 
@@ -248,9 +248,6 @@ module _ (original written : List ℕ) (are : AreBytes original) (are_new : AreB
 
   -- ---- name, initialization method, statics
 
-  fresh : NoNewInteger c.pool t.pool
-  fresh = no_new_integer c.pool t.pool _ h.outside.pool
-
   name_new : n.name ≡ l.name
   name_new =
       some_is (sym q_is.name ∙ ap (class_name_of t.pool) h.outside.this_class
@@ -267,7 +264,7 @@ module _ (original written : List ℕ) (are : AreBytes original) (are_new : AreB
       q_is.clinit
       ∙ ap (list_any (is_clinit t.pool)) h.outside.methods
       ∙ any_put (is_clinit t.pool) h.outside.kept h.outside.method (init_no_clinit t.pool h.outside.method h.outside.method_is.name)
-      ∙ clinits_same c.pool t.pool h.outside.pool.extends fresh c.methods h.outside.kept class.methods.each h.outside.kept_are
+      ∙ clinits_same c.pool t.pool h.outside.pool.extends c.methods h.outside.kept class.methods.each h.outside.kept_are
       ∙ sym p_is.clinit
 
   statics_new : n.statics ≡ l.statics ++ data_static ∷ []
@@ -276,12 +273,9 @@ module _ (original written : List ℕ) (are : AreBytes original) (are_new : AreB
       ∙ ap (statics_among t.pool) h.outside.fields
       ∙ flat_map-append (static_of t.pool) c.fields (h.outside.field ∷ [])
       ∙ ap₂ (λ (a b : List StaticField). a ++ b)
-      (statics_same c.pool t.pool h.outside.pool.extends fresh c.fields class.fields.each places)
+      (statics_same c.pool t.pool h.outside.pool.extends c.fields class.fields.each class.constants)
       (flat_map-cons (static_of t.pool) h.outside.field [] ∙ append-nil (static_of t.pool h.outside.field) ∙ data_field_static t.pool h.outside.field h.outside.field_is)
       ∙ ap (λ (ss : List StaticField). ss ++ data_static ∷ []) (sym p_is.statics)
-    where
-      places : NamePlaces c
-      places = subst NamePlaces (one_class_of original w.constants.file c w.constants.text w.twin.file_is) w.constants.places
 
   -- ---- probes
 

@@ -1,15 +1,16 @@
 -- The static fields and the methods of a class, where its constant pool has grown.
-use Rattle.std.proofs.Common.{◌≡◌, ◌⊎◌, inl, inr, ℕ, ℤ, ◌<◌, ◌≤◌, pos, Bool, true, false, cond, ◌||◌, List, [], ◌∷◌, ◌++◌, length, map, filter, Contains, Option, Some, None, codes, refl, sym, ◌∙◌, ap, ap₂, if◌then◌else◌}
+use Rattle.std.proofs.Common.{◌≡◌, ◌⊎◌, inl, inr, ℕ, ℤ, ◌+◌, ◌*◌, ◌<◌, pos, Bool, true, false, not, cond, ◌||◌, List, [], ◌∷◌, ◌++◌, length, map, filter, Contains, Option, Some, None, codes, refl, sym, ◌∙◌, ap, ap₂, subst, if◌then◌else◌}
+use Rattle.std.specs.Prelude.{◌≢◌}
+use Rattle.std.specs.Int.Bits.{bit_and}
 use Rattle.std.specs.List.{list_any, AllByRecursion}
 use Rattle.std.specs.Option.{option_and_then}
-use Rattle.std.proofs.lemmas.Bool.{cases_lt}
+use Rattle.std.proofs.lemmas.Bool.{eq-eqb, true≢false}
 use Rattle.std.proofs.lemmas.Option.{none-some, same_Some}
 use Rattle.std.proofs.lemmas.List.Concat.{flat_map-cons}
 use Rattle.jc_bytes.specs.Decoder.{◌>>=◌}
-use Rattle.jc_bytes.specs.Descriptor.{FieldType, Byte, Char, Int, Long, Short, Boolean, field_text}
-use Rattle.jc_bytes.proofs.BooleanLaws.{first_in, later_in, which_in, none_in}
+use Rattle.jc_bytes.specs.Descriptor.{FieldType, Byte, Char, Int, Long, Short, Boolean}
+use Rattle.jc_bytes.proofs.BooleanLaws.{which_in, none_in}
 use Rattle.jc_methods.specs.DescriptorTypes.{field_type_in}
-use Rattle.jc_methods.proofs.DescriptorTypesLaws.{field_again}
 use Rattle.jc_methods.specs.EntryState.{is_static}
 use Rattle.jc_methods.specs.ProbeMembers.{data_name, data_type, init_name}
 use Rattle.jc_programs.specs.Narrowing.{narrowed}
@@ -22,18 +23,53 @@ use Rattle.jc_pool.specs.Adding.{Extends}
 use Rattle.jc_pool.specs.Lookup.{entry_of, utf8_of, const_of, const_in, where_named, reference_of, signature_of}
 use Rattle.jc_pool.specs.Pool.{PoolValue}
 use Rattle.jc_pool.proofs.AddedLaws.{utf8_kept}
-use Rattle.jc_pool.proofs.OneMoreEntryLaws.{entry_past, entry_stays}
-use Rattle.jc_class.specs.ClassFormat.{HasText, HasFieldDescriptor, HasMethodDescriptor}
-use Rattle.jc_class.specs.Writable.{IsAttribute, IsMember}
+use Rattle.jc_pool.proofs.OneMoreEntryLaws.{entry_stays}
+use Rattle.jc_class.specs.ClassFormat.{HasText, HasFieldDescriptor, HasMethodDescriptor, IsConstant, NamesPlace}
+use Rattle.jc_class.specs.Writable.{IsAttribute, IsMember, NamesItsConstants}
 use Rattle.jc_class.specs.declared.class_file.Attribute.{Attribute}
 use Rattle.jc_class.specs.declared.class_file.Member.{Member}
 use Rattle.jc_body.specs.Attributes.{bodies_of, has_name, is_text}
 use Rattle.jc_emit.specs.TwinProgram.{data_static}
-use Rattle.jc_instrument.specs.Contents.{Content, content_by, content_of}
-use Rattle.jc_instrument.specs.GrownPool.{IsGrown}
 use Rattle.jc_instrument.specs.SameOutside.{IsKeptMethod, AreKeptMethods, IsDataField}
+use Rattle.jc_instrument.proofs.TwinLaws.{text_is}
 use Rattle.jc_link_programs.specs.Statics.{int_in, long_in, int_at, long_at, number_at, first_by, first_number, single, place_in, constant_place, static_with, as_static, static_of, statics_among, is_clinit}
-use Rattle.jc_link_laws.specs.TwinFiles.{NamesPlace}
+
+-- ---- the place of a constant
+
+static_flag : (flags : ℕ) → is_static flags ≡ true → bit_and flags 0x0008 ≢ 0
+static_flag flags is none = true≢false (sym is ∙ ap not (eq-eqb _ _ none))
+
+-- a body that names a place of the pool names this one
+body_within : (pool : PoolValue) (body : List ℕ) → NamesPlace pool body → (place : ℕ) → place_in body ≡ Some place → place < length pool
+body_within pool (high ∷ low ∷ []) names place e = subst (λ (n : ℕ). n < length pool) (same_Some (high * 256 + low) place e) names
+body_within pool body names place e = absurd (none-some place e)
+
+single_within : (pool : PoolValue) (bodies : List (List ℕ)) → AllByRecursion (NamesPlace pool) bodies → (place : ℕ)
+    → option_and_then place_in (single bodies) ≡ Some place → place < length pool
+single_within pool (body ∷ []) all place e = body_within pool body all.0 place e
+single_within pool bodies all place e = absurd (none-some place e)
+
+module _ (pool : PoolValue) (flags : ℕ) (set : bit_and flags 0x0008 ≢ 0) where
+  abbrev constants_in : List Attribute → List Attribute
+  constants_in attributes = filter (has_name pool (codes "ConstantValue")) attributes
+
+  bodies_within : (attributes : List Attribute) → AllByRecursion (λ (a : Attribute). IsConstant pool flags a.name → NamesPlace pool a.body) attributes
+      → AllByRecursion (NamesPlace pool) (bodies_of pool (codes "ConstantValue") attributes)
+  bodies_within [] all = tt
+  bodies_within (a ∷ attributes) all = by (has_name pool (codes "ConstantValue") a) refl (bodies_within attributes all.1)
+    where
+      by : (t : Bool) → has_name pool (codes "ConstantValue") a ≡ t
+          → AllByRecursion (NamesPlace pool) (map (λ (x : Attribute). x.body) (constants_in attributes))
+          → AllByRecursion (NamesPlace pool) (map (λ (x : Attribute). x.body) (cond t (a ∷ constants_in attributes) (constants_in attributes)))
+      by true is later = (all.0 (set, text_is (codes "ConstantValue") (utf8_of pool a.name) is), later)
+      by false is later = later
+
+-- the constant of a static field has a place of the pool
+constant_within : (pool : PoolValue) (field : Member) → NamesItsConstants pool field → is_static field.flags ≡ true
+    → (place : ℕ) → constant_place pool field.attributes ≡ Some place → place < length pool
+constant_within pool field all is place e =
+    single_within pool (bodies_of pool (codes "ConstantValue") field.attributes)
+    (bodies_within pool field.flags (static_flag field.flags is) field.attributes all) place e
 
 -- ---- numbers
 
@@ -70,47 +106,29 @@ long_by_entry pool (Some (entry.MethodType desc)) = named_number long_in constan
 long_by_entry pool (Some (entry.Dynamic bootstrap rest)) = named_number long_in constants.Computed (signature_of pool rest) refl refl
 long_by_entry pool (Some other) = refl
 
--- no Integer is put behind the old places
-abbrev pub NoNewInteger : PoolValue → PoolValue → Type 0
-NoNewInteger old new = (place : ℕ) (value : ℤ) → length old ≤ place → entry_of new place ≡ Some (entry.Integer value) → ⊥
-
-module _ (old new : PoolValue) (more : Extends old new) (fresh : NoNewInteger old new) where
+module _ (old new : PoolValue) (more : Extends old new) where
   entry_same : (place : ℕ) → place < length old → entry_of new place ≡ entry_of old place
   entry_same place less = ap (λ (l : PoolValue). entry_of l place) more.1 ∙ entry_stays old more.0 place less
 
-  no_integer : (place : ℕ) → length old ≤ place → (o : Option Entry) → entry_of new place ≡ o → int_of o ≡ pos 0
-  unfolding int_of
-  no_integer place past (Some (entry.Integer value)) e = absurd (fresh place value past e)
-  no_integer place past _ e = refl
-
-  entry_int : (place : ℕ) → int_of (entry_of new place) ≡ int_of (entry_of old place)
-  unfolding int_of
-  entry_int place = by (cases_lt place (length old))
-    where
-      by : (place < length old) ⊎ (length old ≤ place) → int_of (entry_of new place) ≡ int_of (entry_of old place)
-      by (inl less) = ap int_of (entry_same place less)
-      by (inr past) = no_integer place past (entry_of new place) refl ∙ sym (ap int_of (entry_past old place past))
-
-  int_same : (place : ℕ) → int_at new place ≡ int_at old place
+  int_same : (place : ℕ) → place < length old → int_at new place ≡ int_at old place
   unfolding const_of
-  int_same place = int_by_entry new (entry_of new place) ∙ entry_int place ∙ sym (int_by_entry old (entry_of old place))
+  int_same place less = int_by_entry new (entry_of new place) ∙ ap int_of (entry_same place less) ∙ sym (int_by_entry old (entry_of old place))
 
   long_same : (place : ℕ) → place < length old → long_at new place ≡ long_at old place
   unfolding const_of
   long_same place less = long_by_entry new (entry_of new place) ∙ ap long_of (entry_same place less) ∙ sym (long_by_entry old (entry_of old place))
 
-  number_same : (type : FieldType) (place : ℕ) → (type ≡ Long → place < length old) → number_at new type place ≡ number_at old type place
-  number_same Boolean place within = ap (narrowed Boolean) (int_same place)
-  number_same Byte place within = ap (narrowed Byte) (int_same place)
-  number_same Short place within = ap (narrowed Short) (int_same place)
-  number_same Char place within = ap (narrowed Char) (int_same place)
-  number_same Int place within = int_same place
-  number_same Long place within = long_same place (within refl)
-  number_same other place within = refl
+  number_same : (type : FieldType) (place : ℕ) → place < length old → number_at new type place ≡ number_at old type place
+  number_same Boolean place less = ap (narrowed Boolean) (int_same place less)
+  number_same Byte place less = ap (narrowed Byte) (int_same place less)
+  number_same Short place less = ap (narrowed Short) (int_same place less)
+  number_same Char place less = ap (narrowed Char) (int_same place less)
+  number_same Int place less = int_same place less
+  number_same Long place less = long_same place less
+  number_same other place less = refl
 
-  first_same : (type : Option FieldType) (o : Option ℕ) → ((place : ℕ) → type ≡ Some Long → o ≡ Some place → place < length old)
-      → first_by new type o ≡ first_by old type o
-  first_same (Some type) (Some place) within = number_same type place (λ long. within place (ap Some long) refl)
+  first_same : (type : Option FieldType) (o : Option ℕ) → ((place : ℕ) → o ≡ Some place → place < length old) → first_by new type o ≡ first_by old type o
+  first_same (Some type) (Some place) within = number_same type place (within place refl)
   first_same x y within = refl
 
   -- ---- attributes
@@ -144,38 +162,32 @@ module _ (old new : PoolValue) (more : Extends old new) (fresh : NoNewInteger ol
     desc_same : utf8_of new field.desc ≡ utf8_of old field.desc
     desc_same = utf8_kept old new is.desc.0 field.desc more is.desc.1 ∙ sym is.desc.1
 
-    -- a field of type long has the descriptor of it
-    long_desc : (desc : List ℕ) → utf8_of old field.desc ≡ Some desc → field_type_in desc ≡ Some Long → utf8_of old field.desc ≡ Some (codes "J")
-    long_desc desc stands type =
-        let own = same_Some is.desc.0 desc (sym is.desc.1 ∙ stands) in
-        let long = same_Some is.desc.2.0 Long (sym (field_again is.desc.0 is.desc.2.0 is.desc.2.1) ∙ ap field_type_in own ∙ type) in
-        is.desc.1 ∙ ap Some (is.desc.2.1.spelled ∙ ap field_text long)
+    module _ (within : (place : ℕ) → constant_place old field.attributes ≡ Some place → place < length old) where
+      with_same : (n d : Option (List ℕ)) → static_with new field n d ≡ static_with old field n d
+      with_same (Some name) (Some desc) =
+          ap (λ (z : ℤ). record { name = name; desc = desc; first = z } ∷ [])
+          (ap (first_by new (field_type_in desc)) (constant_same field.attributes is.attributes.each)
+          ∙ first_same (field_type_in desc) (constant_place old field.attributes) within)
+      with_same x y = refl
 
-    with_same : (utf8_of old field.desc ≡ Some (codes "J") → NamesPlace old field) → (n d : Option (List ℕ)) → utf8_of old field.desc ≡ d
-        → static_with new field n d ≡ static_with old field n d
-    with_same names (Some name) (Some desc) stands =
-        ap (λ (z : ℤ). record { name = name; desc = desc; first = z } ∷ [])
-        (ap (first_by new (field_type_in desc)) (constant_same field.attributes is.attributes.each)
-        ∙ first_same (field_type_in desc) (constant_place old field.attributes) (λ place long at. names (long_desc desc stands long) place at))
-    with_same names x y stands = refl
+      as_static_same : as_static new field ≡ as_static old field
+      as_static_same =
+          ap₂ (λ (n d : Option (List ℕ)). static_with new field n d) name_same desc_same
+          ∙ with_same (utf8_of old field.name) (utf8_of old field.desc)
 
-    pub static_same : (is_static field.flags ≡ true → utf8_of old field.desc ≡ Some (codes "J") → NamesPlace old field) → static_of new field ≡ static_of old field
-    static_same names = by (is_static field.flags) refl
+    pub static_same : NamesItsConstants old field → static_of new field ≡ static_of old field
+    static_same all = by (is_static field.flags) refl
       where
         by : (t : Bool) → is_static field.flags ≡ t → (if t then as_static new field else []) ≡ (if t then as_static old field else [])
-        by true e =
-            ap₂ (λ (n d : Option (List ℕ)). static_with new field n d) name_same desc_same
-            ∙ with_same (names e) (utf8_of old field.name) (utf8_of old field.desc) refl
+        by true set = as_static_same (constant_within old field all set)
         by false e = refl
 
   pub statics_same : (fields : List Member) → AllByRecursion (IsMember (HasText old) (HasFieldDescriptor old)) fields
-      → ((field : Member) → Contains fields field → is_static field.flags ≡ true → utf8_of old field.desc ≡ Some (codes "J") → NamesPlace old field)
-      → statics_among new fields ≡ statics_among old fields
-  statics_same [] all names = refl
-  statics_same (f ∷ fields) all names =
+      → AllByRecursion (NamesItsConstants old) fields → statics_among new fields ≡ statics_among old fields
+  statics_same [] all hold = refl
+  statics_same (f ∷ fields) all hold =
       flat_map-cons (static_of new) f fields
-      ∙ ap₂ (λ (a b : List StaticField). a ++ b) (static_same f all.0 (names f (first_in f fields)))
-      (statics_same fields all.1 (λ g c. names g (later_in f fields g c)))
+      ∙ ap₂ (λ (a b : List StaticField). a ++ b) (static_same f all.0 hold.0) (statics_same fields all.1 hold.1)
       ∙ sym (flat_map-cons (static_of old) f fields)
 
   -- ---- methods
@@ -220,14 +232,3 @@ static_name pool field f (Some name) (Some desc) listed = by (which_in _ [] f li
     by (inl same) = ap (λ (s : StaticField). Some s.name) same
     by (inr none) = absurd (none_in f none)
 static_name pool field f x y listed = absurd (none_in f listed)
-
--- ---- a pool that has grown by what a twin class needs
-
-no_content : (pool : PoolValue) (place : ℕ) (value : ℤ) → entry_of pool place ≡ Some (entry.Integer value) → content_of pool place ≡ None
-unfolding content_of
-no_content pool place value there = ap (content_by pool place) there
-
-pub no_new_integer : (old new : PoolValue) (needs : List Content) → IsGrown old new needs → NoNewInteger old new
-no_new_integer old new needs grown place value past there =
-    let one = grown.only place (entry.Integer value) past there in
-    none-some one.content (sym (no_content new place value there) ∙ one.is)

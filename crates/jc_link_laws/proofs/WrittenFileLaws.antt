@@ -7,11 +7,10 @@ use Rattle.jc_instrument.specs.LeftAlone.{is_left_alone}
 use Rattle.jc_instrument.specs.Refused.{IsAccepted}
 use Rattle.jc_instrument.specs.declared.whole.Instrumented.{Instrumented}
 use Rattle.jc_instrument_laws.proofs.TwinClassLaws.{changed_file}
-use Rattle.jc_link_laws.specs.TwinFiles.{HasConstants, IsWrittenOf}
+use Rattle.jc_link_laws.specs.TwinFiles.{IsWrittenOf}
 
-pub written_of : (bytes : List ℕ) (a : Instrumented) → AreBytes bytes → length bytes ≤ most_read → HasConstants bytes → IsInstrumentedFile bytes a
-    → IsWrittenOf bytes a.bytes
-written_of bytes a are short constants is = by (is_left_alone is.file) refl is.becomes
+pub written_of : (bytes : List ℕ) (a : Instrumented) → AreBytes bytes → length bytes ≤ most_read → IsInstrumentedFile bytes a → IsWrittenOf bytes a.bytes
+written_of bytes a are short is = by (is_left_alone is.file) refl is.becomes
   where
     accepted : IsAccepted bytes
     accepted = (is.file, is.text, is.no_cause)
@@ -20,6 +19,5 @@ written_of bytes a are short constants is = by (is_left_alone is.file) refl is.b
     by true stays given = inr ((accepted, (is.file, is.text, stays)), given.same)
     by false changes has = inl (record {
       changed = (accepted, (is.file, is.text, changes));
-      constants = constants;
       twin = changed_file bytes a are short is has.changed;
     })

@@ -10,15 +10,12 @@ ghost use Rattle.jc_instrument.specs.declared.whole.Instrumented.{Instrumented};
 ghost use Rattle.jc_link_programs.specs.Linking.{IsProgramOf, IsLinkRefusal};
 ghost use Rattle.jc_link_programs.specs.declared.link_refusal.LinkRefusal.{LinkRefusal};
 ghost use Rattle.jc_link_laws.specs.SecondLinking.{IsSecondRefusal};
-ghost use Rattle.jc_link_laws.specs.TwinFiles.{HasConstants, IsShortFile, IsWrittenOf, TwinFiles};
+ghost use Rattle.jc_link_laws.specs.TwinFiles.{IsShortFile, IsWrittenOf, TwinFiles};
 
 use jc_bytes::Bytes;
 
 /// Where accepted files are linked to a program, and what was written of them is linked to a program in the same order,
 /// the texts of twins of the changed ones and the unchanged ones as they are, the second program is a twin of the first.
-/// Of a changed file the ConstantValue attribute of each static field of type long has to name a place of the constant
-/// pool, as it does in each class file (JVM Specification 4.7.2): a place behind the pool could be that of the class's id
-/// in the twin's pool.
 pub fn twins_link(originals: &[Bytes], written: &[Bytes])
     ensures { (p q : Program) → TwinFiles originals.now written.now → IsProgramOf originals.now p → IsProgramOf written.now q
         → TwinProgram p q }
@@ -26,8 +23,8 @@ pub fn twins_link(originals: &[Bytes], written: &[Bytes])
 
 /// What an accepted file becomes that is instrumented is what is written of it.
 pub fn each_instrumented_file_is_written()
-    ensures { (bytes : List ℕ) (a : Instrumented) → AreBytes bytes → length bytes ≤ most_read → HasConstants bytes
-        → IsInstrumentedFile bytes a → IsWrittenOf bytes a.bytes }
+    ensures { (bytes : List ℕ) (a : Instrumented) → AreBytes bytes → length bytes ≤ most_read → IsInstrumentedFile bytes a
+        → IsWrittenOf bytes a.bytes }
 {}
 
 /// Class files, each of at most 67,108,864 bytes, have a program or a reason for which they have none. They never have
