@@ -24,14 +24,14 @@ use Rattle.jc_command_run.specs.RunStore.{threads_of, first_without}
 use Rattle.jc_command_run.proofs.StoreLaws.{same_without}
 use Rattle.jc_headline.specs.CoverWork.{Cover, LookedFile, AreLooked, all_file_writes, accepted_texts, targets, IsLinkEnd, HaveEntries, IsEntryEnd, instrumenting, running, cover_work}
 use Rattle.jc_headline.specs.CoverRun.{AreRead, AreDistinct}
-use Rattle.jc_headline.specs.Headline.{as_written, NamesConstants, all_written}
+use Rattle.jc_headline.specs.Headline.{as_written, all_written}
 use Rattle.jc_headline.proofs.CoverRunLaws.{not_refused, no_link_end, report_part, entry_part, link_part, instrument_part, look_part}
 use Rattle.jc_headline.proofs.DistinctLaws.{distinct_targets, looked_files}
 use Rattle.jc_headline.proofs.OriginalLaws.{all_written_of, all_short, original_program}
 use Rattle.jc_headline.proofs.PartLaws.{IsDoneIn, quiet_reading, quiet_deciding, quiet_reading_all, quiet_files, quiet_instrumenting, both, through, deciding_over, reading_over, reading_all_over, files_over, instrumenting_over}
 use Rattle.jc_headline.proofs.RunMeaningLaws.{files_short}
 use Rattle.jc_headline.proofs.WriteLaws.{all_targets, contents_after, map_after, stand, same_back}
-use Rattle.jc_headline.specs.FitCover.{IsFitCover, IsShort, named_paths, HaveConstants, DoneCoversFit}
+use Rattle.jc_headline.specs.FitCover.{IsFitCover, IsShort, named_paths, DoneCoversFit}
 use Rattle.jc_headline.proofs.AgainLaws.{same_first}
 use Rattle.jc_headline.proofs.CameLaws.{were_files}
 use Rattle.jc_headline.proofs.NeedLaws.{not_again}
@@ -47,11 +47,7 @@ module _ (c : Cover) (old : Outside) (m : FileMap) (told : old.contents ≡ Some
   abbrev paths : List Word
   paths = named_paths m c.files
 
-  known : HaveConstants m c.files → (read : List (List ℕ)) (looked : List LookedFile) → AreRead old.contents paths read → AreLooked paths read looked
-      → AllByRecursion NamesConstants (accepted_texts looked)
-  known constants read looked are = constants read looked (subst (λ (o : Option FileMap). AreRead o paths read) told are)
-
-  module _ (constants : HaveConstants m c.files) (distinct : AreDistinct paths) (plan_text : List ℕ) (plan_read : IsRead old.contents c.plan plan_text) (read : List (List ℕ))
+  module _ (distinct : AreDistinct paths) (plan_text : List ℕ) (plan_read : IsRead old.contents c.plan plan_text) (read : List (List ℕ))
       (files_read : AreRead old.contents paths read) (plan : RunPlan) (is_plan : IsPlanText plan_text plan) where
     module _ (looked : List LookedFile) (looked_at : AreLooked paths read looked) where
       -- where the files stand in the folder
@@ -85,7 +81,7 @@ module _ (c : Cover) (old : Outside) (m : FileMap) (told : old.contents ≡ Some
         bytes = bytes_written paths read looked looked_at short_now
 
         written_of : AreWrittenOf texts (all_written looked)
-        written_of = all_written_of paths read looked looked_at short_now (known constants read looked files_read looked_at)
+        written_of = all_written_of paths read looked looked_at short_now
 
         twin : Program
         twin = links.0
@@ -127,7 +123,6 @@ module _ (c : Cover) (old : Outside) (m : FileMap) (told : old.contents ≡ Some
           looked_at = looked_at;
           before = before;
           originals = originals;
-          constants = known constants read looked files_read looked_at;
           again = not_again texts (all_written looked) before twin short bytes originals instrumented;
           short = subst (λ (l : List (List ℕ)). AllByRecursion IsShort l) back (are_short read_back (files_short filled.contents (targets c.dest looked) read_back are_back));
           entries = entries_before;
@@ -169,7 +164,7 @@ module _ (c : Cover) (old : Outside) (m : FileMap) (told : old.contents ≡ Some
         let (looked_at, made) = instrumenting_over as_written old c.dest paths read h.value h.front h.first h.fits in
         run_fits h.value looked_at h.behind (h.next, subst (λ (v : Outside). Fit as_written v h.behind) made h.fits')
 
-  module _ (constants : HaveConstants m c.files) (plan_text : List ℕ) (plan_read : IsRead old.contents c.plan plan_text) where
+  module _ (plan_text : List ℕ) (plan_read : IsRead old.contents c.plan plan_text) where
     look_fits : AreDistinct paths → (read : List (List ℕ)) → AreRead old.contents paths read → (steps : List Step)
         → IsDoneIn as_written (look_part c plan_text paths read) old steps → IsFitCover c old
     look_fits distinct read files_read steps (is, fits) =
@@ -179,7 +174,7 @@ module _ (c : Cover) (old : Outside) (m : FileMap) (told : old.contents ≡ Some
         let e = both as_written (deciding Is End) rest old steps (stops done)
         (through (deciding Is End) rest steps (quiet_deciding Is End (λ end. not_refused _ _ end.2)) is) fits in
         let (is_plan, left) = deciding_over as_written old Is End e.value e.front e.first in
-        instrument_fits constants distinct plan_text plan_read read files_read e.value is_plan e.behind (e.next, subst (λ (v : Outside). Fit as_written v e.behind) left e.fits')
+        instrument_fits distinct plan_text plan_read read files_read e.value is_plan e.behind (e.next, subst (λ (v : Outside). Fit as_written v e.behind) left e.fits')
 
     read_fits : AreDistinct paths → (steps : List Step) → IsDoneIn as_written (reading_all paths >>= (λ read. look_part c plan_text paths read)) old steps
         → IsFitCover c old
@@ -208,16 +203,16 @@ module _ (c : Cover) (old : Outside) (m : FileMap) (told : old.contents ≡ Some
         read_fits (subst AreDistinct named distinct) b.behind
         (subst (λ (ps : List Word). rest ps b.behind (stops done)) named b.next, subst (λ (v : Outside). Fit as_written v b.behind) left b.fits')
 
-  cover_fits : HaveConstants m c.files → (new : Outside) → CameTo as_written (cover_work c) old new (stops done) → IsFitCover c old
-  cover_fits constants new came =
+  cover_fits : (new : Outside) → CameTo as_written (cover_work c) old new (stops done) → IsFitCover c old
+  cover_fits new came =
       let rest = λ (plan_text : List ℕ). files_of c.files >>= (λ ps. reading_all ps >>= (λ read. look_part c plan_text ps read)) in
       let a = both as_written (reading c.plan) rest old came.steps (stops done) (through (reading c.plan) rest came.steps (quiet_reading c.plan) came.comes) came.fit in
       let (plan_read, left) = reading_over as_written old c.plan a.value a.front a.first a.fits in
-      list_fits constants a.value plan_read a.behind (a.next, subst (λ (v : Outside). Fit as_written v a.behind) left a.fits')
+      list_fits a.value plan_read a.behind (a.next, subst (λ (v : Outside). Fit as_written v a.behind) left a.fits')
 
 done_fits : DoneCoversFit as_written
-done_fits c old new f f' m told constants ends =
-    cover_fits c old m told constants new (done_means as_written (cover_work c) old new f f' ends).1
+done_fits c old new f f' m told ends =
+    cover_fits c old m told new (done_means as_written (cover_work c) old new f f' ends).1
 
 pub each_done_fits : (landed : Landed) → ((path bytes : List ℕ) → landed path bytes ≡ bytes) → DoneCoversFit landed
 each_done_fits landed same = let e : landed ≡ as_written = (λ i path bytes. same path bytes i) in subst DoneCoversFit (sym e) done_fits

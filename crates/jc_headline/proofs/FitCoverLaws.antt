@@ -87,7 +87,7 @@ module _ (c : Cover) (old : Outside) (fit : IsFitCover c old) where
   written_short = short_files written bytes fit.short
 
   written_of : AreWrittenOf texts written
-  written_of = all_written_of paths fit.read fit.looked fit.looked_at read_short fit.constants
+  written_of = all_written_of paths fit.read fit.looked fit.looked_at read_short
 
   -- ---- the programs
 
@@ -234,7 +234,7 @@ module _ (c : Cover) (old : Outside) (fit : IsFitCover c old) where
   }
 
   holds : (new : Outside) → new ≡ last → HasHeadline as_written c old new fit
-  holds new is = let r = run_of new is in (r, refl, refl, headline c old new fit.contents fit.told r fit.constants)
+  holds new is = let r = run_of new is in (r, refl, refl, headline c old new fit.contents fit.told r)
 
   is_done : EndsAsWork → (new : Outside) (f f' : Counts) (s : Status) → Ends as_written (cover_work c) old new f f' s → NoneRose f f' → s ≢ status.Memory
       → (s ≡ status.Done) × HasHeadline as_written c old new fit

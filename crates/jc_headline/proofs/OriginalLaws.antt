@@ -1,5 +1,5 @@
 -- Where the files that were written of accepted ones are linked to a program, these are too.
-use Rattle.std.proofs.Common.{◌≡◌, ◌⊎◌, inl, inr, ℕ, zero, suc, Bool, true, false, List, [], ◌∷◌, ◌++◌, None, Some, refl, sym, ◌∙◌, ap, subst}
+use Rattle.std.proofs.Common.{◌≡◌, ◌⊎◌, inl, inr, ℕ, zero, suc, Bool, false, List, [], ◌∷◌, ◌++◌, None, Some, refl, sym, ◌∙◌, ap, subst}
 use Rattle.std.specs.Prelude.{slice_get}
 use Rattle.std.specs.List.{AllByRecursion}
 use Rattle.std.specs.Option.{option_map}
@@ -15,12 +15,10 @@ use Rattle.jc_class.specs.ClassId.{class_id}
 use Rattle.jc_class.specs.declared.class_file.ClassFile.{ClassFile}
 use Rattle.jc_class.proofs.FirstBadLaws.{one_class_of}
 use Rattle.jc_instrument.specs.Causes.{NoCause, unless}
-use Rattle.jc_instrument.specs.InstrumentedFile.{Becomes, IsInstrumentedFile}
 use Rattle.jc_instrument.specs.LeftAlone.{is_left_alone}
 use Rattle.jc_instrument.specs.Reasons.{class_causes, interface_causes, code_causes}
 use Rattle.jc_instrument.specs.Refused.{IsAccepted, IsChanged, probe_causes}
 use Rattle.jc_instrument.specs.RoomCauses.{room_causes}
-use Rattle.jc_instrument.specs.declared.whole.Instrumented.{Instrumented}
 use Rattle.jc_instrument.proofs.OneReasonLaws.{none_or_some}
 use Rattle.jc_link_programs.specs.Linking.{AreLinkedClasses, IsFirstRefused, IsLinkedClass, IsLinkRefusal, IsProgramOf, LinkReason, link_causes, refused, one_name, one_id}
 use Rattle.jc_link_programs.specs.Pairs.{HaveOneId, HaveOneName, IsFirstPair, id_of}
@@ -35,35 +33,24 @@ use Rattle.jc_link_laws.proofs.TwinPairLaws.{no_probes, none_added}
 use Rattle.jc_link_laws.proofs.WrittenFileLaws.{written_of}
 use Rattle.jc_command_classes.specs.Instrument.{Decision, refused_file, accepted_file, IsDecision}
 use Rattle.jc_headline.specs.CoverWork.{LookedFile, AreLooked, accepted, kept_if, texts_in}
-use Rattle.jc_headline.specs.Headline.{NamesConstants, written_bytes, all_written}
+use Rattle.jc_headline.specs.Headline.{written_bytes, all_written}
 
 -- ---- what was written
 
-written_by : (bytes : List ℕ) (a : Instrumented) → IsShortFile bytes → NamesConstants bytes → IsInstrumentedFile bytes a → IsWrittenOf bytes a.bytes
-written_by bytes a short constants is = by (is_left_alone is.file) refl is.becomes
-  where
-    accepted_is : IsAccepted bytes
-    accepted_is = (is.file, is.text, is.no_cause)
-
-    by : (t : Bool) → is_left_alone is.file ≡ t → Becomes t bytes is.file a → IsWrittenOf bytes a.bytes
-    by true stays given = inr ((accepted_is, (is.file, is.text, stays)), given.same)
-    by false changes has = written_of bytes a short.0 short.1 (constants (accepted_is, (is.file, is.text, changes))) is
-
 -- each accepted file, with what was written of it
 pub all_written_of : (paths : List (List ℕ)) (read : List (List ℕ)) (looked : List LookedFile) → AreLooked paths read looked → AllByRecursion IsShortFile read
-    → AllByRecursion NamesConstants (texts_in (accepted looked)) → AreWrittenOf (texts_in (accepted looked)) (all_written looked)
-all_written_of [] [] looked is short constants = subst (λ (ls : List LookedFile). AreWrittenOf (texts_in (accepted ls)) (all_written ls)) (sym is) tt
-all_written_of [] (t ∷ ts) looked is short constants = absurd is
-all_written_of (p ∷ ps) [] looked is short constants = absurd is
-all_written_of (p ∷ ps) (t ∷ ts) looked (d, rest, decision, parts, more) short constants =
+    → AreWrittenOf (texts_in (accepted looked)) (all_written looked)
+all_written_of [] [] looked is short = subst (λ (ls : List LookedFile). AreWrittenOf (texts_in (accepted ls)) (all_written ls)) (sym is) tt
+all_written_of [] (t ∷ ts) looked is short = absurd is
+all_written_of (p ∷ ps) [] looked is short = absurd is
+all_written_of (p ∷ ps) (t ∷ ts) looked (d, rest, decision, parts, more) short =
     subst (λ (ls : List LookedFile). AreWrittenOf (texts_in (accepted ls)) (all_written ls)) (sym parts)
-    (by d decision (subst (λ (ls : List LookedFile). AllByRecursion NamesConstants (texts_in (accepted ls))) parts constants) (all_written_of ps ts rest more short.1))
+    (by d decision (all_written_of ps ts rest more short.1))
   where
-    by : (e : Decision) → IsDecision t e → AllByRecursion NamesConstants (texts_in (kept_if e (record { file = p; bytes = t; decision = d }) (accepted rest)))
-        → (AllByRecursion NamesConstants (texts_in (accepted rest)) → AreWrittenOf (texts_in (accepted rest)) (all_written rest))
+    by : (e : Decision) → IsDecision t e → AreWrittenOf (texts_in (accepted rest)) (all_written rest)
         → AreWrittenOf (texts_in (kept_if e (record { file = p; bytes = t; decision = d }) (accepted rest))) (written_bytes e (all_written rest))
-    by (refused_file why) is c later = later c
-    by (accepted_file a) is c later = (written_by t a short.0 c.0 is, later c.1)
+    by (refused_file why) is later = later
+    by (accepted_file a) is later = (written_of t a short.0.0 short.0.1 is, later)
 
 pub all_short : (paths : List (List ℕ)) (read : List (List ℕ)) (looked : List LookedFile) → AreLooked paths read looked → AllByRecursion IsShortFile read
     → AllByRecursion IsShortFile (texts_in (accepted looked))

@@ -33,7 +33,7 @@ use Rattle.jc_command_run.specs.RunStore.{run_store, threads_of, first_without}
 use Rattle.jc_command_run.proofs.StoreLaws.{same_store, same_without}
 use Rattle.jc_headline.specs.CoverWork.{Cover, LookedFile, all_file_writes, accepted, texts_in, targets}
 use Rattle.jc_headline.specs.CoverRun.{AreRead, AreDistinct, CoverRun}
-use Rattle.jc_headline.specs.Headline.{as_written, NamesConstants, all_written, HoldsFile, IsCopied, out_text, err_text}
+use Rattle.jc_headline.specs.Headline.{as_written, all_written, HoldsFile, IsCopied, out_text, err_text}
 use Rattle.jc_headline.proofs.DistinctLaws.{distinct_targets, looked_files}
 use Rattle.jc_headline.proofs.EntryLaws.{case_entries, entries_alike}
 use Rattle.jc_headline.proofs.OriginalLaws.{all_written_of, all_short, original_program}
@@ -146,48 +146,47 @@ module _ (c : Cover) (old new : Outside) (m : FileMap) (told : old.contents ≡ 
 
   -- ---- the two programs
 
-  module _ (constants : AllByRecursion NamesConstants (texts_in (accepted r.looked))) where
-    short_read : AllByRecursion IsShortFile r.read
-    short_read = files_short old.contents r.paths r.read r.files_read
+  short_read : AllByRecursion IsShortFile r.read
+  short_read = files_short old.contents r.paths r.read r.files_read
 
-    pub short : AllByRecursion IsShortFile (texts_in (accepted r.looked))
-    short = all_short r.paths r.read r.looked r.looked_at short_read
+  pub short : AllByRecursion IsShortFile (texts_in (accepted r.looked))
+  short = all_short r.paths r.read r.looked r.looked_at short_read
 
-    pub written_of : AreWrittenOf (texts_in (accepted r.looked)) (all_written r.looked)
-    written_of = all_written_of r.paths r.read r.looked r.looked_at short_read constants
+  pub written_of : AreWrittenOf (texts_in (accepted r.looked)) (all_written r.looked)
+  written_of = all_written_of r.paths r.read r.looked r.looked_at short_read
 
-    pub are_written : AllByRecursion AreBytes (all_written r.looked)
-    are_written = subst (λ (l : List (List ℕ)). AllByRecursion AreBytes l) back (bytes_files _ (targets c.dest r.looked) r.written r.read_back)
+  pub are_written : AllByRecursion AreBytes (all_written r.looked)
+  are_written = subst (λ (l : List (List ℕ)). AllByRecursion AreBytes l) back (bytes_files _ (targets c.dest r.looked) r.written r.read_back)
 
-    found : (p : Program) × IsProgramOf (texts_in (accepted r.looked)) p
-    found = original_program (texts_in (accepted r.looked)) (all_written r.looked) twin short are_written written_of instrumented
+  found : (p : Program) × IsProgramOf (texts_in (accepted r.looked)) p
+  found = original_program (texts_in (accepted r.looked)) (all_written r.looked) twin short are_written written_of instrumented
 
-    pub original : Program
-    original = found.0
+  pub original : Program
+  original = found.0
 
-    pub originals : IsProgramOf (texts_in (accepted r.looked)) original
-    unfolding original
-    originals = found.1
+  pub originals : IsProgramOf (texts_in (accepted r.looked)) original
+  unfolding original
+  originals = found.1
 
-    pub twins : TwinProgram original twin
-    twins = twin_program (texts_in (accepted r.looked)) (all_written r.looked) original twin short are_written written_of originals instrumented
+  pub twins : TwinProgram original twin
+  twins = twin_program (texts_in (accepted r.looked)) (all_written r.looked) original twin short are_written written_of originals instrumented
 
-    pub marks : Entry → Marks
-    marks = (have_marks original twin twins).0
+  pub marks : Entry → Marks
+  marks = (have_marks original twin twins).0
 
-    pub are_marks : AreMarks original twin marks
-    unfolding marks
-    are_marks = (have_marks original twin twins).1
+  pub are_marks : AreMarks original twin marks
+  unfolding marks
+  are_marks = (have_marks original twin twins).1
 
-    pub entries : (case : Case) → Contains r.plan.cases case → (es : List Entry) × AreEntries original case.threads es
-    unfolding twin
-    entries case there =
-        let none : first_without twin (threads_of r.plan) ≡ None = sym (same_without twin (threads_of r.plan))
-        ∙ ap (λ (p : Program). first_without p (threads_of r.plan)) (sym r.links.2) ∙ r.entries in
-        let es = case_entries twin r.plan.cases none case there in
-        let s = have_sides original twin marks twins are_marks in
-        (es.0, entries_alike original twin (entry_alike original twin s.0 s.1) case.threads es.0 es.1)
+  pub entries : (case : Case) → Contains r.plan.cases case → (es : List Entry) × AreEntries original case.threads es
+  unfolding twin
+  entries case there =
+      let none : first_without twin (threads_of r.plan) ≡ None = sym (same_without twin (threads_of r.plan))
+      ∙ ap (λ (p : Program). first_without p (threads_of r.plan)) (sym r.links.2) ∙ r.entries in
+      let es = case_entries twin r.plan.cases none case there in
+      let s = have_sides original twin marks twins are_marks in
+      (es.0, entries_alike original twin (entry_alike original twin s.0 s.1) case.threads es.0 es.1)
 
-    pub leaves : (case : Case) → Contains r.plan.cases case
-        → Same twin marks (run original case (kept_of twin marks case (turns_in case))) (run twin case (turns_in case))
-    leaves case there = let es = entries case there in runs_are_same original twin marks twins are_marks case es.0 es.1 (turns_in case)
+  pub leaves : (case : Case) → Contains r.plan.cases case
+      → Same twin marks (run original case (kept_of twin marks case (turns_in case))) (run twin case (turns_in case))
+  leaves case there = let es = entries case there in runs_are_same original twin marks twins are_marks case es.0 es.1 (turns_in case)

@@ -21,7 +21,7 @@ use Rattle.jc_command_work.specs.Folders.{once}
 use Rattle.jc_command_work.specs.OneWay.{Work, IsWork}
 use Rattle.jc_headline.specs.CoverWork.{Cover, LookedFile, AreLooked, accepted_texts, HaveEntries, cover_work}
 use Rattle.jc_headline.specs.CoverRun.{AreRead, CoverRun}
-use Rattle.jc_headline.specs.Headline.{NamesConstants, all_written, Headline}
+use Rattle.jc_headline.specs.Headline.{all_written, Headline}
 
 -- ---- the files that are named
 
@@ -60,8 +60,6 @@ pub record IsFitCover (c : Cover) (old : Outside) : Type 0 where
   -- those that weren't refused are linked to a program
   pub before : Program
   pub originals : IsProgramOf (accepted_texts looked) before
-  -- and ConstantValue attributes of static fields of type long name places of their pools (JVM Specification 4.7.2)
-  pub constants : AllByRecursion NamesConstants (accepted_texts looked)
   -- nothing refuses what is written of them
   pub again : (r : LinkRefusal) → IsSecondRefusal (accepted_texts looked) (all_written looked) r → ⊥
   pub short : AllByRecursion IsShort (all_written looked)
@@ -84,12 +82,7 @@ abbrev pub FitCoversAreDone : Landed → Type 0
 FitCoversAreDone landed = (c : Cover) (old new : Outside) (f f' : Counts) (s : Status) (fit : IsFitCover c old) → Ends landed (cover_work c) old new f f' s
     → NoneRose f f' → s ≢ status.Memory → (s ≡ status.Done) × HasHeadline landed c old new fit
 
--- ConstantValue attributes of those of the files that aren't refused name places of their constant pools
-abbrev pub HaveConstants : FileMap → List FileText → Type 0
-HaveConstants m files = (read : List (List ℕ)) (looked : List LookedFile) → AreRead (Some m) (named_paths m files) read → AreLooked (named_paths m files) read looked
-    → AllByRecursion NamesConstants (accepted_texts looked)
-
--- nothing less is enough: each run that is done is one of a cover that fits, if constants stand where they should
+-- nothing less is enough: each run that is done is one of a cover that fits
 abbrev pub DoneCoversFit : Landed → Type 0
-DoneCoversFit landed = (c : Cover) (old new : Outside) (f f' : Counts) (m : FileMap) → old.contents ≡ Some m → HaveConstants m c.files
+DoneCoversFit landed = (c : Cover) (old new : Outside) (f f' : Counts) (m : FileMap) → old.contents ≡ Some m
     → Ends landed (cover_work c) old new f f' status.Done → IsFitCover c old

@@ -29,7 +29,6 @@ use Rattle.jc_programs.specs.declared.run_end.Entry.{Entry}
 use Rattle.jc_programs.specs.Turns.{turns_in}
 use Rattle.jc_emit.specs.Marks.{Marks}
 use Rattle.jc_emit.specs.TwinProgram.{TwinProgram}
-use Rattle.jc_instrument.specs.Refused.{IsChanged}
 use Rattle.jc_exec.specs.Writing.{exec_text}
 use Rattle.jc_cover.specs.declared.coverage.Coverage.{Coverage}
 use Rattle.jc_cover.specs.Covered.{is_hit, TellsCovered}
@@ -44,7 +43,6 @@ use Rattle.jc_twin_simulation.specs.Same.{Same}
 use Rattle.jc_twin_simulation.specs.Laws.{kept_of}
 use Rattle.jc_twin_exact.specs.Reported.{IsReported}
 use Rattle.jc_link_programs.specs.Linking.{IsProgramOf}
-use Rattle.jc_link_laws.specs.TwinFiles.{HasConstants}
 use Rattle.jc_command_work.specs.declared.status.Status.TheVariants as status
 use Rattle.jc_command_work.specs.Ending.{Ends}
 use Rattle.jc_command_work.specs.OneWay.{IsTold}
@@ -55,16 +53,11 @@ use Rattle.jc_command_run.specs.RunStore.{hit_record, run_store}
 use Rattle.jc_headline.specs.CoverWork.{Cover, LookedFile, all_file_writes, accepted_texts, cover_work}
 use Rattle.jc_headline.specs.CoverRun.{CoverRun}
 
--- ---- premises
+-- ---- a premise
 
 -- what a path holds after a write is what was written
 abbrev pub as_written : Landed
 as_written path bytes = bytes
-
--- The ConstantValue attribute of each static field of type long of a changed class names a place of the constant pool, as it does in each
--- class file (JVM Specification 4.7.2). Else the pool of its twin could have a constant there, with which the field would begin.
-abbrev pub NamesConstants : List ℕ → Type 0
-NamesConstants bytes = IsChanged bytes → HasConstants bytes
 
 -- ---- files
 
@@ -170,7 +163,7 @@ pub record Headline (landed : Landed) (c : Cover) (old new : Outside) (r : Cover
   pub copied : AllByRecursion (λ l. IsCopied c new l l.decision) r.looked
   pub reasons : (t : List ℕ) → old.err ≡ Some t → new.err ≡ Some (t ++ err_text (all_file_writes c.dest r.looked))
 
--- Where contents are told, each run of `cover` that is done is one of which the headline holds, if constants stand where they should.
+-- Where contents are told, each run of `cover` that is done is one of which the headline holds.
 abbrev pub HeadlineOf : Landed → Type 0
 HeadlineOf landed = (c : Cover) (old new : Outside) (f f' : Counts) → IsTold old → Ends landed (cover_work c) old new f f' status.Done
-    → (r : CoverRun landed c old new) × (AllByRecursion NamesConstants (accepted_texts r.looked) → Headline landed c old new r)
+    → (r : CoverRun landed c old new) × Headline landed c old new r

@@ -56,8 +56,7 @@ pub fn what_was_read_back_runs()
 /// was executed, or is, instructions alone, next in a stopped thread, and exactly what was executed is reported where every thread
 /// returned and nothing was thrown. Every refused class is copied unchanged, and its reason is printed.
 ///
-/// It is said of each run of `cover` that is done, where contents are told and a file reads back as it was written, and where the
-/// ConstantValue attributes of static fields of type long of changed classes name places of their constant pools (JVM Specification 4.7.2).
+/// It is said of each run of `cover` that is done, where contents are told and a file reads back as it was written.
 pub fn instrumented_classes_do_what_their_originals_do()
     ensures { (landed : Landed) → ((path bytes : List ℕ) → landed path bytes ≡ bytes) → HeadlineOf landed }
 {}
@@ -72,8 +71,7 @@ pub fn each_fit_cover_is_done()
     each_cover_ends_as_its_work();
 }
 
-/// And nothing less is enough: where contents are told, and the ConstantValue attributes of static fields of type long of changed
-/// classes name places of their constant pools (JVM Specification 4.7.2), each run of `cover` that is done is of one that fits.
+/// And nothing less is enough: where contents are told, each run of `cover` that is done is of one that fits.
 pub fn each_done_cover_is_fit()
     ensures { (landed : Landed) → ((path bytes : List ℕ) → landed path bytes ≡ bytes) → DoneCoversFit landed }
 {}

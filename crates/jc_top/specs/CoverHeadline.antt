@@ -1,14 +1,13 @@
 -- What a run of the tool promises whose words call `cover`: the headline.
 use Rattle.std.specs.Prelude.{◌≡◌, ℕ, List}
-use Rattle.std.specs.List.{AllByRecursion}
 use Rattle.jc_command_words.specs.Commands.{cover, Means}
 use Rattle.jc_command_work.specs.declared.status.Status.{Status}
 use Rattle.jc_command_work.specs.declared.status.Status.TheVariants as status
 use Rattle.jc_command_work.specs.Step.{Word, Outside, Landed}
 use Rattle.jc_command_work.specs.OneWay.{IsTold}
-use Rattle.jc_headline.specs.CoverWork.{Cover, accepted_texts}
+use Rattle.jc_headline.specs.CoverWork.{Cover}
 use Rattle.jc_headline.specs.CoverRun.{CoverRun}
-use Rattle.jc_headline.specs.Headline.{NamesConstants, Headline}
+use Rattle.jc_headline.specs.Headline.{Headline}
 
 -- the words call `cover` with these values, on some number of workers
 abbrev pub CallsCover : List Word → Cover → Type 0
@@ -19,9 +18,8 @@ abbrev pub ReadsBack : Landed → Type 0
 ReadsBack landed = (path bytes : List ℕ) → landed path bytes ≡ bytes
 
 -- Where contents are told and read back as they were written, the headline holds of each run that the words of a `cover` call and that is
--- done: of what it read, made and wrote, if the ConstantValue attributes of static fields of type long of changed classes name places of
--- their constant pools (JVM Specification 4.7.2).
+-- done: of what it read, made and wrote.
 abbrev pub KeepsHeadline : Landed → List Word → (old new : Outside) → Status → Type 0
 KeepsHeadline landed words old new s =
     (c : Cover) → CallsCover words c → ReadsBack landed → IsTold old → s ≡ status.Done
-    → (r : CoverRun landed c old new) × (AllByRecursion NamesConstants (accepted_texts r.looked) → Headline landed c old new r)
+    → (r : CoverRun landed c old new) × Headline landed c old new r
