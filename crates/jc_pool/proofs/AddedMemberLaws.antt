@@ -10,7 +10,7 @@ use Rattle.jc_pool.specs.declared.entry.Entry.{Entry}
 use Rattle.jc_pool.specs.declared.entry.Entry.TheVariants as entry
 use Rattle.jc_pool.specs.declared.index.Naming.TheVariants as naming
 use Rattle.jc_pool.specs.Pool.{PoolValue}
-use Rattle.jc_pool.specs.Lookup.{entry_of, class_name_of, Signature, signature_of, Member, signature, ref_of, dynamic_of, member_in, member_of}
+use Rattle.jc_pool.specs.Lookup.{entry_of, class_name_of, Signature, signature_of, Member, signature, ref_of, dynamic_of, ref_in, reference_of, member_in, member_of}
 use Rattle.jc_pool.specs.Adding.{HasUtf8, HasClass, PutsSignature, HasSignature, PutsMember, HasMember, IsMemberTag, entry_of_member, Extends}
 use Rattle.jc_pool.specs.Index.{NamesWithin}
 use Rattle.jc_pool.proofs.FirstPlaceMapLaws.{and_decided}
@@ -55,6 +55,16 @@ module _ (old new : PoolValue) (more : Extends old new) (m : Member) where
       by None signed is = absurd (none-some m is)
       by (Some s) signed is = (λ i. signature_kept old new s sig more signed i >>= λ s. member_by tag [] s) ∙ is
 
+  ref_in_kept : (e : Entry) → ref_in old e ≡ Some m → ref_in new e ≡ Some m
+  ref_in_kept (entry.Fieldref class sig) is = ref_kept 9 class sig is
+  ref_in_kept (entry.Methodref class sig) is = ref_kept 10 class sig is
+  ref_in_kept (entry.InterfaceMethodref class sig) is = ref_kept 11 class sig is
+  ref_in_kept e is = absurd (none-some m is)
+
+  ref_there_kept : (e : Option Entry) (place : ℕ) → entry_of old place ≡ e → (e >>= ref_in old) ≡ Some m → (entry_of new place >>= ref_in new) ≡ Some m
+  ref_there_kept None place at is = absurd (none-some m is)
+  ref_there_kept (Some e) place at is = ap (λ (s : Option Entry). s >>= ref_in new) (entry_kept old new e place more at) ∙ ref_in_kept e is
+
   member_in_kept : (e : Entry) → member_in old e ≡ Some m → member_in new e ≡ Some m
   member_in_kept (entry.Fieldref class sig) is = ref_kept 9 class sig is
   member_in_kept (entry.Methodref class sig) is = ref_kept 10 class sig is
@@ -66,6 +76,10 @@ module _ (old new : PoolValue) (more : Extends old new) (m : Member) where
   member_there_kept : (e : Option Entry) (place : ℕ) → entry_of old place ≡ e → (e >>= member_in old) ≡ Some m → (entry_of new place >>= member_in new) ≡ Some m
   member_there_kept None place at is = absurd (none-some m is)
   member_there_kept (Some e) place at is = ap (λ (s : Option Entry). s >>= member_in new) (entry_kept old new e place more at) ∙ member_in_kept e is
+
+pub reference_kept : (old new : PoolValue) (m : Member) (place : ℕ) → Extends old new → reference_of old place ≡ Some m → reference_of new place ≡ Some m
+unfolding reference_of
+reference_kept old new m place more is = ref_there_kept old new more m (entry_of old place) place refl is
 
 pub member_kept : (old new : PoolValue) (m : Member) (place : ℕ) → Extends old new → member_of old place ≡ Some m → member_of new place ≡ Some m
 unfolding member_of
@@ -167,20 +181,20 @@ one_member old new other m place at p q = one_added member_of m old (PutsMember 
 
 -- ---- and there is always one
 
-abbrev same_texts : Signature → Signature → Bool
+abbrev pub same_texts : Signature → Signature → Bool
 same_texts a b = bytes_eq a.name b.name && bytes_eq a.desc b.desc
 
-texts_decided : (a b : Signature) → Decides (same_texts a b) (a ≡ b)
+pub texts_decided : (a b : Signature) → Decides (same_texts a b) (a ≡ b)
 texts_decided a b =
     let told = and_decided (bytes_eq a.name b.name) (bytes_eq a.desc b.desc) (a.name ≡ b.name) (a.desc ≡ b.desc) (bytes_eq-Decides a.name b.name) (bytes_eq-Decides a.desc b.desc) in (
       λ is. (let same = told.0 is in λ i. record { name = same.0 i; desc = same.1 i }),
       λ same. told.1 (ap (λ (s : Signature). s.name) same, ap (λ (s : Signature). s.desc) same),
     )
 
-abbrev same_member : Member → Member → Bool
+abbrev pub same_member : Member → Member → Bool
 same_member a b = (a.tag == b.tag) && (bytes_eq a.class b.class && same_texts (signature a) (signature b))
 
-member_decided : (a b : Member) → Decides (same_member a b) (a ≡ b)
+pub member_decided : (a b : Member) → Decides (same_member a b) (a ≡ b)
 member_decided a b =
     let texts = and_decided (bytes_eq a.class b.class) (same_texts (signature a) (signature b)) (a.class ≡ b.class) (signature a ≡ signature b)
     (bytes_eq-Decides a.class b.class) (texts_decided (signature a) (signature b)) in
@@ -190,7 +204,7 @@ member_decided a b =
       λ same. told.1 (ap (λ (m : Member). m.tag) same, (ap (λ (m : Member). m.class) same, ap signature same)),
     )
 
-some_signature : (old : PoolValue) (s : Signature) → (new : PoolValue) × (place : ℕ) × HasSignature old s new place
+pub some_signature : (old : PoolValue) (s : Signature) → (new : PoolValue) × (place : ℕ) × HasSignature old s new place
 some_signature old s =
     let name = some_utf8 old s.name in
     let desc = some_utf8 name.0 s.desc in

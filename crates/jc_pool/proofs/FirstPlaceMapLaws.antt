@@ -82,6 +82,22 @@ decided_all t c n d u e o f =
     let told = and_decided (t == u) ((c == e) && ((n == o) && (d == f))) (t ≡ u) ((c ≡ e) × ((n ≡ o) × (d ≡ f))) (Decides-eqb t u) texts in
     (λ is. (let same = told.0 is in λ i. key.Member (same.0 i) (same.1.0 i) (same.1.1.0 i) (same.1.1.1 i)), λ same. told.1 (cc, (cc, (cc, cc))))
 
+decided_three : (t n d u o f : ℕ) → Decides ((t == u) && ((n == o) && (d == f))) (key.Computed t n d ≡ key.Computed u o f)
+decided_three t n d u o f =
+    let last = and_decided (n == o) (d == f) (n ≡ o) (d ≡ f) (Decides-eqb n o) (Decides-eqb d f) in
+    let told = and_decided (t == u) ((n == o) && (d == f)) (t ≡ u) ((n ≡ o) × (d ≡ f)) (Decides-eqb t u) last in
+    (λ is. (let same = told.0 is in λ i. key.Computed (same.0 i) (same.1.0 i) (same.1.1 i)), λ same. told.1 (cc, (cc, cc)))
+
+decided_five : (k t c n d l u e o f : ℕ) → Decides ((k == l) && ((t == u) && ((c == e) && ((n == o) && (d == f))))) (key.Handle k t c n d ≡ key.Handle l u e o f)
+decided_five k t c n d l u e o f =
+    let member = decided_all t c n d u e o f in
+    let rest = (t == u) && ((c == e) && ((n == o) && (d == f))) in
+    let told = and_decided (k == l) rest (k ≡ l) (key.Member t c n d ≡ key.Member u e o f) (Decides-eqb k l) member in
+    (λ is. (let same = told.0 is in with_kind same.0 same.1), λ same. told.1 (cc, cc))
+  where
+    with_kind : k ≡ l → key.Member t c n d ≡ key.Member u e o f → key.Handle k t c n d ≡ key.Handle l u e o f
+    with_kind same rest = cc
+
 pub one_key : (a b : Key) → Decides (same_key a b) (a ≡ b)
 one_key (key.Integer x) (key.Integer y) = (λ same. ap key.Integer ((Decides-int_eq x y).0 same), λ same. (Decides-int_eq x y).1 cc)
 one_key (key.Long x) (key.Long y) = (λ same. ap key.Long ((Decides-int_eq x y).0 same), λ same. (Decides-int_eq x y).1 cc)
@@ -89,6 +105,10 @@ one_key (key.Class x) (key.Class y) = (λ same. ap key.Class ((Decides-eqb x y).
 one_key (key.String x) (key.String y) = (λ same. ap key.String ((Decides-eqb x y).0 same), λ same. (Decides-eqb x y).1 cc)
 one_key (key.Signature x y) (key.Signature z w) = decided_both x y z w
 one_key (key.Member t c n d) (key.Member u e o f) = decided_all t c n d u e o f
+one_key (key.Computed t n d) (key.Computed u o f) = decided_three t n d u o f
+one_key (key.Handle k t c n d) (key.Handle l u e o f) = decided_five k t c n d l u e o f
+one_key (key.Handle k t c n d) b = (λ same. absurd cc, λ same. absurd cc)
+one_key (key.Computed t n d) b = (λ same. absurd cc, λ same. absurd cc)
 one_key (key.Member t c n d) b = (λ same. absurd cc, λ same. absurd cc)
 one_key (key.Signature x y) b = (λ same. absurd cc, λ same. absurd cc)
 one_key (key.Integer x) b = (λ same. absurd cc, λ same. absurd cc)

@@ -37,6 +37,15 @@ module _ {X K : Type 0} (found : ℕ → Option X) (what : X) (keyed : ℕ → O
   pub nowhere_as_one : IsNowhere keyed k → IsNowhere found what
   nowhere_as_one none place there = none place (as_one.to_key place there)
 
+  -- what a look-up by the one answers
+  pub first_by_key : (r : Option ℕ) → IfSome r (IsFirst keyed k) → IfSome r (IsFirst found what)
+  first_by_key None first = tt
+  first_by_key (Some place) first = first_as_one place first
+
+  pub none_by_key : (r : Option ℕ) → IfNone r (IsNowhere keyed k) → IfNone r (IsNowhere found what)
+  none_by_key None none = nowhere_as_one none
+  none_by_key (Some place) none = tt
+
 -- what is asked for by the one is asked for by the other
 module _ {X K : Type 0} (found : PoolValue → ℕ → Option X) (what : X) (keyed : PoolValue → ℕ → Option K) (k : K) (old : PoolValue) (Put : PoolValue → ℕ → Type 0)
     (as_one : AreAsOne (found old) what (keyed old) k) where

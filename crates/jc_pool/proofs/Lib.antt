@@ -15,3 +15,7 @@ pub mod AddedLaws
 mod MemberLaws
 pub mod AddedMemberLaws
 mod MemberKeyLaws
+pub mod LinkedKeyLaws
+mod LinkedLaws
+pub mod AddedLinkedLaws
+mod PlannedLaws

@@ -1,5 +1,5 @@
 -- Where members stand, by their keys.
-use Rattle.std.proofs.Common.{◌≡◌, ◌↔◌, ℕ, ◌<◌, Bool, IsTrue, List, [], length, IfSome, IfNone, Option, Some, None, refl, sym, ◌∙◌, ap, subst, arith}
+use Rattle.std.proofs.Common.{◌≡◌, ◌↔◌, ℕ, ◌<◌, Bool, IsTrue, List, [], length, Option, Some, None, refl, sym, ◌∙◌, ap, subst, arith}
 use Rattle.std.proofs.lemmas.Option.{none-some, same_Some}
 use Rattle.jc_bytes.specs.Decoder.{◌>>=◌}
 use Rattle.jc_pool.specs.declared.entry.Entry.{Entry}
@@ -15,7 +15,7 @@ use Rattle.jc_pool.specs.Index.{key_at, same_key, AreTables, named_places, slot_
 use Rattle.jc_pool.proofs.FirstPlaceLaws.{is_first, is_nowhere}
 use Rattle.jc_pool.proofs.FirstPlaceMapLaws.{one_key}
 use Rattle.jc_pool.proofs.OneMoreEntryLaws.{utf8_past}
-use Rattle.jc_pool.proofs.KeyPlaceLaws.{AreAsOne, first_as_one, nowhere_as_one, has_name, has_signature, naming_as_one, signature_as_one}
+use Rattle.jc_pool.proofs.KeyPlaceLaws.{AreAsOne, has_name, has_signature, naming_as_one, signature_as_one}
 use Rattle.jc_pool.proofs.AddedMemberLaws.{member_by, ref_read}
 
 -- ---- what a member names
@@ -42,7 +42,7 @@ ref_parts pool m tag class sig is = by (class_name_of pool class) (signature_of 
         }
 
 -- a dynamic constant or call has another tag
-no_dynamic : (pool : PoolValue) (m : Member) (tag sig : ℕ) → 11 < tag → IsMemberTag m.tag → dynamic_of pool tag sig ≡ Some m → ⊥
+pub no_dynamic : (pool : PoolValue) (m : Member) (tag sig : ℕ) → 11 < tag → IsMemberTag m.tag → dynamic_of pool tag sig ≡ Some m → ⊥
 unfolding dynamic_of
 no_dynamic pool m tag sig large tagged is = by (signature_of pool sig) is
   where
@@ -152,20 +152,6 @@ module _ (pool : PoolValue) (texts : List ℕ → Option ℕ) (firsts : List ℕ
   unkeyed None n d classed named described is = unnamed_class (no_text m.class (sym classed))
   unkeyed (Some c) None d classed named described is = unnamed_member (no_text m.name (sym named))
   unkeyed (Some c) (Some n) None classed named described is = undescribed (no_text m.desc (sym described))
-
--- ---- what the index answers
-
-pub first_as_member : (pool : PoolValue) (m : Member) (firsts : List ℕ) (k : Key) (r : Option ℕ)
-    → AreAsOne (member_of pool) m (member_key_at firsts pool) k → IfSome r (IsFirst (member_key_at firsts pool) k)
-    → IfSome r (IsFirst (member_of pool) m)
-first_as_member pool m firsts k None as_one first = tt
-first_as_member pool m firsts k (Some place) as_one first = first_as_one (member_of pool) m (member_key_at firsts pool) k as_one place first
-
-pub none_as_member : (pool : PoolValue) (m : Member) (firsts : List ℕ) (k : Key) (r : Option ℕ)
-    → AreAsOne (member_of pool) m (member_key_at firsts pool) k → IfNone r (IsNowhere (member_key_at firsts pool) k)
-    → IfNone r (IsNowhere (member_of pool) m)
-none_as_member pool m firsts k None as_one none = nowhere_as_one (member_of pool) m (member_key_at firsts pool) k as_one none
-none_as_member pool m firsts k (Some place) as_one none = tt
 
 -- ---- the key at a place
 

@@ -13,9 +13,9 @@ use Rattle.jc_pool.specs.declared.index.Key.TheVariants as key
 use Rattle.jc_pool.specs.declared.index.Index.{Index}
 use Rattle.jc_pool.specs.declared.index.Naming.TheVariants as naming
 use Rattle.jc_pool.specs.Pool.{PoolValue, width, slots_of, IsSmall}
-use Rattle.jc_pool.specs.Lookup.{utf8_in, utf8_of, class_name_of, Signature, Member, signature, member_of}
-use Rattle.jc_pool.specs.Adding.{IsNowhere, HasUtf8, PutsSignature, HasSignature, HasMember, entry_of_member, RefusesFull}
-use Rattle.jc_pool.specs.Index.{Notes, NotesEntry, text_place, standing_for, key_place, same_key, signature_place, naming_place, AreTables, IsIndexOf, with_text, absent, missing_signature, IsClassed, Lacks, CountsTo}
+use Rattle.jc_pool.specs.Lookup.{utf8_in, utf8_of, class_name_of, Signature, Member, signature}
+use Rattle.jc_pool.specs.Adding.{IsNowhere, Adds, HasUtf8, PutsSignature, HasSignature, entry_of_member, RefusesFull}
+use Rattle.jc_pool.specs.Index.{Notes, NotesEntry, text_place, standing_for, key_place, same_key, signature_place, naming_place, AreTables, IsIndexOf, with_text, absent, missing_signature, IsClassed, GrowsBy, Lacks, CountsTo}
 use Rattle.jc_pool.proofs.FirstPlaceLaws.{is_first, is_nowhere}
 use Rattle.jc_pool.proofs.FirstPlaceMapLaws.{one_key}
 use Rattle.jc_pool.proofs.IndexLaws.{same_table}
@@ -100,7 +100,7 @@ signature_put pool texts firsts keys s are =
     sums a b c = omega arith
 
 -- a pool with the name and the descriptor
-signature_had : (pool : PoolValue) (texts : List ℕ → Option ℕ) (firsts : List ℕ) (keys : Key → Option ℕ) (s : Signature) → AreTables pool texts firsts keys
+pub signature_had : (pool : PoolValue) (texts : List ℕ → Option ℕ) (firsts : List ℕ) (keys : Key → Option ℕ) (s : Signature) → AreTables pool texts firsts keys
     → (r : Option ℕ) → signature_place keys (texts s.name) (texts s.desc) ≡ r
     → (new : PoolValue) × (place : ℕ) × HasSignature pool s new place × (length new ≡ length pool + missing_signature r (bytes_eq s.desc s.name) (texts s.name) (texts s.desc))
 signature_had pool texts firsts keys s are (Some place) at =
@@ -237,8 +237,7 @@ class_new pool index class named r is read found none unnamed =
 
 -- ---- refusals
 
-pub member_refused : (X Y : Type 0) (pool : PoolValue) (m : Member) (missing : ℕ) (fail : Fail PoolFull) → IsNowhere (member_of pool) m
-    → Lacks pool m missing → CountsTo {X = X} (Err fail) (length pool + missing)
-    → RefusesFull {X = Y} (HasMember pool m) (Err fail)
-member_refused X Y pool m missing fails.Memory none lacks counts = tt
-member_refused X Y pool m missing (fails.Said full) none lacks counts = (lacks.0, lacks.1, inr (none, lacks.2), lacks.3 ∙ sym counts.0, omega (arith, counts.0, counts.1))
+pub growth_refused : {K : Type 0} (X Y : Type 0) (found : PoolValue → ℕ → Option K) (k : K) (pool : PoolValue) (Put : PoolValue → ℕ → Type 0) (missing : ℕ) (fail : Fail PoolFull)
+    → IsNowhere (found pool) k → GrowsBy pool Put missing → CountsTo {X = X} (Err fail) (length pool + missing) → RefusesFull {X = Y} (Adds found k pool Put) (Err fail)
+growth_refused X Y found k pool Put missing fails.Memory none grows counts = tt
+growth_refused X Y found k pool Put missing (fails.Said full) none grows counts = (grows.0, grows.1, inr (none, grows.2), grows.3 ∙ sym counts.0, omega (arith, counts.0, counts.1))

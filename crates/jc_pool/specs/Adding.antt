@@ -1,5 +1,5 @@
 -- What is found in a constant pool, and what is put behind its entries (JVM Specification 4.4).
-use Rattle.std.specs.Prelude.{◌≡◌, ◌⊎◌, ◌==◌, if◌then◌else◌, ℕ, ℤ, ◌<◌, ◌≤◌, List, ◌++◌, length, Option, Some, Result, Err}
+use Rattle.std.specs.Prelude.{◌≡◌, ◌⊎◌, ◌==◌, if◌then◌else◌, ℕ, zero, suc, ◌+◌, ℤ, pos, ◌<◌, ◌≤◌, List, [], ◌∷◌, ◌++◌, length, Option, Some, Result, Err}
 use Rattle.jc_bytes.specs.Least.{IsLeast}
 use Rattle.jc_bytes.specs.Least as least
 use Rattle.jc_bytes.specs.declared.fail.Fail.{Fail}
@@ -126,6 +126,10 @@ calls_static = 6
 abbrev pub static_handle : (class name desc : List ℕ) → Handle
 static_handle class name desc = record { kind = calls_static; target = record { tag = 10; class = class; name = name; desc = desc } }
 
+-- the constant that the bootstrap method with this number gives
+abbrev pub bootstrap_constant : ℕ → (name desc : List ℕ) → Computed
+bootstrap_constant bootstrap name desc = record { signed = record { name = name; desc = desc }; bootstrap = bootstrap }
+
 -- the name and the descriptor are put, where they aren't there, and then an entry that names their place
 abbrev pub PutsComputed : PoolValue → Computed → PoolValue → ℕ → Type 0
 PutsComputed old c new place =
@@ -147,6 +151,27 @@ IsTooLong Asked count = (grown : PoolValue) × (place : ℕ) × Asked grown plac
 abbrev pub RefusesFull : {X : Type 0} → (PoolValue → ℕ → Type 0) → Result X (Fail PoolFull) → Type 0
 RefusesFull Asked (Err (fails.Said full)) = IsTooLong Asked full.count
 RefusesFull Asked _ = Unit {0}
+
+-- ---- beforehand
+
+-- the pool that is asked for would have it at this place, and this count
+abbrev pub WouldStand : (PoolValue → ℕ → Type 0) → (place count : ℕ) → Type 0
+WouldStand Asked place count = (grown : PoolValue) × Asked grown place × (length grown ≡ count)
+
+-- the same ints stand at the same places
+abbrev pub AreSameInts : PoolValue → PoolValue → Type 0
+AreSameInts pool other = (place : ℕ) → integer_of other place ≡ integer_of pool place
+
+-- A pool with so many ints of rising values from this one on, each of which is asked for in turn; and the place of each.
+abbrev pub HasIntegers : PoolValue → (first many : ℕ) → PoolValue → List ℕ → Type 0
+HasIntegers old first zero new places = (new ≡ old) × (places ≡ [])
+HasIntegers old first (suc many) new places =
+    (mid : PoolValue) × (place : ℕ) × (others : List ℕ)
+    × (places ≡ place ∷ others) × HasInteger old (pos first) mid place × HasIntegers mid (first + 1) many new others
+
+-- the ints would stand at these places in a pool that has this count then
+abbrev pub WouldHaveInts : PoolValue → (first many : ℕ) → List ℕ → (count : ℕ) → Type 0
+WouldHaveInts old first many places count = (grown : PoolValue) × HasIntegers old first many grown places × (length grown ≡ count)
 
 -- ---- what stays
 

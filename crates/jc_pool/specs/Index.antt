@@ -15,11 +15,12 @@ use Rattle.jc_pool.specs.declared.index.Key.TheVariants as key
 use Rattle.jc_pool.specs.declared.index.Naming.{Naming}
 use Rattle.jc_pool.specs.declared.index.Naming.TheVariants as naming
 use Rattle.jc_pool.specs.declared.index.Index.{Index}
+use Rattle.jc_pool.specs.declared.linked.ComputedText.{ComputedText}
 use Rattle.jc_pool.specs.declared.members.NamedPlaces.{NamedPlaces}
 use Rattle.jc_pool.specs.contracts.index.KeyPartialEq.TheImpl as equal
 use Rattle.jc_pool.specs.Pool.{PoolValue}
-use Rattle.jc_pool.specs.Lookup.{entry_of, utf8_in, utf8_of, class_name_of, string_of, Member}
-use Rattle.jc_pool.specs.Adding.{IsFirst, Adds, PutsNaming, HasClass, PutsMember}
+use Rattle.jc_pool.specs.Lookup.{entry_of, utf8_in, utf8_of, class_name_of, string_of, Member, Computed, Handle}
+use Rattle.jc_pool.specs.Adding.{IsFirst, Adds, PutsNaming, HasClass, PutsMember, bootstrap_constant}
 
 -- ---- first places
 
@@ -150,6 +151,41 @@ pub record AreMembersOf (pool : PoolValue) (firsts : List ℕ) (places : Key →
   pub within : (place : ℕ) → NamesWithin (length pool) (entry_of pool place)
   pub first : AreFirsts (length pool) (member_key_at firsts pool) places
 
+-- ---- method handles and computed constants
+
+-- the constant that these texts are of
+abbrev pub computed : ComputedText → Computed
+computed c = bootstrap_constant c.bootstrap c.name.now c.desc.now
+
+-- the handle of this kind to a member
+abbrev pub handle : ℕ → Member → Handle
+handle kind m = record { kind = kind; target = m }
+
+-- the key of a name and a descriptor, which have these first places
+abbrev pub signature_key : Option ℕ → Option ℕ → Option Key
+signature_key (Some name) (Some descriptor) = Some (key.Signature name descriptor)
+signature_key _ _ = None
+
+-- the key of a method handle, by that of its member
+abbrev pub handle_key : ℕ → Option Key → Option Key
+handle_key kind (Some (key.Member tag class name descriptor)) = Some (key.Handle kind tag class name descriptor)
+handle_key kind _ = None
+
+-- the key of a computed constant, by that of its name and descriptor
+abbrev pub computed_key : ℕ → Option Key → Option Key
+computed_key bootstrap (Some (key.Signature name descriptor)) = Some (key.Computed bootstrap name descriptor)
+computed_key bootstrap _ = None
+
+-- the key of an entry, where it is one of these
+abbrev pub linked_key : List ℕ → PoolValue → Entry → Option Key
+linked_key firsts pool (entry.MethodHandle kind reference) = handle_key kind (member_key_at firsts pool reference)
+linked_key firsts pool (entry.Dynamic bootstrap name_and_type) = computed_key bootstrap (key_at firsts pool name_and_type)
+linked_key firsts pool _ = None
+
+-- the key of the one at a place
+abbrev pub linked_key_at : List ℕ → PoolValue → ℕ → Option Key
+linked_key_at firsts pool place = entry_of pool place >>= linked_key firsts pool
+
 -- ---- the index
 
 -- the tables have the first place of each text and of each key of a pool, and the place that stands for each place
@@ -198,9 +234,13 @@ pub record IsClassed (pool : PoolValue) (index : Index) (class : List ℕ) (miss
   pub tables : AreTables classed (with_text (text_place index.texts.entries (λ x. x.items)) put) index.firsts.items keys
   pub signatures : (name descriptor : ℕ) → keys (key.Signature name descriptor) ≡ key_place index.keys.entries (key.Signature name descriptor)
 
+-- a pool in which this is put is so many places longer
+abbrev pub GrowsBy : PoolValue → (PoolValue → ℕ → Type 0) → ℕ → Type 0
+GrowsBy pool Put missing = (grown : PoolValue) × (place : ℕ) × Put grown place × (length grown ≡ length pool + missing)
+
 -- a pool with the member is so many places longer
 abbrev pub Lacks : PoolValue → Member → ℕ → Type 0
-Lacks pool m missing = (grown : PoolValue) × (place : ℕ) × PutsMember pool m grown place × (length grown ≡ length pool + missing)
+Lacks pool m missing = GrowsBy pool (PutsMember pool m) missing
 
 -- the text of what stands at a place
 abbrev pub text_in : Option Entry → Option (List ℕ)

@@ -44,7 +44,7 @@ pub fn index_of(
 /// Whether so many places that are missing fit behind those of a pool.
 pub fn check_room(count: usize, missing: usize) -> Result<(), Fail<PoolFull>>
     requires pool { count ≤ 65535 }
-    requires few { missing ≤ 6 }
+    requires few { missing ≤ 7 }
     ensures fits { OnOk result (count + missing ≤ 65535) }
     ensures full { CountsTo result (count + missing) }
 {

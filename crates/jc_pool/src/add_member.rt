@@ -79,7 +79,12 @@ fn absent(place: Option<u16>) -> usize
 
 /// How many places a NameAndType entry and its texts lack, where an equal one and the texts have
 /// these places.
-fn missing_signature(found: Option<u16>, same: bool, name: Option<u16>, desc: Option<u16>) -> usize
+pub fn missing_signature(
+    found: Option<u16>,
+    same: bool,
+    name: Option<u16>,
+    desc: Option<u16>,
+) -> usize
     ensures count { result ≡ missing_signature found same name desc }
     ensures few { result ≤ 3 }
 {
@@ -91,7 +96,7 @@ fn missing_signature(found: Option<u16>, same: bool, name: Option<u16>, desc: Op
 }
 
 /// How many places a member lacks, its own and those of its parts.
-fn missing_member(slots: &[Option<Entry>], index: &Index, m: &MemberText<'_>) -> usize
+pub fn missing_member(slots: &[Option<Entry>], index: &Index, m: &MemberText<'_>) -> usize
     requires index { IsIndexOf slots.now index.now }
     requires few { length slots.now ≤ 65535 }
     ensures lacks { Lacks slots.now (member m.now) result }
@@ -106,7 +111,7 @@ fn missing_member(slots: &[Option<Entry>], index: &Index, m: &MemberText<'_>) ->
 }
 
 /// The first place of a name and a descriptor, which are put behind the others where they are new.
-fn add_signature(
+pub fn add_signature(
     alloc: Global,
     slots: &mut Vec<Option<Entry>>,
     index: &mut Index,

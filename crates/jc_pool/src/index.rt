@@ -41,6 +41,21 @@ pub enum Key {
         name: u16,
         descriptor: u16,
     },
+    /// A constant that a bootstrap method gives by the number of that method, its name and its
+    /// descriptor.
+    Computed {
+        bootstrap: u16,
+        name: u16,
+        descriptor: u16,
+    },
+    /// A method handle by its kind, and its member as above.
+    Handle {
+        kind: u8,
+        tag: u8,
+        class: u16,
+        name: u16,
+        descriptor: u16,
+    },
 }
 
 /// A kind of entry that names one text.

@@ -6,7 +6,8 @@ ghost use Rattle.jc_pool.specs.Pool.{PoolValue};
 ghost use Rattle.jc_bytes.specs.ByteLists.{AreBytes};
 ghost use Rattle.jc_pool.specs.PoolGrammar.{pool};
 ghost use Rattle.jc_pool.specs.Adding.{HasUtf8, HasClass, HasString, HasInteger, HasLong, HasMember, IsMemberTag, Extends, Keeps, KeepsFirst, AtMostOne};
-ghost use Rattle.jc_pool.specs.Lookup.{utf8_of, class_name_of, string_of, integer_of, long_of, Member, member_of};
+ghost use Rattle.jc_pool.specs.Adding.{HasHandle, HasComputed};
+ghost use Rattle.jc_pool.specs.Lookup.{utf8_of, class_name_of, string_of, integer_of, long_of, Member, member_of, Handle, handle_of, Computed, computed_of};
 
 /// Bytes begin with a pool or fail as one, and never both, and they begin with one pool alone.
 pub fn one_reading()
@@ -55,4 +56,20 @@ pub fn added_entries()
     ensures some_integer { (old : PoolValue) (value : ℤ) → (new : PoolValue) × (place : ℕ) × HasInteger old value new place }
     ensures some_long { (old : PoolValue) (value : ℤ) → (new : PoolValue) × (place : ℕ) × HasLong old value new place }
     ensures some_member { (old : PoolValue) (m : Member) → (new : PoolValue) × (place : ℕ) × HasMember old m new place }
+{}
+
+/// A pool to which a method handle or a computed constant is added has it at the place that is
+/// answered, and all that stood in it. For each content there is one such pool, and one such place. A
+/// computed constant brings no int.
+pub fn added_linked_entries()
+    ensures handle { (old new : PoolValue) (h : Handle) (place : ℕ) → IsMemberTag h.target.tag → HasHandle old h new place → handle_of new place ≡ Some h }
+    ensures computed { (old new : PoolValue) (c : Computed) (place : ℕ) → HasComputed old c new place → computed_of new place ≡ Some c }
+    ensures handle_kept { (old new : PoolValue) → Extends old new → Keeps (handle_of old) (handle_of new) }
+    ensures computed_kept { (old new : PoolValue) → Extends old new → Keeps (computed_of old) (computed_of new) }
+    ensures one_handle { (old : PoolValue) (h : Handle) → AtMostOne (HasHandle old h) }
+    ensures one_computed { (old : PoolValue) (c : Computed) → AtMostOne (HasComputed old c) }
+    ensures some_handle { (old : PoolValue) (h : Handle) → (new : PoolValue) × (place : ℕ) × HasHandle old h new place }
+    ensures some_computed { (old : PoolValue) (c : Computed) → (new : PoolValue) × (place : ℕ) × HasComputed old c new place }
+    ensures ints { (old new : PoolValue) (c : Computed) (place : ℕ) → HasComputed old c new place
+        → (at : ℕ) → integer_of new at ≡ integer_of old at }
 {}

@@ -61,7 +61,7 @@ fn named_places(entry: &Entry) -> Option<NamedPlaces>
 }
 
 /// The entry at a place.
-fn entry_at(slots: &[Option<Entry>], place: u16) -> Option<&Entry>
+pub fn entry_at(slots: &[Option<Entry>], place: u16) -> Option<&Entry>
     ensures { option_copied result ≡ entry_of slots.now place }
 {
     slots.get(usize::from(place))?.as_ref()
@@ -76,7 +76,7 @@ fn places_at(slots: &[Option<Entry>], place: u16) -> Option<NamedPlaces>
 
 /// The key of the entry at a place.
 #[tactic(auto, unfolding(crate::specs::Index::key_at))]
-fn key_at(slots: &[Option<Entry>], firsts: &[u16], place: u16) -> Option<Key>
+pub fn key_at(slots: &[Option<Entry>], firsts: &[u16], place: u16) -> Option<Key>
     ensures { result ≡ key_at firsts.now slots.now place }
 {
     key_of(firsts, entry_at(slots, place)?)
@@ -109,7 +109,7 @@ fn places_key(slots: &[Option<Entry>], firsts: &[u16], named: NamedPlaces) -> Op
 }
 
 /// The key of the member at a place.
-fn member_key_at(slots: &[Option<Entry>], firsts: &[u16], place: u16) -> Option<Key>
+pub fn member_key_at(slots: &[Option<Entry>], firsts: &[u16], place: u16) -> Option<Key>
     ensures { result ≡ member_key_at firsts.now slots.now place }
 {
     places_key(slots, firsts, places_at(slots, place)?)
@@ -199,7 +199,12 @@ pub fn members_of(alloc: Global, slots: &[Option<Entry>], firsts: &[u16]) -> Res
 }
 
 /// The key of a member with this tag, by the first places of its texts.
-fn texts_key(tag: u8, class: Option<u16>, name: Option<u16>, descriptor: Option<u16>) -> Option<Key>
+pub fn texts_key(
+    tag: u8,
+    class: Option<u16>,
+    name: Option<u16>,
+    descriptor: Option<u16>,
+) -> Option<Key>
     ensures { result ≡ texts_key tag class name descriptor }
 {
     Some(Key::Member {

@@ -8,14 +8,22 @@ ghost use Rattle.jc_pool.specs.PoolReading.{filled_at, pool_at};
 
 use crate::PoolFull;
 use crate::add::{add_naming, add_number, add_text, index_of};
+use crate::add_linked::{add_computed, add_handle};
 use crate::add_member::add_member;
 use crate::entry::Entry;
 use crate::index::{Index, Key, Naming};
 use crate::item::{count_item, entry_item};
+use crate::linked::ComputedText;
 use crate::lookup::MemberText;
 use jc_bytes::{Fail, Memory, Reader, Refusal};
 use std::alloc::Global;
 use std::marker::Model;
+
+/// The tag of a method of a class (JVM Specification 4.4, table 4.4-A).
+const METHOD_TAG: u8 = 10;
+
+/// The kind of a handle that calls a static method (JVM Specification 5.4.3.5, table 5.4.3.5-A).
+const CALLS_STATIC: u8 = 6;
 
 /// A constant pool (JVM Specification 4.4), which contracts see as the list of what stands at its
 /// places: nothing at place 0, and at the second place of a long or a double.
@@ -156,6 +164,7 @@ impl Pool {
     ghost use Rattle.std.specs.Prelude.{OnErr, OnOk};
     ghost use Rattle.jc_bytes.specs.Texts.{IsShortText};
     ghost use Rattle.jc_pool.specs.Adding.{HasUtf8, HasClass, HasString, HasInteger, HasLong, HasMember, IsMemberTag, RefusesFull, Extends};
+    ghost use Rattle.jc_pool.specs.Adding.{HasHandle, static_handle, HasComputed, bootstrap_constant};
 
     /// The first place of a Utf8 entry with this text (JVM Specification 4.4.7). Where there is none,
     /// one is put behind the others. Every entry keeps its place.
@@ -300,6 +309,78 @@ impl Pool {
         };
         let mut index = index_of(alloc, self.index.take(), &self.slots)?;
         let place = add_member(alloc, &mut self.slots, &mut index, &member)?;
+        self.index = Some(index);
+        Ok(place)
+    }
+
+    /// The first place of a MethodHandle entry of kind 6 whose Methodref entry (tag 10) has this class,
+    /// name and descriptor, whatever the places of these (JVM Specification 4.4.8): the handle that
+    /// calls this static method. Where there is none, the parts that are not there are put behind the
+    /// others, in the order of `add_member`, and then the entry. Every entry keeps its place.
+    ///
+    /// # Errors
+    ///
+    /// `Memory` where memory was refused. `PoolFull` exactly where no such entry stands and the pool's
+    /// count would become `count`, which is above 65,535. Then nothing has changed.
+    pub fn add_handle(
+        &mut self,
+        alloc: Global,
+        class: &[u8],
+        name: &[u8],
+        desc: &[u8],
+    ) -> Result<u16, Fail<PoolFull>>
+        requires class { IsShortText class.now }
+        requires name { IsShortText name.now }
+        requires desc { IsShortText desc.now }
+        ensures ok { IfOk result (HasHandle self.old (static_handle class.now name.now desc.now) self.new) }
+        ensures fits { OnOk result (length self.new ≤ 65535) }
+        ensures full { RefusesFull (HasHandle self.old (static_handle class.now name.now desc.now)) result }
+        ensures err { OnErr result (self.new ≡ self.old) }
+        ensures extends { Extends self.old self.new }
+    {
+        let method = MemberText {
+            tag: METHOD_TAG,
+            class,
+            name,
+            desc,
+        };
+        let mut index = index_of(alloc, self.index.take(), &self.slots)?;
+        let place = add_handle(alloc, &mut self.slots, &mut index, CALLS_STATIC, &method)?;
+        self.index = Some(index);
+        Ok(place)
+    }
+
+    /// The first place of a Dynamic entry of this bootstrap number, name and descriptor, whatever the
+    /// places of these (JVM Specification 4.4.10). Where there is none, the name, the descriptor and
+    /// the NameAndType entry are put behind the others, where they are missing, and then the entry.
+    /// Every entry keeps its place.
+    ///
+    /// # Errors
+    ///
+    /// `Memory` where memory was refused. `PoolFull` exactly where no such entry stands and the pool's
+    /// count would become `count`, which is above 65,535. Then nothing has changed.
+    pub fn add_dynamic(
+        &mut self,
+        alloc: Global,
+        bootstrap: u16,
+        name: &[u8],
+        desc: &[u8],
+    ) -> Result<u16, Fail<PoolFull>>
+        requires name { IsShortText name.now }
+        requires desc { IsShortText desc.now }
+        ensures ok { IfOk result (HasComputed self.old (bootstrap_constant bootstrap name.now desc.now) self.new) }
+        ensures fits { OnOk result (length self.new ≤ 65535) }
+        ensures full { RefusesFull (HasComputed self.old (bootstrap_constant bootstrap name.now desc.now)) result }
+        ensures err { OnErr result (self.new ≡ self.old) }
+        ensures extends { Extends self.old self.new }
+    {
+        let constant = ComputedText {
+            bootstrap,
+            name,
+            desc,
+        };
+        let mut index = index_of(alloc, self.index.take(), &self.slots)?;
+        let place = add_computed(alloc, &mut self.slots, &mut index, &constant)?;
         self.index = Some(index);
         Ok(place)
     }

@@ -2,7 +2,7 @@
 
 use jc_base::{Fail, Reader};
 use jc_class::{Attribute, read_attributes};
-use jc_pool::{BadIndex, MemberText, Pool, PoolFull};
+use jc_pool::{BadIndex, HandleText, MemberText, Planned, Pool, PoolFull};
 use std::alloc::Global;
 use tests_lines::{Answer, bytes, number, short};
 
@@ -55,6 +55,27 @@ fn put_constant(pool: &Pool, place: u16, out: &mut Answer) -> Option<()> {
     Some(())
 }
 
+/// Puts a method handle: its kind, and the place of its member.
+fn put_handle(handle: Result<HandleText, BadIndex>, out: &mut Answer) -> Option<()> {
+    match handle {
+        Ok(handle) => {
+            out.show(&handle.kind);
+            out.label(" ", &handle.member);
+        }
+        Err(BadIndex) => out.put("BadIndex"),
+    }
+    Some(())
+}
+
+/// Puts the number of a bootstrap method.
+fn put_bootstrap(bootstrap: Result<u16, BadIndex>, out: &mut Answer) -> Option<()> {
+    match bootstrap {
+        Ok(bootstrap) => out.show(&bootstrap),
+        Err(BadIndex) => out.put("BadIndex"),
+    }
+    Some(())
+}
+
 /// Puts the form of a text or of a member.
 fn put_form(pool: &Pool, call: &str, place: u16, out: &mut Answer) -> Option<()> {
     match call {
@@ -75,6 +96,8 @@ fn look_up(pool: &Pool, call: &str, place: u16, out: &mut Answer) -> Option<()> 
         "class_at" => put_named(pool.class_at(place), out),
         "const_at" => put_constant(pool, place, out),
         "member_at" => put_member(pool.member_at(place), out),
+        "handle_at" => put_handle(pool.handle_at(place), out),
+        "bootstrap_at" => put_bootstrap(pool.bootstrap_at(place), out),
         call => put_form(pool, call, place, out),
     }
 }
@@ -135,6 +158,86 @@ fn add_member(
     put_added(pool.add_member(alloc, kind, class, name, desc), out)
 }
 
+/// Adds the handle of a static method.
+fn add_handle(
+    alloc: Global,
+    pool: &mut Pool,
+    [class, name, desc]: [&str; 3],
+    out: &mut Answer,
+) -> Option<()> {
+    let class = short(class, out)?;
+    let name = short(name, out)?;
+    let desc = short(desc, out)?;
+    put_added(pool.add_handle(alloc, class, name, desc), out)
+}
+
+/// Adds a constant that a bootstrap method gives.
+fn add_dynamic(
+    alloc: Global,
+    pool: &mut Pool,
+    [bootstrap, name, desc]: [&str; 3],
+    out: &mut Answer,
+) -> Option<()> {
+    let bootstrap = number::<u16>(bootstrap, out)?;
+    let name = short(name, out)?;
+    let desc = short(desc, out)?;
+    put_added(pool.add_dynamic(alloc, bootstrap, name, desc), out)
+}
+
+/// Puts where such a constant would stand, and the count that the pool would have.
+fn place_of_dynamic(
+    alloc: Global,
+    pool: &Pool,
+    [bootstrap, name, desc]: [&str; 3],
+    out: &mut Answer,
+) -> Option<()> {
+    let bootstrap = number::<u16>(bootstrap, out)?;
+    let planned = pool.place_of_dynamic(alloc, bootstrap, name.as_bytes(), desc.as_bytes());
+    let Planned { place, count } = out.got(planned)?;
+    out.show(&place);
+    out.label(" of ", &count);
+    Some(())
+}
+
+/// Puts where ints would stand, behind so many places, and the count that the pool would have.
+fn places_of_ints(
+    alloc: Global,
+    pool: &Pool,
+    [start, first, many]: [&str; 3],
+    out: &mut Answer,
+) -> Option<()> {
+    let count = number::<u32>(start, out)?;
+    let first = number::<u16>(first, out)?;
+    let many = number::<u16>(many, out)?;
+    if count > 1_000_000 {
+        return out.wrong_word("no count", start);
+    }
+    let planned = out.got(pool.places_of_ints(alloc, count, first, many))?;
+    for place in planned.places.as_slice() {
+        out.show(place);
+        out.put(" ");
+    }
+    out.label("of ", &planned.count);
+    Some(())
+}
+
+/// What a call of three values answers.
+fn of_three(
+    alloc: Global,
+    pool: &mut Pool,
+    call: &str,
+    values: [&str; 3],
+    out: &mut Answer,
+) -> Option<()> {
+    match call {
+        "add_handle" => add_handle(alloc, pool, values, out),
+        "add_dynamic" => add_dynamic(alloc, pool, values, out),
+        "place_of_dynamic" => place_of_dynamic(alloc, pool, values, out),
+        "places_of_ints" => places_of_ints(alloc, pool, values, out),
+        call => out.unknown_word(call),
+    }
+}
+
 /// Adds an entry of one value, or puts what stands at a place.
 fn of_value(
     alloc: Global,
@@ -163,6 +266,7 @@ fn of_pool(alloc: Global, pool: &mut Pool, words: &[&str], out: &mut Answer) -> 
         ["add_member", tag, class, name, desc] => {
             add_member(alloc, pool, tag, [class, name, desc], out)
         }
+        [call, first, second, third] => of_three(alloc, pool, call, [first, second, third], out),
         [call, value] => of_value(alloc, pool, call, value, out),
         words => out.unknown(words),
     }
