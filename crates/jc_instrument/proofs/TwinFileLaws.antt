@@ -1,5 +1,5 @@
 -- The twin class that is written is a class file where the texts of its attributes are not too long.
-use Rattle.std.proofs.Common.{◌≡◌, ◌⊎◌, inl, inr, ℕ, ◌≤◌, ◌<◌, Bool, true, false, ◌||◌, List, [], ◌∷◌, ◌++◌, length, refl, sym, ◌∙◌, subst, arith}
+use Rattle.std.proofs.Common.{◌≡◌, ◌⊎◌, inl, inr, ℕ, ◌+◌, ◌≤◌, ◌<◌, Bool, true, false, ◌||◌, List, [], ◌∷◌, ◌++◌, length, Some, refl, sym, ◌∙◌, ap, subst, arith}
 use Rattle.std.specs.List.{AllByRecursion, list_any}
 use Rattle.std.proofs.lemmas.Bool.{cases_lt, ltb-false}
 use Rattle.std.proofs.lemmas.List.{length-append}
@@ -8,11 +8,12 @@ use Rattle.jc_instrument_reread.proofs.InitAgainLaws.{data_described}
 use Rattle.jc_bytes.proofs.EachLaws.{all_both, all_weaker, all_behind}
 use Rattle.jc_methods.specs.ProbeMembers.{data_name, data_type, init_name, init_type}
 use Rattle.jc_pool.specs.Adding.{Extends}
+use Rattle.jc_pool.specs.Lookup.{utf8_of}
 use Rattle.jc_pool.specs.Pool.{PoolValue}
 use Rattle.jc_pool.specs.declared.index.Naming.TheVariants as naming
 use Rattle.jc_pool.proofs.AddedLaws.{naming_kept, utf8_kept}
-use Rattle.jc_class.specs.ClassFormat.{HasClass, HasFieldDescriptor, HasMethodDescriptor, HasSuper, HasText}
-use Rattle.jc_class.specs.Writable.{AreCounted, IsAttribute, IsClassFile, IsMember}
+use Rattle.jc_class.specs.ClassFormat.{HasClass, HasFieldDescriptor, HasMethodDescriptor, HasSuper, HasText, IsConstant, NamesPlace}
+use Rattle.jc_class.specs.Writable.{AreCounted, IsAttribute, IsClassFile, IsMember, NamesItsConstants}
 use Rattle.jc_class.specs.declared.class_file.Attribute.{Attribute}
 use Rattle.jc_class.specs.declared.class_file.ClassFile.{ClassFile}
 use Rattle.jc_class.specs.declared.class_file.Member.{Member}
@@ -86,6 +87,32 @@ module _ (old new : PoolValue) (more : Extends old new) where
     attributes = attributes_kept m.attributes is.attributes;
   }
 
+  -- a place below the old count is below the new one
+  place_kept : (body : List ℕ) → NamesPlace old body → NamesPlace new body
+  place_kept (high ∷ low ∷ []) names =
+      let longer = ap (λ (l : PoolValue). length l) more.1 ∙ length-append old more.0 in
+      omega (arith, names, longer)
+  place_kept body names = tt
+
+  -- what has a text in the old pool has no other in the new one
+  old_text : (place : ℕ) → HasText old place → (text : List ℕ) → utf8_of new place ≡ Some text → utf8_of old place ≡ Some text
+  old_text place has text is = has.1 ∙ sym (utf8_kept old new has.0 place more has.1) ∙ is
+
+  constants_in : (flags : ℕ) (l : List Attribute) → AllByRecursion (IsAttribute (HasText old)) l
+      → AllByRecursion (λ (a : Attribute). IsConstant old flags a.name → NamesPlace old a.body) l
+      → AllByRecursion (λ (a : Attribute). IsConstant new flags a.name → NamesPlace new a.body) l
+  constants_in flags [] are named = tt
+  constants_in flags (a ∷ l) are named = (
+    (λ is. place_kept a.body (named.0 (is.0, old_text a.name are.0.name _ is.1))),
+    constants_in flags l are.1 named.1,
+  )
+
+  constants_kept : (fields : List Member) → AllByRecursion (IsMember (HasText old) (HasFieldDescriptor old)) fields
+      → AllByRecursion (NamesItsConstants old) fields → AllByRecursion (NamesItsConstants new) fields
+  constants_kept [] are named = tt
+  constants_kept (m ∷ fields) are named =
+      (constants_in m.flags m.attributes are.0.attributes.each named.0, constants_kept fields are.1 named.1)
+
   -- attributes with other texts, which are short
   coded_attributes : (olds news : List Attribute) → AreKeptAttributes old olds news → AllByRecursion (IsAttribute (HasText old)) olds → AreShort news
       → AllByRecursion (IsAttribute (HasText new)) news
@@ -130,6 +157,10 @@ module _ (old new : PoolValue) (more : Extends old new) where
 
 -- ---- the whole
 
+-- without an attribute there is no constant
+no_constant : (pool : PoolValue) (field : Member) → field.attributes ≡ [] → NamesItsConstants pool field
+no_constant pool field none = subst (AllByRecursion (λ (a : Attribute). IsConstant pool field.flags a.name → NamesPlace pool a.body)) (sym none) tt
+
 pub twin_is_class : (id : ℕ) (needs : List Content) (count : ℕ) (c twin : ClassFile) → IsClassFile c → (IsFull c → ⊥)
     → IsSameOutside id needs count c twin → AreShortIn twin.methods → IsClassFile twin
 twin_is_class id needs count c twin is room out short =
@@ -159,6 +190,9 @@ twin_is_class id needs count c twin is room out short =
               tt,
             );
       });
+      constants = subst (AllByRecursion (NamesItsConstants new)) (sym out.fields)
+          (all_both (NamesItsConstants new) c.fields (out.field ∷ []) (constants_kept old new more c.fields is.fields.each is.constants)
+          (no_constant new out.field out.field_is.attributes, tt));
       methods = subst (AreCounted (IsMember (HasText new) (HasMethodDescriptor new))) (sym out.methods) (record {
         few = one_more out.kept out.method most (λ full. room (inr (sym count ∙ full)));
         each = all_both (IsMember (HasText new) (HasMethodDescriptor new)) out.kept (out.method ∷ [])
