@@ -21,3 +21,7 @@ pub record ArePlaces (b : Body) (first : ℕ) (places : Places) : Type 0 where
   pub leads : IsTable (lead_of b first narrow) (length b.code) places.leads.items
   pub lands : IsTable (land_of b first narrow) (length b.code) places.lands.items
   pub images : IsTable (image_of b first narrow) (length b.code) places.images.items
+
+-- these are the places of the body with this plan
+abbrev pub ArePlacesFor : Body → Plan → Places → Type 0
+ArePlacesFor b plan places = (first : ℕ) → plan ≡ plan_of b first → ArePlaces b first places

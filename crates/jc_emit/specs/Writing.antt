@@ -5,10 +5,9 @@ use Rattle.jc_methods.specs.WellMade.{IsWellMadeOfAnySize}
 use Rattle.jc_methods.specs.declared.body.Body.{Body}
 use Rattle.jc_methods.specs.declared.insn.Flow.{Flow}
 use Rattle.jc_methods.specs.declared.plan.Plan.{Plan}
-use Rattle.jc_plan.specs.Plan.{plan_of}
 use Rattle.jc_emit.specs.Marks.{unplaced}
 use Rattle.jc_emit.specs.Items.{Item, insn_of, at_of, own_of, extra_of, image_part}
-use Rattle.jc_emit.specs.Placing.{HasPlan, ArePlaces}
+use Rattle.jc_emit.specs.Placing.{HasPlan, ArePlacesFor}
 use Rattle.jc_emit.specs.Sizes.{narrow, insn_at}
 use Rattle.jc_emit.specs.declared.places.Places.{Places}
 use Rattle.jc_emit.specs.declared.written.Written.{Written}
@@ -29,4 +28,4 @@ pub record CanWrite (b : Body) (plan : Plan) (places : Places) : Type 0 where
   pub made : IsWellMadeOfAnySize b
   pub planned : HasPlan b plan
   pub next : plan.next ≤ most_probes
-  pub placed : (first : ℕ) → plan ≡ plan_of b first → ArePlaces b first places
+  pub placed : ArePlacesFor b plan places

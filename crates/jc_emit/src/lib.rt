@@ -23,7 +23,8 @@ pub use laws::{
     each_twin_has_its_marks, each_twin_is_known, each_twin_is_seen, each_twin_is_told,
     each_unchanged_body_goes_on, each_wide_frame_is_told, each_wide_twin_is_wide,
 };
+pub use places::Places;
 pub use programs::{each_body_is_owned, each_body_is_seen, each_class_has_its_pair};
-pub use stages::{EmittedParts, emit_code, emit_parts};
+pub use stages::{EmittedCode, EmittedParts, PlacedBody, emit_code, emit_parts};
 pub use straddling::straddles;
 pub use tables::MovedTables;

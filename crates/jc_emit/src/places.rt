@@ -14,10 +14,10 @@ use std::alloc::Global;
 /// probes, and the store.
 const PRELUDE_SIZE: u32 = 2;
 
-/// Where the instructions of an instrumented method stand: one entry for each instruction of the method,
-/// and one for its end.
-#[derive(Drop)]
-pub(crate) struct Places {
+/// Where the instructions of an instrumented method stand, in the narrow layout: one entry for each instruction of the
+/// method, and one for its end.
+#[derive(Debug, Drop)]
+pub struct Places {
     /// Where a fall-through into the instruction leads.
     pub(crate) leads: Vec<u32>,
     /// Where a jump to the instruction lands.

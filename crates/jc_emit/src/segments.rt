@@ -10,7 +10,7 @@ ghost use Rattle.jc_methods.specs.declared.insn.Flow.TheVariants as flows;
 ghost use Rattle.jc_plan.specs.Plan.{plan_of};
 ghost use Rattle.jc_emit.specs.Branching.{IsPushed, test_image};
 ghost use Rattle.jc_emit.specs.Items.{tests_part, segment, twin_items};
-ghost use Rattle.jc_emit.specs.Placing.{HasPlan, ArePlaces};
+ghost use Rattle.jc_emit.specs.Placing.{HasPlan, ArePlaces, ArePlacesFor};
 ghost use Rattle.jc_emit.specs.Sizes.{narrow, insn_at};
 ghost use Rattle.jc_emit.specs.Writing.{Grows, GrowsByImage, CanWrite};
 ghost use Rattle.jc_emit.specs.Written.{Shows};
@@ -218,7 +218,7 @@ pub(crate) fn write_code(
     requires made { IsWellMadeOfAnySize body.now }
     requires plan { HasPlan body.now plan.now }
     requires next { plan.now.next ≤ most_probes }
-    requires places { (first : ℕ) → plan.now ≡ plan_of body.now first → ArePlaces body.now first places.now }
+    requires places { ArePlacesFor body.now plan.now places.now }
     ensures { (first : ℕ) → plan.now ≡ plan_of body.now first
         → IfOk result (Shows body.now.arg_slots (twin_items body.now first narrow)) }
 {

@@ -6,7 +6,7 @@ ghost use Rattle.jc_methods.specs.WellMade.{IsWellMade};
 ghost use Rattle.jc_bytes.specs.Failing.{Said};
 ghost use Rattle.jc_kinds.specs.Answers.{AreStates};
 ghost use Rattle.jc_plan.specs.Plan.{plan_of};
-ghost use Rattle.jc_emit.specs.Placing.{HasPlan};
+ghost use Rattle.jc_emit.specs.Placing.{HasPlan, ArePlacesFor};
 ghost use Rattle.jc_emit.specs.Refusing.{IsEmitRefusal, HasRoom};
 ghost use Rattle.jc_emit.specs.Stages.{emitted_code, moved_tables, AreLayoutFrames};
 
@@ -20,16 +20,28 @@ use jc_bytes::{Fail, List, Memory, Names, Refusal};
 use jc_methods::{Body, FrameAt, Insn, PROBE_ARRAY, Plan, State};
 use std::alloc::Global;
 
+/// The code of a method's emission, and the places that its other parts are made from.
+#[derive(Debug, Drop)]
+pub struct EmittedCode {
+    /// The instructions.
+    pub code: List<Insn>,
+    /// Where those of the method stand.
+    pub places: Places,
+}
+
 /// The code of the emission of a method, for which no states are needed: its length is known before any frame is made.
+/// The places of the method's instructions are found for it, and are given with it for `emit_parts`.
 ///
 /// # Errors
 ///
 /// `Memory` where memory was refused, and the refusals of `emit`.
-pub fn emit_code(alloc: Global, body: &Body, plan: &Plan) -> Result<List<Insn>, Fail<Refusal>>
+pub fn emit_code(alloc: Global, body: &Body, plan: &Plan) -> Result<EmittedCode, Fail<Refusal>>
     requires body { IsWellMade body.now }
     requires plan { HasPlan body.now plan.now }
     requires next { plan.now.next ≤ most_probes }
-    ensures code { (first : ℕ) → plan.now ≡ plan_of body.now first → IfOk result (λ code. code ≡ emitted_code body.now first) }
+    ensures code { (first : ℕ) → plan.now ≡ plan_of body.now first
+        → IfOk result (λ emitted. emitted.code ≡ emitted_code body.now first) }
+    ensures places { IfOk result (λ emitted. ArePlacesFor body.now plan.now emitted.places) }
     ensures room { IfOk result (λ _. HasRoom body.now) }
     ensures refused { IfErr result (λ e. Said e (IsEmitRefusal body.now)) }
 {
@@ -38,7 +50,21 @@ pub fn emit_code(alloc: Global, body: &Body, plan: &Plan) -> Result<List<Insn>, 
     }
     let places = Places::of(alloc, body, plan)?;
     let Written { code, .. } = write_code(alloc, body, plan, &places)?;
-    Ok(List::from_vec(code))
+    Ok(EmittedCode {
+        code: List::from_vec(code),
+        places,
+    })
+}
+
+/// The body of a method with its plan, and where its instructions stand in the narrow layout of its emission.
+#[derive(Clone, Copy)]
+pub struct PlacedBody<'a> {
+    /// The body.
+    pub body: &'a Body,
+    /// Its plan.
+    pub plan: &'a Plan,
+    /// The places that `emit_code` gives with the code.
+    pub places: &'a Places,
 }
 
 /// What the Code attribute of a method's emission holds besides its code, in one layout.
@@ -51,39 +77,42 @@ pub struct EmittedParts {
 }
 
 /// The frames of the emission of a method in one layout, in rising order, and its tables with its sizes: the frames of
-/// the narrow layout, and the further ones where it is wide. The places are those of the narrow code. The class `[Z`
-/// gets a number in `names`.
-///
-/// The places of the code are found once for the frames and the tables. They aren't kept since `emit_code`: the other
-/// bodies of a class come in between.
+/// the narrow layout, and the further ones where it is wide. The class `[Z` gets a number in `names`.
 ///
 /// # Errors
 ///
 /// `Memory` where memory was refused, or where `[Z` is new and the list has 4,294,967,295 names.
 pub fn emit_parts(
     alloc: Global,
-    body: &Body,
-    plan: &Plan,
+    placed: &PlacedBody,
     states: &[State],
     wide: bool,
     names: &mut Names,
 ) -> Result<EmittedParts, Memory>
-    requires body { IsWellMade body.now }
-    requires plan { HasPlan body.now plan.now }
-    requires next { plan.now.next ≤ most_probes }
-    requires room { HasRoom body.now }
-    requires states { AreStates names.old body.now states.now }
-    requires frames { AreNumberedFrames (length names.old) body.now.frames }
-    ensures frames { (first : ℕ) → plan.now ≡ plan_of body.now first
-        → IfOk result (λ parts. AreLayoutFrames names.new body.now first states.now wide parts.frames) }
-    ensures tables { (first : ℕ) → plan.now ≡ plan_of body.now first → IfOk result (λ parts. parts.tables ≡ moved_tables body.now first) }
+    requires body { IsWellMade placed.now.body.now }
+    requires plan { HasPlan placed.now.body.now placed.now.plan.now }
+    requires next { placed.now.plan.now.next ≤ most_probes }
+    requires room { HasRoom placed.now.body.now }
+    requires places { ArePlacesFor placed.now.body.now placed.now.plan.now placed.now.places.now }
+    requires states { AreStates names.old placed.now.body.now states.now }
+    requires frames { AreNumberedFrames (length names.old) placed.now.body.now.frames }
+    ensures frames { (first : ℕ) → placed.now.plan.now ≡ plan_of placed.now.body.now first
+        → IfOk result (λ parts. AreLayoutFrames names.new placed.now.body.now first states.now wide parts.frames) }
+    ensures tables { (first : ℕ) → placed.now.plan.now ≡ plan_of placed.now.body.now first
+        → IfOk result (λ parts. parts.tables ≡ moved_tables placed.now.body.now first) }
     ensures names { Grows names.old names.new }
 {
     let array = names.number(alloc, PROBE_ARRAY)?;
-    let places = Places::of(alloc, body, plan)?;
-    let framing = Framing::of(alloc, body, plan, &places, states, array)?;
+    let framing = Framing::of(
+        alloc,
+        placed.body,
+        placed.plan,
+        placed.places,
+        states,
+        array,
+    )?;
     let frames = framing.layout_frames(wide)?;
-    let tables = moved_tables(alloc, body, &places)?;
+    let tables = moved_tables(alloc, placed.body, placed.places)?;
     Ok(EmittedParts {
         frames: List::from_vec(frames),
         tables,

@@ -7,31 +7,31 @@ use Rattle.jc_emit.proofs.EmittingLaws.{framing_made, grows_one, states_put}
 use Rattle.jc_emit.proofs.FrameStateLaws.{frames_have_states}
 use Rattle.jc_emit.proofs.stages.emit_parts.Goals as goal
 
-pub of-requires-2 : goal.of-requires-2
-of-requires-2 c =
-    let b = c.args.body.now in
+pub of-requires : goal.of-requires
+of-requires c =
+    let b = c.args.placed.now.body.now in
     frames_within 0 b.code b.max_locals b.max_stack b.frames c.requires.body.of_any_size.frames
 
 pub layout_frames-requires : goal.layout_frames-requires
 layout_frames-requires c =
     let plan = c.requires.plan in
     let framing = c.in_ok-framing.ensures in
-    let b = c.args.body.now in
+    let b = c.args.placed.now.body.now in
     let states = c.args.states.now in (
       plan.0,
-      framing_made plan.0 c.in_ok-framing.framing b c.args.plan.now c.in_ok-places.places states c.requires.body.of_any_size plan.1
-          (c.in_ok-places.ensures.places plan.0 plan.1) (states_put c.args.names.now b states c.requires.states)
+      framing_made plan.0 c.in_ok-framing.framing b c.args.placed.now.plan.now c.args.placed.now.places.now states c.requires.body.of_any_size plan.1
+          (c.requires.places plan.0 plan.1) (states_put c.args.names.now b states c.requires.states)
           framing.body framing.plan framing.places framing.states framing.framed,
     )
 
 pub returns-clause-frames : goal.returns-clause-frames
 returns-clause-frames c = λ first is.
-    let b = c.args.body.now in
+    let b = c.args.placed.now.body.now in
     let states = c.args.states.now in
     let made = c.requires.body.of_any_size in
     let framing = c.in_ok-framing.ensures in
-    let belongs = framing_made first c.in_ok-framing.framing b c.args.plan.now c.in_ok-places.places states made is
-    (c.in_ok-places.ensures.places first is) (states_put c.args.names.now b states c.requires.states)
+    let belongs = framing_made first c.in_ok-framing.framing b c.args.placed.now.plan.now c.args.placed.now.places.now states made is
+    (c.requires.places first is) (states_put c.args.names.now b states c.requires.states)
     framing.body framing.plan framing.places framing.states framing.framed in
     record {
       array = c.in_ok-array.array;
@@ -44,10 +44,10 @@ returns-clause-frames c = λ first is.
 pub moved_tables-requires-clause-places : goal.moved_tables-requires-clause-places
 moved_tables-requires-clause-places c =
     let plan = c.requires.plan in
-    (plan.0, c.in_ok-places.ensures.places plan.0 plan.1)
+    (plan.0, c.requires.places plan.0 plan.1)
 
 pub returns-clause-tables : goal.returns-clause-tables
-returns-clause-tables c = λ first is. c.in_ok-tables.ensures first (c.in_ok-places.ensures.places first is)
+returns-clause-tables c = λ first is. c.in_ok-tables.ensures first (c.requires.places first is)
 
 pub returns-clause-names : goal.returns-clause-names
 returns-clause-names c = grows_one c.args.names.now c.number.new.self probe_array_class c.in_ok-array.ensures.names
