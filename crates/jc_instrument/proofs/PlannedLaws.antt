@@ -19,7 +19,9 @@ use Rattle.jc_plan.specs.Plan.{plan_of}
 use Rattle.jc_kinds.specs.Answers.{AreStates}
 use Rattle.jc_kinds.specs.Checked.{Checked}
 use Rattle.jc_emit.specs.Emission.{emission}
+use Rattle.jc_emit.specs.Placing.{ArePlacesFor}
 use Rattle.jc_emit.specs.Refusing.{HasRoom, IsTaken}
+use Rattle.jc_emit.specs.declared.places.Places.{Places}
 use Rattle.jc_layout.specs.Layout.{chosen_length}
 use Rattle.jc_layout.specs.declared.layouts.Laid.{Laid}
 use Rattle.jc_instrument_code.proofs.LaidLaws.{laid_length}
@@ -108,14 +110,25 @@ module _ (names : Names) (b : Body) (plan : Plan) (first : ℕ) (l : Laid) (plan
       subst (λ (code : List Insn). chosen_length code ≤ 65535) (emission_code b first [] 0) (laid_length (emission b first [] 0) l (laid first [] 0 plan_is))
 
   module _ (old new : List PlannedBody) where
-    pub puts_ready : (states : List State) → IsWellMade b → plan.next ≤ most_probes → HasRoom b → length b.handlers ≤ 65535
-        → AreNumberedFrames (length names) b.frames → AreStates names b states
-        → new ≡ old ++ Ready (record { body = b; plan = plan; laid = l; states = states }) ∷ [] → PutsPlanned names b first old new
-    puts_ready states made few room rows numbered are put = record {
-      planned = Ready (record { body = b; plan = plan; laid = l; states = states });
+    pub puts_ready : (places : Places) (states : List State) → ArePlacesFor b plan places → IsWellMade b → plan.next ≤ most_probes → HasRoom b
+        → length b.handlers ≤ 65535 → AreNumberedFrames (length names) b.frames → AreStates names b states
+        → new ≡ old ++ Ready (record { body = b; plan = plan; laid = l; insn_places = places; states = states }) ∷ []
+        → PutsPlanned names b first old new
+    puts_ready places states placed made few room rows numbered are put = record {
+      planned = Ready (record { body = b; plan = plan; laid = l; insn_places = places; states = states });
       put = put;
       is = (
-        record { made = made; numbered = numbered; plan = (first, plan_is); next = few; room = room; rows = rows; laid = laid; states = are },
+        record {
+          made = made;
+          numbered = numbered;
+          plan = (first, plan_is);
+          next = few;
+          room = room;
+          rows = rows;
+          laid = laid;
+          placed = placed;
+          states = are;
+        },
         refl,
         plan_is,
       );

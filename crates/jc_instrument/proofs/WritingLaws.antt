@@ -55,6 +55,7 @@ ready_grown old new r grows ready = record {
   room = ready.room;
   rows = ready.rows;
   laid = ready.laid;
+  placed = ready.placed;
   states = states_grown old new r.body r.states grows ready.numbered ready.states;
 }
 

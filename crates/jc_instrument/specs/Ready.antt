@@ -17,7 +17,7 @@ use Rattle.jc_kinds.specs.Checked.{Checked}
 use Rattle.jc_plan.specs.Plan.{plan_of}
 use Rattle.jc_plan.specs.Probed.{first_id}
 use Rattle.jc_emit.specs.Emission.{emission}
-use Rattle.jc_emit.specs.Placing.{HasPlan}
+use Rattle.jc_emit.specs.Placing.{HasPlan, ArePlacesFor}
 use Rattle.jc_emit.specs.Refusing.{HasRoom, IsTaken}
 use Rattle.jc_layout.specs.Layout.{chosen_length}
 use Rattle.jc_layout.specs.declared.layouts.Laid.{Laid}
@@ -44,6 +44,7 @@ pub record IsReady (names : Names) (r : ReadyBody) : Type 0 where
   pub room : HasRoom r.body
   pub rows : length r.body.handlers ≤ 65535
   pub laid : IsLaidFor r.body r.plan r.laid
+  pub placed : ArePlacesFor r.body r.plan r.insn_places
   pub states : AreStates names r.body r.states
 
 -- ---- a body that is read again

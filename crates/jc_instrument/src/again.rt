@@ -11,6 +11,7 @@ ghost use Rattle.jc_body.specs.BodyOf.{BodyOf};
 ghost use Rattle.jc_frames.specs.FullTable.{RefusesClasses, named_by_all};
 ghost use Rattle.jc_kinds.specs.Answers.{AreStates};
 ghost use Rattle.jc_kinds.specs.Checked.{Checked};
+ghost use Rattle.jc_emit.specs.Placing.{ArePlacesFor};
 ghost use Rattle.jc_emit.specs.Refusing.{HasRoom};
 ghost use Rattle.jc_plan.specs.Plan.{plan_of};
 ghost use Rattle.jc_pool.specs.Adding.{Extends};
@@ -19,14 +20,13 @@ ghost use Rattle.jc_instrument.specs.BodiesWithStates.{BodyWithStates, emitted_o
 ghost use Rattle.jc_instrument.specs.Ready.{IsLaidFor, IsPlannedBody, IsReadAgain, IsReady, IsReadyFrom, TakesProbes, is_unread, source_of};
 ghost use Rattle.jc_instrument.specs.Writing.{IsPlannedWork, IsWrittenBody};
 
-use crate::ready::{PlannedBody, ReadyBody, UnreadBody, laid_body};
+use crate::ready::{LaidCode, PlannedBody, ReadyBody, UnreadBody, laid_body};
 use crate::writing::body_text;
 use jc_body::read_body;
 use jc_bytes::{Bytes, Fail, List, Memory, Names};
 use jc_class::{ClassFile, read_class};
 use jc_instrument_code::CodePlaces;
 use jc_kinds::states;
-use jc_layout::Laid;
 use jc_methods::{Body, Plan, State};
 use jc_plan::plan;
 use jc_pool::{Pool, PoolFull};
@@ -66,14 +66,15 @@ pub fn source_of(
     }
 }
 
-/// The layout of the instrumented code of a body that takes its probes.
-fn laid_again(alloc: Global, body: &Body, plan: &Plan) -> Result<Laid, Memory>
+/// The layout of the instrumented code of a body that takes its probes, and where the body's instructions stand.
+fn laid_again(alloc: Global, body: &Body, plan: &Plan) -> Result<LaidCode, Memory>
     requires { (first : ℕ) × (plan.now ≡ plan_of body.now first) × TakesProbes body.now first }
-    ensures laid { IfOk result (IsLaidFor body.now plan.now) }
+    ensures laid { IfOk result (λ code. IsLaidFor body.now plan.now code.laid) }
+    ensures places { IfOk result (λ code. ArePlacesFor body.now plan.now code.insn_places) }
     ensures room { IfOk result (λ _. HasRoom body.now) }
 {
     match laid_body(alloc, body, plan) {
-        Ok(laid) => Ok(laid),
+        Ok(code) => Ok(code),
         Err(Fail::Memory) => Err(Memory),
         Err(Fail::Said(_)) => unreachable!(),
     }
@@ -110,12 +111,13 @@ fn ready_again(
     ensures names { Grows names.old names.new }
 {
     let plan = plan(alloc, &body, first)?;
-    let laid = laid_again(alloc, &body, &plan)?;
+    let LaidCode { laid, insn_places } = laid_again(alloc, &body, &plan)?;
     let states = states_again(alloc, &body, names)?;
     Ok(ReadyBody {
         body,
         plan,
         laid,
+        insn_places,
         states,
     })
 }

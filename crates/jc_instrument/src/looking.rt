@@ -21,7 +21,7 @@ ghost use Rattle.jc_instrument.specs.Steps.{IsSubroutineAt};
 
 use crate::found::{FrameRefusals, RoomRefusals, are_frames_fine, has_room_so_far, lacks, noted};
 use crate::kept::keep_first;
-use crate::ready::{PlannedBody, ReadyBody, UnreadBody, laid_body};
+use crate::ready::{LaidCode, PlannedBody, ReadyBody, UnreadBody, laid_body};
 use crate::states::checked_states;
 use jc_body::read_body;
 use jc_bytes::{Fail, List, Memory, Names, Refusal, RefusalKind};
@@ -70,12 +70,13 @@ fn plan_next(
     ensures refused { IfErr result (λ e. Said e (IsTooLong body first)) }
     ensures stays { OnErr result (bodies.new ≡ bodies.old) }
 {
-    let laid = laid_body(alloc, &body, &plan)?;
+    let LaidCode { laid, insn_places } = laid_body(alloc, &body, &plan)?;
     let next = match states {
         Some(states) => PlannedBody::Ready(ReadyBody {
             body,
             plan,
             laid,
+            insn_places,
             states,
         }),
         None => PlannedBody::Unread(UnreadBody {

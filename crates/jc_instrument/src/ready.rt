@@ -5,7 +5,7 @@ ghost use Rattle.jc_methods.specs.WellMade.{IsWellMade};
 ghost use Rattle.jc_methods.specs.declared.emitted.Emitted.{Emitted as Emission};
 ghost use Rattle.jc_bytes.specs.Failing.{Said};
 ghost use Rattle.jc_plan.specs.Plan.{plan_of};
-ghost use Rattle.jc_emit.specs.Placing.{HasPlan};
+ghost use Rattle.jc_emit.specs.Placing.{HasPlan, ArePlacesFor};
 ghost use Rattle.jc_emit.specs.Refusing.{HasRoom, IsTaken};
 ghost use Rattle.jc_layout.specs.Layable.{IsLayable};
 ghost use Rattle.jc_layout.specs.Layout.{chosen_length};
@@ -15,10 +15,19 @@ ghost use Rattle.jc_instrument.specs.Ready.{IsLaidFor, method_of};
 ghost use Rattle.jc_instrument.specs.RoomCauses.{probed_code};
 
 use jc_bytes::{Fail, List, Memory, Refusal};
-use jc_emit::emit_code;
+use jc_emit::{EmittedCode, Places, emit_code};
 use jc_layout::{Laid, layout_code};
 use jc_methods::{Body, Insn, Plan, State};
 use std::alloc::Global;
+
+/// The instrumented code of a body in its layout.
+#[derive(Debug, Drop)]
+pub struct LaidCode {
+    /// Its bytes, and the offsets of its instructions.
+    pub laid: Laid,
+    /// Where the instructions of the body stand in the narrow layout.
+    pub insn_places: Places,
+}
 
 /// A body that is ready for its instrumented code to be written.
 #[derive(Debug, Drop)]
@@ -29,6 +38,8 @@ pub struct ReadyBody {
     pub plan: Plan,
     /// The bytes of its instrumented code, and the offsets of the instructions.
     pub laid: Laid,
+    /// Where its instructions stand in its instrumented code, in the narrow layout.
+    pub insn_places: Places,
     /// The states before its instructions.
     pub states: List<State>,
 }
@@ -61,18 +72,20 @@ pub fn method_of(planned: &PlannedBody) -> u16
     }
 }
 
-/// The instructions of the instrumented code of a body that has room for it.
-fn emitted_code(alloc: Global, body: &Body, plan: &Plan) -> Result<List<Insn>, Memory>
+/// The instrumented code of a body that has room for it, and where the body's instructions stand in it.
+fn emitted_code(alloc: Global, body: &Body, plan: &Plan) -> Result<EmittedCode, Memory>
     requires made { IsWellMade body.now }
     requires plan { HasPlan body.now plan.now }
     requires next { plan.now.next ≤ most_probes }
     requires taken { IsTaken body.now }
-    ensures code { (first : ℕ) → plan.now ≡ plan_of body.now first → IfOk result (λ code. code ≡ probed_code body.now first) }
+    ensures code { (first : ℕ) → plan.now ≡ plan_of body.now first
+        → IfOk result (λ emitted. emitted.code ≡ probed_code body.now first) }
+    ensures places { IfOk result (λ emitted. ArePlacesFor body.now plan.now emitted.places) }
     ensures room { IfOk result (λ _. HasRoom body.now) }
-    ensures layable { IfOk result IsLayable }
+    ensures layable { IfOk result (λ emitted. IsLayable emitted.code) }
 {
     match emit_code(alloc, body, plan) {
-        Ok(code) => Ok(code),
+        Ok(emitted) => Ok(emitted),
         Err(Fail::Memory) => Err(Memory),
         Err(Fail::Said(_)) => unreachable!(),
     }
@@ -95,17 +108,22 @@ fn laid(alloc: Global, method: u16, insns: &[Insn]) -> Result<Laid, Fail<Refusal
     }
 }
 
-/// The layout of the instrumented code of a body that has room for it, for which no states are needed. Code that is too
-/// large is refused with the method's number.
-pub fn laid_body(alloc: Global, body: &Body, plan: &Plan) -> Result<Laid, Fail<Refusal>>
+/// The layout of the instrumented code of a body that has room for it, for which no states are needed, and where the body's
+/// instructions stand. Code that is too large is refused with the method's number.
+pub fn laid_body(alloc: Global, body: &Body, plan: &Plan) -> Result<LaidCode, Fail<Refusal>>
     requires made { IsWellMade body.now }
     requires plan { HasPlan body.now plan.now }
     requires next { plan.now.next ≤ most_probes }
     requires taken { IsTaken body.now }
-    ensures laid { IfOk result (IsLaidFor body.now plan.now) }
+    ensures laid { IfOk result (λ code. IsLaidFor body.now plan.now code.laid) }
+    ensures places { IfOk result (λ code. ArePlacesFor body.now plan.now code.insn_places) }
     ensures room { IfOk result (λ _. HasRoom body.now) }
     ensures refused { (first : ℕ) → plan.now ≡ plan_of body.now first → IfErr result (λ e. Said e (IsTooLong body.now first)) }
 {
-    let code = emitted_code(alloc, body, plan)?;
-    laid(alloc, body.method, &code)
+    let EmittedCode { code, places } = emitted_code(alloc, body, plan)?;
+    let laid = laid(alloc, body.method, &code)?;
+    Ok(LaidCode {
+        laid,
+        insn_places: places,
+    })
 }

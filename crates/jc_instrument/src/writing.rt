@@ -12,7 +12,7 @@ ghost use Rattle.jc_instrument.specs.Writing.{IsWorkOf, IsWrittenBody};
 
 use crate::ready::ReadyBody;
 use jc_bytes::{Bytes, Fail, List, Memory, Names};
-use jc_emit::{EmittedParts, emit_parts};
+use jc_emit::{EmittedParts, PlacedBody, emit_parts};
 use jc_frames::take_classes;
 use jc_instrument_code::{CodePlaces, CodeTables, NamedFrames, write_laid};
 use jc_layout::Laid;
@@ -80,9 +80,15 @@ pub fn body_text(
         body,
         plan,
         laid,
+        insn_places,
         states,
     } = ready;
-    let parts = emit_parts(alloc, &body, &plan, &states, laid.wide, names)?;
+    let placed = PlacedBody {
+        body: &body,
+        plan: &plan,
+        places: &insn_places,
+    };
+    let parts = emit_parts(alloc, &placed, &states, laid.wide, names)?;
     take_classes(alloc, &parts.frames, names, pool)?;
     Ok(code_text(alloc, &parts, &laid, names, places, pool)?)
 }

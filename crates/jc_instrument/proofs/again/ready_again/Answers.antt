@@ -27,5 +27,6 @@ returns-clause-ready c =
       room = c.in_ok-laid.ensures.room;
       rows = c.requires.takes.rows;
       laid = c.in_ok-laid.ensures.laid;
+      placed = c.in_ok-laid.ensures.places;
       states = found.states;
     }

@@ -12,12 +12,13 @@ returns-clause-put c = λ names numbered has.
     let b = c.args.body in
     let old = c.args.bodies.now in
     let new = c.push.new.self in
-    let l = c.in_ok-laid.laid in
+    let l = c.in_ok-laid.field-0.laid in
+    let places = c.in_ok-laid.field-0.insn_places in
     let laid = c.in_ok-laid.ensures.laid in
     elim c.match-states-2.branch [
       | in-Some w ↦
-          (puts_ready names b c.args.plan c.args.first l c.requires.plan laid old new w.in-Some.states c.requires.made c.requires.next c.in_ok-laid.ensures.room
-          c.requires.rows numbered (subst (λ (o : Option (List State)). IfSome o (AreStates names b)) w.in-Some.is has)
+          (puts_ready names b c.args.plan c.args.first l c.requires.plan laid old new places w.in-Some.states c.in_ok-laid.ensures.places c.requires.made
+          c.requires.next c.in_ok-laid.ensures.room c.requires.rows numbered (subst (λ (o : Option (List State)). IfSome o (AreStates names b)) w.in-Some.is has)
           (c.in_ok-push.ensures.ok ∙ ap (λ (p : PlannedBody). old ++ p ∷ []) w.next-is))
       | in-None w ↦
           (puts_unread names b c.args.plan c.args.first l c.requires.plan laid old new c.requires.made c.requires.taken c.requires.rows c.requires.next
