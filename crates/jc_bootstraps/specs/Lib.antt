@@ -1,0 +1,3 @@
+pub mod Bootstraps
+pub mod BootstrapHead
+pub mod BootstrapsReading
