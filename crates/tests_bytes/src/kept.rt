@@ -1,8 +1,8 @@
 //! The calls, and the values that lines make for the lines behind them.
 
 use crate::{
-    classes, codes, copies, descriptors, files, insns, lists, names, pools, readers, same, stores,
-    texts,
+    bootstraps, classes, codes, copies, descriptors, files, insns, lists, names, pools, readers,
+    same, stores, texts,
 };
 use jc_base::{Insn, MemoryFiles, MemorySink, Names};
 use jc_exec::ExecStore;
@@ -54,6 +54,7 @@ impl Kept {
             "copy" => copies::answer(alloc, &self.code, call, out),
             "pool" => pools::answer(alloc, &mut self.pool, call, out),
             "class" => classes::answer(alloc, call, out),
+            "bootstraps" => bootstraps::answer(alloc, call, out),
             "store" => stores::answer(alloc, &mut self.store, call, out),
             group => out.unknown_word(group),
         }

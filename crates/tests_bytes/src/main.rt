@@ -5,6 +5,7 @@
 //! with `#`, are printed as they are.
 #![tactic(auto)]
 
+mod bootstraps;
 mod classes;
 mod codes;
 mod copies;
