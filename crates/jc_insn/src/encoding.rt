@@ -13,7 +13,7 @@ use crate::write::{
     put_new_array, put_push, put_table,
 };
 use jc_bytes::{Memory, put_with_short};
-use jc_methods::{Insn, form_of, opcode};
+use jc_methods::{Insn, form_of, is_listed, opcode};
 use std::alloc::Global;
 
 /// An instruction that begins at the offset `at`.
@@ -51,13 +51,6 @@ fn put_insn(
         Insn::Lookup { default, arms } => put_lookup(out, at, starts, *default, arms)?,
     }
     Ok(())
-}
-
-/// Whether the instruction of this number is a wide jump.
-fn is_listed(wide: &[bool], number: usize) -> bool
-    ensures { result ≡ listed wide.now number }
-{
-    wide.get(number).copied().unwrap_or(false)
 }
 
 /// Puts the bytes of instructions, each in its shortest spelling, at the end of `into`

@@ -58,6 +58,10 @@ fetch_of version = if nat_le 66 version then fetches.Constant else fetches.Membe
 abbrev pub most_probes : ℕ
 most_probes = 32767
 
+-- the most ids of the probes of a class
+abbrev pub most_ids : ℕ
+most_ids = 65535
+
 -- the most that sipush pushes (JVM Specification 6.5)
 abbrev pub most_short : ℕ
 most_short = 32767

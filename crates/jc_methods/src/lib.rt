@@ -35,9 +35,10 @@ pub use kind::{Kind, State};
 pub use plan::{Edge, Plan};
 pub use probe_members::{
     BOOTSTRAP_TYPE, BOOTSTRAPS_NAME, CONSTANT_TYPE, DATA_NAME, FETCH_NAME, FETCH_TYPE,
-    FIRST_CONSTANT, Fetch, INIT_NAME, INIT_TYPE, MOST_PROBES, PROBE_ARRAY, RUNTIME_CLASS, fetch_of,
+    FIRST_CONSTANT, Fetch, INIT_NAME, INIT_TYPE, MOST_IDS, MOST_PROBES, MOST_SHORT, PROBE_ARRAY,
+    RUNTIME_CLASS, fetch_of,
 };
 pub use slots::{a_replaced_slot_is_a_mapped_one, mapped_locals_are_within};
 pub use starts::insn_numbers;
 pub use value_type::{MethodTypes, ValueType, field_type, method_types};
-pub use widened::the_wide_form_has_each_image;
+pub use widened::{is_listed, the_wide_form_has_each_image};

@@ -40,6 +40,12 @@ pub const FIRST_CONSTANT: u16 = 66;
 /// The most probes of an instrumented class: `sipush` pushes each id (JVM Specification 6.5).
 pub const MOST_PROBES: u32 = 32_767;
 
+/// The most ids of the probes of a class that `emit` takes.
+pub const MOST_IDS: u32 = 65_535;
+
+/// The most that `sipush` pushes (JVM Specification 6.5).
+pub const MOST_SHORT: u32 = 32_767;
+
 /// How the methods of a class get its probe array.
 #[derive(Clone, Copy, Debug, PartialEq, Eq)]
 pub enum Fetch {
