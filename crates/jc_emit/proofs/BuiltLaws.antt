@@ -1,8 +1,9 @@
 -- The twin that is built has its parts in their places.
-use Rattle.std.proofs.Common.{◌≡◌, ℕ, zero, suc, ◌+◌, ◌<◌, Bool, true, false, List, [], ◌∷◌, ◌++◌, map, length, Option, Some, None, refl, sym, ap, ◌∙◌, ⊎_elim, arith, length-append, append_assoc, append-nil}
+use Rattle.std.proofs.Common.{◌≡◌, ℕ, zero, suc, ◌+◌, ◌<◌, ◌≤◌, Bool, true, false, List, [], ◌∷◌, ◌++◌, map, length, Option, Some, None, refl, sym, ap, ◌∙◌, subst, ⊎_elim, arith, length-append, append_assoc, append-nil}
+use Rattle.std.specs.Prelude.{slice_get}
 use Rattle.std.proofs.lemmas.List.{map-append, length-map}
 use Rattle.std.proofs.lemmas.Bool.{cases_lt}
-use Rattle.jc_bytes.specs.PlainLists.{pieces}
+use Rattle.jc_bytes.specs.PlainLists.{pieces, total}
 use Rattle.jc_methods.specs.Flow.{flow_of, jump_target}
 use Rattle.jc_methods.specs.Insn.{with_places}
 use Rattle.jc_methods.specs.declared.insn.Insn.{Insn}
@@ -12,10 +13,12 @@ use Rattle.jc_plan.specs.declared.branch.Branch.{Branch}
 use Rattle.jc_plan.specs.Probed.{probe_of}
 use Rattle.jc_plan.specs.Plan.{lead_probe}
 use Rattle.jc_emit.specs.Sizes.{TwinForm, is_wide, insn_at, early_probe, late_by, late_probe, arms_by, arms_at, probe_size, hop_size, arm_sizes, wide_by, behind_size}
-use Rattle.jc_emit.specs.Marks.{image_place}
+use Rattle.jc_methods.specs.declared.probe_members.Fetch.{Fetch}
+use Rattle.jc_methods.specs.declared.probe_members.Fetch.TheVariants as fetches
+use Rattle.jc_emit.specs.Marks.{prelude_size, image_place}
 use Rattle.jc_methods.specs.Widened.{inverted}
 use Rattle.jc_emit.specs.TwinCode.{to_of}
-use Rattle.jc_emit.specs.Items.{Item, own_of, prelude, lead_part, early_part, hop_part, arm_parts, test_part, segment_size, lead_of, land_of, image_of, tests_part, image_part, segment, twin_items}
+use Rattle.jc_emit.specs.Items.{Item, start, own_of, prelude, lead_part, early_part, hop_part, arm_parts, test_part, segment_size, lead_of, land_of, image_of, tests_part, image_part, segment, twin_items}
 use Rattle.jc_emit.proofs.PiecesLaws.{HasAt, has_piece, length-pieces}
 use Rattle.jc_emit.proofs.ImagesLaws.{trues, trues-append, image_in_front, image_behind}
 use Rattle.jc_methods.specs.declared.insn.Flow.TheVariants as flows
@@ -43,6 +46,26 @@ pub length-test : (wide : Bool) (q : ℕ) (insn : Insn) (i on : ℕ) (due : Opti
     → length (test_part wide q insn i on due) ≡ 1 + wide_by flows.Branches wide
 length-test false q insn i on due = refl
 length-test true q insn i on due = refl
+
+-- ---- the prelude
+
+pub length_prelude : (fetch : Fetch) → length (prelude fetch) ≡ prelude_size fetch
+length_prelude fetches.Member = refl
+length_prelude fetches.Constant = refl
+
+pub some_prelude : (fetch : Fetch) → 2 ≤ prelude_size fetch
+some_prelude fetches.Member = omega arith
+some_prelude fetches.Constant = omega arith
+
+plain_prelude : (fetch : Fetch) → trues (map own_of (prelude fetch)) ≡ 0
+plain_prelude fetches.Member = refl
+plain_prelude fetches.Constant = refl
+
+prelude_in_front : (fetch : Fetch) (rest : List Item) → HasAt (prelude fetch ++ rest) 0 (prelude fetch)
+prelude_in_front fetches.Member rest = (refl, (refl, tt))
+prelude_in_front fetches.Constant rest = (refl, (refl, (refl, tt)))
+
+-- ---- parts
 
 -- no item of these is own
 pub plain_lead : (o : Option ℕ) (i : ℕ) → trues (map own_of (lead_part o i)) ≡ 0
@@ -207,22 +230,23 @@ module _ (b : Body) (first : ℕ) (form : TwinForm) where
   lead i = lead_of b first form i
 
   abbrev built : ℕ → List Item
-  built n = prelude ++ pieces seg n
+  built n = prelude form.fetch ++ pieces seg n
 
   own_built : (n : ℕ) → trues (map own_of (built n)) ≡ n
-  own_built zero = refl
+  own_built zero = ap (λ l. trues (map own_of l)) (append-nil (prelude form.fetch)) ∙ plain_prelude form.fetch
   own_built (suc n) =
-      ap (λ l. trues (map own_of l)) (sym (append_assoc prelude (pieces seg n) (seg n)))
+      ap (λ l. trues (map own_of l)) (sym (append_assoc (prelude form.fetch) (pieces seg n) (seg n)))
       ∙ trues_both (built n) (seg n) ∙ omega (arith, own_built n, one_image n)
 
   length-built : (n : ℕ) → length (built n) ≡ lead n
-  length-built n = omega (arith, length-pieces ([]) seg size sized n)
+  length-built n =
+      omega (arith, length-append (prelude form.fetch) (pieces seg n), length_prelude form.fetch, length-pieces ([]) seg size sized n)
 
   image_built : (n i : ℕ) → i < n → image_place (map own_of (built n)) i ≡ image_of b first form i
   image_built zero i lt = absurd (omega arith)
   image_built (suc n) i lt =
       let split : map own_of (built (suc n)) ≡ map own_of (built n) ++ map own_of (seg n) =
-      ap (map own_of) (sym (append_assoc prelude (pieces seg n) (seg n))) ∙ map-append own_of (built n) (seg n) in
+      ap (map own_of) (sym (append_assoc (prelude form.fetch) (pieces seg n) (seg n))) ∙ map-append own_of (built n) (seg n) in
       ap (λ l. image_place l i) split
       ∙ ⊎_elim
       (λ below. image_in_front (map own_of (built n)) (map own_of (seg n)) i (omega (arith, own_built n)) ∙ image_built n i below)
@@ -237,7 +261,9 @@ module _ (b : Body) (first : ℕ) (form : TwinForm) where
 
   -- the piece of i stands at its lead place
   pub has_segment : (i : ℕ) → i < length b.code → HasAt (built (length b.code)) (lead i) (seg i)
-  has_segment i lt = has_piece prelude seg size sized (length b.code) i lt
+  has_segment i lt =
+      subst (λ k. HasAt (built (length b.code)) (k + total size i) (seg i)) (length_prelude form.fetch)
+      (has_piece (prelude form.fetch) seg size sized (length b.code) i lt)
 
 pub image_is : (b : Body) (first : ℕ) (form : TwinForm) (i : ℕ) → i < length b.code
     → image_place (map own_of (twin_items b first form)) i ≡ image_of b first form i
@@ -257,6 +283,13 @@ pub segment_at : (b : Body) (first : ℕ) (form : TwinForm) (i : ℕ) → i < le
 unfolding twin_items
 segment_at b first form i lt = has_segment b first form i lt
 
-pub prelude_at : (b : Body) (first : ℕ) (form : TwinForm) → HasAt (twin_items b first form) 0 prelude
+pub prelude_at : (b : Body) (first : ℕ) (form : TwinForm) → HasAt (twin_items b first form) 0 (prelude form.fetch)
 unfolding twin_items
-prelude_at b first form = (refl, (refl, tt))
+prelude_at b first form = prelude_in_front form.fetch (pieces (segment b first form) (length b.code))
+
+pub starts_at : (b : Body) (first : ℕ) (form : TwinForm) → slice_get (twin_items b first form) 0 ≡ Some (start form.fetch 0)
+starts_at b first form = by form.fetch (prelude_at b first form)
+  where
+    by : (fetch : Fetch) → HasAt (twin_items b first form) 0 (prelude fetch) → slice_get (twin_items b first form) 0 ≡ Some (start fetch 0)
+    by fetches.Member h = h.0
+    by fetches.Constant h = h.0

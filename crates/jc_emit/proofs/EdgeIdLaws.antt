@@ -10,6 +10,8 @@ use Rattle.jc_methods.specs.declared.insn.Insn.TheVariants as insns
 use Rattle.jc_methods.specs.declared.insn.Flow.{Flow}
 use Rattle.jc_methods.specs.declared.insn.Flow.TheVariants as flows
 use Rattle.jc_methods.specs.declared.body.Body.{Body}
+use Rattle.jc_methods.specs.declared.body.What.{What}
+use Rattle.jc_methods.specs.declared.probe_members.Fetch.{Fetch}
 use Rattle.jc_bytes.proofs.BooleanLaws.{first_in}
 use Rattle.jc_plan.specs.declared.branch.Branch.{Branch}
 use Rattle.jc_plan.specs.Edges.{jump, exit, branches_by, branches_of, branches}
@@ -69,7 +71,7 @@ module _ (code : List Insn) (slot : Option ℕ) (ids : Branch → Option ℕ) (i
   each_of_branch all q id x h e = by x h e
     where
       by : (x : Item) → slice_get items q ≡ Some x → id_in x ≡ Some id → OfBranch id
-      by (start k) h e = absurd (none_some id e)
+      by (start fetch k) h e = absurd (none_some id e)
       by (image insn at early) h e = absurd (none_some id e)
       by (probe_array k at late) h e = subst OfBranch (same_Some k id e) (of_branch k at late (all.ok q (probe_array k at late) h).0)
       by (probe_id k at late) h e = subst OfBranch (same_Some k id e) (of_branch k at late (all.ok q (probe_id k at late) h).0)
@@ -78,9 +80,13 @@ module _ (code : List Insn) (slot : Option ℕ) (ids : Branch → Option ℕ) (i
       by (hop to at due) h e = absurd (none_some id e)
 
 -- it is among the ids of the body
-pub each_within : (owner : List ℕ) (first : ℕ) (b b' : Body) (m : Marks) → (s : IsSeen owner first b b' m) → (q id : ℕ) (x : Item) → slice_get s.items q ≡ Some x
-    → id_in x ≡ Some id → (first ≤ id) × (id < first + probe_count b)
-each_within owner first b b' m s q id x h e =
-    let of = each_of_branch b.code (Some b.arg_slots) (probe_of b first) s.items s.ok q id x h e in
+pub item_within : (b : Body) (first : ℕ) (slot : Option ℕ) (items : List Item) → AllOk b.code slot (probe_of b first) items → (q id : ℕ) (x : Item)
+    → slice_get items q ≡ Some x → id_in x ≡ Some id → (first ≤ id) × (id < first + probe_count b)
+item_within b first slot items ok q id x h e =
+    let of = each_of_branch b.code slot (probe_of b first) items ok q id x h e in
     let is = probed_is b first id of.branch of.has_id in
     subst (λ k. (first ≤ k) × (k < first + probe_count b)) is.1 (ids_within b first of.branch of.listed is.0)
+
+pub each_within : (fetch : Fetch) (giver : What) (first : ℕ) (b b' : Body) (m : Marks) → (s : IsSeen fetch giver first b b' m) → (q id : ℕ) (x : Item)
+    → slice_get s.items q ≡ Some x → id_in x ≡ Some id → (first ≤ id) × (id < first + probe_count b)
+each_within fetch giver first b b' m s q id x h e = item_within b first (Some b.arg_slots) s.items s.ok q id x h e

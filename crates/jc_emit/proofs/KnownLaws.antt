@@ -1,5 +1,5 @@
 -- A twin's code is the one that the function gives.
-use Rattle.std.proofs.Common.{◌≡◌, ℕ, zero, suc, ◌+◌, ◌-◌, ◌<◌, ◌≤◌, Bool, true, false, List, [], ◌∷◌, ◌++◌, map, length, Option, Some, None, refl, sym, ap, ◌∙◌, subst, ⊎_elim, arith, add-one, append-nil}
+use Rattle.std.proofs.Common.{◌≡◌, ℕ, zero, suc, ◌+◌, ◌-◌, ◌<◌, ◌≤◌, Bool, true, false, List, [], ◌∷◌, ◌++◌, map, length, Option, Some, None, refl, sym, ap, ◌∙◌, subst, ⊎_elim, arith, add-one, append-nil, zero-add}
 use Rattle.std.specs.Prelude.{slice_get}
 use Rattle.std.proofs.lemmas.List.{length-map}
 use Rattle.std.proofs.lemmas.Bool.{cases_lt}
@@ -13,14 +13,16 @@ use Rattle.jc_methods.specs.declared.body.Body.{Body}
 use Rattle.jc_plan.specs.declared.branch.Branch.{Branch}
 use Rattle.jc_plan.specs.Probed.{probe_of}
 use Rattle.jc_plan.specs.Plan.{lead_probe}
+use Rattle.jc_methods.specs.declared.probe_members.Fetch.{Fetch}
+use Rattle.jc_methods.specs.declared.probe_members.Fetch.TheVariants as fetches
 use Rattle.jc_emit.specs.Sizes.{TwinForm, is_wide, insn_at, early_probe, late_probe, arms_at, probe_size, hop_size, wide_by, wide_size}
-use Rattle.jc_emit.specs.Marks.{TwinPlaces, Marks, HasInsn, IsProbe, iconst_1, bastore, prelude_size, image_place, land_place, lead_place}
+use Rattle.jc_emit.specs.Marks.{TwinPlaces, Marks, HasInsn, IsProbe, iconst_1, bastore, prelude_insns, prelude_size, image_place, land_place, lead_place}
 use Rattle.jc_methods.specs.Widened.{goto, inverted}
-use Rattle.jc_emit.specs.TwinCode.{to_of, Sentences, IsTwinCode, HasTest, HasArm, HasArms}
+use Rattle.jc_emit.specs.TwinCode.{to_of, HasPrelude, Sentences, IsTwinCode, HasTest, HasArm, HasArms}
 use Rattle.jc_emit.specs.Items.{marks_of_items, Item, hop, insn_of, at_of, own_of, extra_of, prelude, probe, lead_part, early_part, hop_part, arm_parts, test_part, segment_size, lead_of, land_of, image_of, tests_part, image_part, segment, twin_items}
 use Rattle.jc_emit.proofs.PiecesLaws.{HasAt, Each, each_append, each_piece, has_whole}
 use Rattle.jc_emit.proofs.ImagesLaws.{trues, trues_counted, image_behind}
-use Rattle.jc_emit.proofs.BuiltLaws.{length-lead, length-early, length-hop, length-test, length_twin, sized}
+use Rattle.jc_emit.proofs.BuiltLaws.{length_prelude, some_prelude, length-lead, length-early, length-hop, length-test, length_twin, sized}
 use Rattle.jc_emit.proofs.EndsLaws.{image_past}
 use Rattle.jc_methods.specs.declared.insn.Flow.TheVariants as flows
 
@@ -58,10 +60,10 @@ module _ (b : Body) (first : ℕ) (form : TwinForm) (named : TwinPlaces) (code :
 
   -- up to the end
   lead_is : (i : ℕ) → i ≤ n → lead_here i ≡ lead_of b first form i
-  lead_is zero le = is.places.first_place
+  lead_is zero le = omega (arith, is.places.first_place)
   lead_is (suc i) le =
       let before = lead_is i (omega arith) in
-      let some : 1 ≤ lead_here i = omega (arith, before) in
+      let some : 1 ≤ lead_here i = omega (arith, before, some_prelude form.fetch) in
       let image = image_by i some in
       let next = is.places.next_place i (omega arith) in
       ap lead_here (sym (add-one i)) ∙ omega (arith, before, image, next)
@@ -69,7 +71,7 @@ module _ (b : Body) (first : ℕ) (form : TwinForm) (named : TwinPlaces) (code :
   image_is : (i : ℕ) → i ≤ n → image_here i ≡ image_of b first form i
   image_is i le =
       let lead = lead_is i le in
-      let some : 1 ≤ lead_here i = omega (arith, lead) in
+      let some : 1 ≤ lead_here i = omega (arith, lead, some_prelude form.fetch) in
       omega (arith, lead, image_by i some)
 
   -- behind it
@@ -114,11 +116,11 @@ module _ (b : Body) (first : ℕ) (form : TwinForm) (named : TwinPlaces) (code :
   leads_known = λ k i. lead_all i k
 
   -- the sentences over the function's places
-  known : Sentences b first form code m (image_of b first form) (land_of b first form) (lead_of b first form) named
+  known : Sentences b first form named code m (image_of b first form) (land_of b first form) (lead_of b first form)
   known =
-      subst (λ f. Sentences b first form code m f (land_of b first form) (lead_of b first form) named) images_known
-      (subst (λ f. Sentences b first form code m (image_place m.own) f (lead_of b first form) named) lands_known
-      (subst (λ f. Sentences b first form code m (image_place m.own) (land_place b first m.own) f named) leads_known is))
+      subst (λ f. Sentences b first form named code m f (land_of b first form) (lead_of b first form)) images_known
+      (subst (λ f. Sentences b first form named code m (image_place m.own) f (lead_of b first form)) lands_known
+      (subst (λ f. Sentences b first form named code m (image_place m.own) (land_place b first m.own) f) leads_known is))
 
   -- ---- each part
 
@@ -138,7 +140,7 @@ module _ (b : Body) (first : ℕ) (form : TwinForm) (named : TwinPlaces) (code :
   abbrev Here : ℕ → Item → Type 0
   Here q x = HasInsn code m q (insn_of named b.arg_slots x) (at_of x) (own_of x) (extra_of x)
 
-  probe_here : (q id at : ℕ) (late : Bool) → IsProbe code m b.arg_slots q id at → Each Here q (probe id at late)
+  probe_here : (q id at : ℕ) (late : Bool) → IsProbe code m named.integer b.arg_slots q id at → Each Here q (probe id at late)
   probe_here q id at late p =
       let two : q + 2 ≡ q + 1 + 1 = omega arith in
       let three : q + 3 ≡ q + 1 + 1 + 1 = omega arith in (
@@ -149,25 +151,25 @@ module _ (b : Body) (first : ℕ) (form : TwinForm) (named : TwinPlaces) (code :
         ),
       )
 
-  lead_part_here : (q i : ℕ) (o : Option ℕ) → ((id : ℕ) → o ≡ Some id → IsProbe code m b.arg_slots q id i) → Each Here q (lead_part o i)
+  lead_part_here : (q i : ℕ) (o : Option ℕ) → ((id : ℕ) → o ≡ Some id → IsProbe code m named.integer b.arg_slots q id i) → Each Here q (lead_part o i)
   lead_part_here q i None h = tt
   lead_part_here q i (Some id) h = probe_here q id i true (h id refl)
 
-  early_part_here : (q i : ℕ) (o : Option ℕ) → ((id : ℕ) → o ≡ Some id → IsProbe code m b.arg_slots q id i) → Each Here q (early_part o i)
+  early_part_here : (q i : ℕ) (o : Option ℕ) → ((id : ℕ) → o ≡ Some id → IsProbe code m named.integer b.arg_slots q id i) → Each Here q (early_part o i)
   early_part_here q i None h = tt
   early_part_here q i (Some id) h = probe_here q id i false (h id refl)
 
-  hop_here : (q id to : ℕ) → IsProbe code m b.arg_slots q id to → HasInsn code m (q + 4) (goto (land to)) to false 0
+  hop_here : (q id to : ℕ) → IsProbe code m named.integer b.arg_slots q id to → HasInsn code m (q + 4) (goto (land to)) to false 0
       → Each Here q (hop_part land (Some id) to)
   hop_here q id to p h =
       let four : q + 4 ≡ q + 4 = refl in
       each_append Here q (probe id to true) (hop (land to) to None ∷ []) (probe_here q id to true p) (h, tt)
 
-  arm_here : (q to : ℕ) (o : Option ℕ) → HasArm b first form code m image_at land lead q to o → Each Here q (hop_part land o to)
+  arm_here : (q to : ℕ) (o : Option ℕ) → HasArm b first form named code m image_at land lead q to o → Each Here q (hop_part land o to)
   arm_here q to None h = tt
   arm_here q to (Some id) h = hop_here q id to h.0 h.1
 
-  arms_here : (q : ℕ) (xs : List Branch) → HasArms b first form code m image_at land lead q xs
+  arms_here : (q : ℕ) (xs : List Branch) → HasArms b first form named code m image_at land lead q xs
       → Each Here q (arm_parts land (probe_of b first) xs)
   arms_here q [] h = tt
   arms_here q (x ∷ xs) h =
@@ -175,7 +177,7 @@ module _ (b : Body) (first : ℕ) (form : TwinForm) (named : TwinPlaces) (code :
       (arm_here q (to_of x) (probe_of b first x) h.0)
       (subst (λ k. Each Here (q + k) (arm_parts land (probe_of b first) xs)) (sym (length-hop land (probe_of b first x) (to_of x))) (arms_here (q + hop_size (probe_of b first x)) xs h.1))
 
-  test_here : (w : Bool) (i : ℕ) (insn : Insn) (on : ℕ) (due : Option ℕ) → HasTest b first form code m image_at land lead w i insn on
+  test_here : (w : Bool) (i : ℕ) (insn : Insn) (on : ℕ) (due : Option ℕ) → HasTest b first form named code m image_at land lead w i insn on
       → Each Here (image_at i) (test_part w (image_at i) insn i on due)
   test_here false i insn on due h = (h, tt)
   test_here true i insn on due h = (h.0, (h.1, tt))
@@ -212,9 +214,16 @@ module _ (b : Body) (first : ℕ) (form : TwinForm) (named : TwinPlaces) (code :
       (subst (λ k. Each Here (land i + k) (image_part b first form i (old i) (flow_of (old i)))) (sym (length-early (early_probe b first i) i))
       (main_here i (flow_of (old i)) lt refl))))
 
-  all_here : Each Here 0 (prelude ++ pieces (segment b first form) n)
+  prelude_here : (fetch : Fetch) → HasPrelude b first form named code m image_at land lead 0 (prelude_insns fetch named b.arg_slots)
+      → Each Here 0 (prelude fetch)
+  prelude_here fetches.Member h = (h.0, (h.1.0, tt))
+  prelude_here fetches.Constant h = (h.0, (h.1.0, (h.1.1.0, tt)))
+
+  all_here : Each Here 0 (prelude form.fetch ++ pieces (segment b first form) n)
   all_here =
-      (known.prelude.first_insns.0, (known.prelude.first_insns.1.0, each_piece Here (segment b first form) size (sized b first form) prelude_size n (λ i lt. segment_here i lt)))
+      each_append Here 0 (prelude form.fetch) (pieces (segment b first form) n) (prelude_here form.fetch known.prelude.first_insns)
+      (subst (λ k. Each Here k (pieces (segment b first form) n)) (sym (zero-add (length (prelude form.fetch)) ∙ length_prelude form.fetch))
+      (each_piece Here (segment b first form) size (sized b first form) (prelude_size form.fetch) n (λ i lt. segment_here i lt)))
 
   -- ---- the lists
 

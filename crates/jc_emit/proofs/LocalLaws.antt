@@ -1,10 +1,10 @@
 -- The twin that the function gives goes on where it should, at each of its instructions.
-use Rattle.std.proofs.Common.{◌≡◌, ◌⊎◌, inl, inr, ⊎_elim, ℕ, zero, suc, ◌+◌, ◌<◌, Bool, true, false, List, [], ◌∷◌, ◌++◌, map, length, Option, Some, None, refl, sym, ap, ◌∙◌, subst, arith, add-one, zero-add}
+use Rattle.std.proofs.Common.{◌≡◌, inl, inr, ⊎_elim, ℕ, zero, suc, ◌+◌, ◌<◌, Bool, true, false, List, [], ◌∷◌, ◌++◌, map, length, Option, Some, None, refl, sym, ap, ◌∙◌, subst, arith, add-one, zero-add}
 use Rattle.std.specs.Prelude.{slice_get, Contains}
 use Rattle.std.specs.List.{AllByRecursion}
 use Rattle.std.proofs.lemmas.Bool.{cases_lt}
 use Rattle.std.proofs.lemmas.Option.{slice_get-get_or}
-use Rattle.jc_bytes.specs.PlainLists.{total}
+use Rattle.jc_bytes.specs.PlainLists.{pieces, total}
 use Rattle.jc_bytes.specs.FirstSeen.{first_seen}
 use Rattle.jc_methods.specs.Flow.{flow_of, targets_of, FallsThrough, jump_target}
 use Rattle.jc_methods.specs.Insn.{with_places, IsWellFormed}
@@ -12,6 +12,8 @@ use Rattle.jc_methods.specs.WellMade.{IsCode}
 use Rattle.jc_methods.specs.declared.insn.Insn.{Insn}
 use Rattle.jc_methods.specs.declared.insn.Flow.{Flow}
 use Rattle.jc_methods.specs.declared.body.Body.{Body}
+use Rattle.jc_methods.specs.declared.probe_members.Fetch.{Fetch}
+use Rattle.jc_methods.specs.declared.probe_members.Fetch.TheVariants as fetches
 use Rattle.jc_plan.specs.declared.branch.Branch.{Branch}
 use Rattle.jc_plan.specs.Edges.{place_of, sequence, jump, branches_by}
 use Rattle.jc_plan.specs.Probed.{probe_of}
@@ -21,11 +23,11 @@ use Rattle.jc_plan.proofs.ByBranchLaws.{last_parts}
 use Rattle.jc_emit.specs.Sizes.{TwinForm, is_wide, insn_at, early_by, early_probe, late_by, late_probe, arms_at, probe_size, hop_size, wide_by, behind_size}
 use Rattle.jc_methods.specs.Widened.{inverted}
 use Rattle.jc_emit.specs.TwinCode.{to_of, here_or, arm_place}
-use Rattle.jc_emit.specs.Marks.{unplaced, prelude_size}
-use Rattle.jc_emit.specs.Items.{Item, image, probe_array, hop, probe, lead_part, early_part, hop_part, arm_parts, test_part, segment_size, lead_of, land_of, image_of, tests_part, image_part, segment, twin_items}
-use Rattle.jc_emit.specs.Local.{Stands, Lands, Ok, OkImage, IsOfEdgeTo, AllOk, TestsAlike, TestsInversely, SwitchesAlike, JumpsAlike}
+use Rattle.jc_emit.specs.Marks.{TwinPlaces, unplaced, prelude_size}
+use Rattle.jc_emit.specs.Items.{Item, image, probe_array, hop, prelude, probe, lead_part, early_part, hop_part, arm_parts, test_part, segment_size, lead_of, land_of, image_of, tests_part, image_part, segment, twin_items}
+use Rattle.jc_emit.specs.Local.{Stands, Lands, LandsBehind, Ok, OkImage, IsOfEdgeTo, AllOk, TestsAlike, TestsInversely, SwitchesAlike, JumpsAlike}
 use Rattle.jc_emit.proofs.PiecesLaws.{HasAt, has_front, has_back, Each, each_append, each_at, each_piece}
-use Rattle.jc_emit.proofs.BuiltLaws.{length-lead, length-early, length-hop, sized, size_is, size_tests, prelude_at}
+use Rattle.jc_emit.proofs.BuiltLaws.{length_prelude, length-lead, length-early, length-hop, sized, size_is, size_tests, prelude_at, starts_at}
 use Rattle.jc_emit.proofs.ToldLaws.{lead_at, early_at, main_at}
 use Rattle.jc_emit.proofs.OthersLaws.{Arms, arm_way, Agrees, agrees_here, agrees_rest, arm_listed, tests_target, jumps_target, none_some, found_at, sequence_listed, fallen_before, arms_is, are_arms_at}
 use Rattle.jc_emit.proofs.InverseLaws.{twice_inverse}
@@ -100,6 +102,10 @@ module _ (b : Body) (first : ℕ) (form : TwinForm) (is_code : IsCode b.code) wh
   abbrev Jumps : ℕ → Insn → Type 0
   Jumps i new = JumpsAlike b.code (Some b.arg_slots) (probe_of b first) items (old i) new
 
+  -- what stands where doesn't depend on the places of the pool
+  abbrev any_places : TwinPlaces
+  any_places = unplaced (λ n. 0)
+
   -- ---- where it can go on
 
   image_lands : (q i : ℕ) (insn : Insn) (early : Option ℕ) → early ≡ None → slice_get items q ≡ Some (image insn i early) → In q i None
@@ -147,22 +153,35 @@ module _ (b : Body) (first : ℕ) (form : TwinForm) (is_code : IsCode b.code) wh
   main_lands i flows.Throws none h = image_lands (q_of i) i _ (early_probe b first i) none h.0
 
   pub land_lands : (i : ℕ) → i < length b.code → In (land i) i None
-  land_lands i lt = by (early_probe b first i) refl (early_at b first form unplaced i lt)
+  land_lands i lt = by (early_probe b first i) refl (early_at b first form any_places i lt)
     where
       by : (o : Option ℕ) → early_probe b first i ≡ o → HasAt items (land i) (early_part o i) → In (land i) i None
       by None none h =
           let e : q_of i ≡ land i = ap (λ o. land i + probe_size o) none ∙ omega arith in
-          subst (λ q. In q i None) e (main_lands i (flow_of (old i)) none (main_at b first form unplaced i lt))
+          subst (λ q. In q i None) e (main_lands i (flow_of (old i)) none (main_at b first form any_places i lt))
       by (Some id) some h = early_lands (land i) id i h.0
 
   pub lead_lands : (i : ℕ) → i < length b.code → In (lead i) i (lead_probe b first i)
-  lead_lands i lt = by (lead_probe b first i) refl (lead_at b first form unplaced i lt)
+  lead_lands i lt = by (lead_probe b first i) refl (lead_at b first form any_places i lt)
     where
       by : (o : Option ℕ) → lead_probe b first i ≡ o → HasAt items (lead i) (lead_part o i) → In (lead i) i o
       by None none h =
           let e : land i ≡ lead i = ap (λ o. lead i + probe_size o) none ∙ omega arith in
           subst (λ q. In q i None) e (land_lands i lt)
       by (Some id) some h = late_lands (lead i) id i h.0
+
+  -- behind the probe of a fall-through
+  abbrev Behind : ℕ → ℕ → Option ℕ → Type 0
+  Behind q at due = LandsBehind b.code (Some b.arg_slots) (probe_of b first) items q at due
+
+  lead_behind : (i : ℕ) → i < length b.code → Behind (lead i) i (lead_probe b first i)
+  lead_behind i lt = by (lead_probe b first i) refl
+    where
+      by : (o : Option ℕ) → lead_probe b first i ≡ o → Behind (lead i) i o
+      by None none = tt
+      by (Some id) some =
+          let e : land i ≡ lead i + 4 = ap (λ o. lead i + probe_size o) some in
+          subst (λ q. In q i None) e (land_lands i lt)
 
   -- ---- what follows
 
@@ -178,7 +197,7 @@ module _ (b : Body) (first : ℕ) (form : TwinForm) (is_code : IsCode b.code) wh
   next_lands : (i q : ℕ) → i < length b.code → FallsThrough (old i) → q ≡ q_of i + 1 + behind_size b first form i
       → In q (i + 1) (ids (sequence i))
   next_lands i q lt falls e =
-      let next : lead (i + 1) ≡ q = ap (λ k. prelude_size + total (segment_size b first form) k) (add-one i) ∙ omega (arith, e) in
+      let next : lead (i + 1) ≡ q = ap (λ k. prelude_size form.fetch + total (segment_size b first form) k) (add-one i) ∙ omega (arith, e) in
       subst (λ k. In k (i + 1) (ids (sequence i))) next (lead_lands (i + 1) (next_within i lt falls))
 
   pub target_within : (i : ℕ) → i < length b.code → targets_of (old i) ≡ jump_target (old i) ∷ [] → jump_target (old i) < length b.code
@@ -192,7 +211,7 @@ module _ (b : Body) (first : ℕ) (form : TwinForm) (is_code : IsCode b.code) wh
   edge_to : (i id to : ℕ) (flow : Flow) (x : Branch) → i < length b.code → flow_of (old i) ≡ flow
       → Contains (branches_by flow i (targets_of (old i))) x → ids x ≡ Some id → place_of x.way ≡ Some to → To id to
   edge_to i id to flow x lt e c some leads =
-      record { of_branch = record { branch = x; listed = found_at b first form unplaced is_code i flow x lt e c; has_id = some }; leads = leads }
+      record { of_branch = record { branch = x; listed = found_at b first form any_places is_code i flow x lt e c; has_id = some }; leads = leads }
 
   sequence_to : (i id : ℕ) → i < length b.code → lead_probe b first i ≡ Some id → To id i
   sequence_to zero id lt some = absurd (none_some id some)
@@ -200,7 +219,7 @@ module _ (b : Body) (first : ℕ) (form : TwinForm) (is_code : IsCode b.code) wh
       let within : j < length b.code = omega arith in
       let up : j + 1 ≡ suc j = add-one j in
       edge_to j id (suc j) (flow_of (old j)) (sequence j) within refl
-      (sequence_listed b first form unplaced is_code (flow_of (old j)) j (targets_of (old j)) (fallen_before b first form unplaced is_code j id within some))
+      (sequence_listed b first form any_places is_code (flow_of (old j)) j (targets_of (old j)) (fallen_before b first form any_places is_code j id within some))
       (ap (lead_probe b first) up ∙ some) (ap Some up)
 
   late_is : (i : ℕ) (o : Option ℕ) → flow_of (old i) ≡ flows.Branches → late_probe b first i ≡ o → ids (jump i (jump_target (old i))) ≡ o
@@ -215,8 +234,8 @@ module _ (b : Body) (first : ℕ) (form : TwinForm) (is_code : IsCode b.code) wh
   arm_to : (i id : ℕ) (x : Branch) → i < length b.code → flow_of (old i) ≡ flows.Switches → Contains (arms_at b.code i) x → ids x ≡ Some id
       → To id (to_of x)
   arm_to i id x lt e c some =
-      edge_to i id (to_of x) flows.Switches x lt e (subst (λ l. Contains l x) (arms_is b first form unplaced is_code i e) c) some
-      (ap place_of (arm_way i (arms_at b.code i) (are_arms_at b first form unplaced is_code i e) x c))
+      edge_to i id (to_of x) flows.Switches x lt e (subst (λ l. Contains l x) (arms_is b first form any_places is_code i e) c) some
+      (ap place_of (arm_way i (arms_at b.code i) (are_arms_at b first form any_places is_code i e) x c))
 
   -- ---- probes
 
@@ -229,10 +248,10 @@ module _ (b : Body) (first : ℕ) (form : TwinForm) (is_code : IsCode b.code) wh
   hop_fine q id to edge h lt =
       each_append Fine q (probe id to true) (hop (land to) to None ∷ [])
       (late_fine q id to (hop (land to) to None ∷ []) edge h (hop_on (q + 1 + 1 + 1 + 1) (land to) to None h.1.1.1.1.0))
-      (land_lands to lt, tt)
+      ((land_lands to lt, tt), tt)
 
   lead_fine : (i : ℕ) → i < length b.code → Each Fine (lead i) (lead_part (lead_probe b first i) i)
-  lead_fine i lt = by (lead_probe b first i) refl (lead_at b first form unplaced i lt)
+  lead_fine i lt = by (lead_probe b first i) refl (lead_at b first form any_places i lt)
     where
       by : (o : Option ℕ) → lead_probe b first i ≡ o → HasAt items (lead i) (lead_part o i) → Each Fine (lead i) (lead_part o i)
       by None none h = tt
@@ -251,13 +270,13 @@ module _ (b : Body) (first : ℕ) (form : TwinForm) (is_code : IsCode b.code) wh
   early_image i id flows.Throws e some h = (_, h.0 ∙ ap (λ o. Some (image (old i) i o)) some)
 
   early_fine : (i : ℕ) → i < length b.code → Each Fine (land i) (early_part (early_probe b first i) i)
-  early_fine i lt = by (early_probe b first i) refl (early_at b first form unplaced i lt)
+  early_fine i lt = by (early_probe b first i) refl (early_at b first form any_places i lt)
     where
       by : (o : Option ℕ) → early_probe b first i ≡ o → HasAt items (land i) (early_part o i) → Each Fine (land i) (early_part o i)
       by None none h = tt
       by (Some id) some h =
           let e : q_of i ≡ land i + 1 + 1 + 1 + 1 = ap (λ o. land i + probe_size o) some ∙ omega arith in
-          let found = early_image i id (flow_of (old i)) some some (main_at b first form unplaced i lt) in
+          let found = early_image i id (flow_of (old i)) some some (main_at b first form any_places i lt) in
           ((some, h.1.0), ((some, h.1.1.0), ((some, h.1.1.1.0), ((some, (found.0, subst (λ q. slice_get items q ≡ Some (image found.0 i (Some id))) e found.1)), tt))))
 
   -- ---- switches
@@ -367,7 +386,7 @@ module _ (b : Body) (first : ℕ) (form : TwinForm) (is_code : IsCode b.code) wh
         fell = subst (On (q_of i + 1) to) (sym (late_is i None e none)) (hop_on (q_of i + 1) _ to None h.1.0);
       } in (
         image_fine (q_of i) i _ None flows.Branches lt e refl (inr inversely),
-        (subst (λ q. In q to None) (sym (placed_target (old i) land e)) (land_lands to within), tt),
+        ((subst (λ q. In q to None) (sym (placed_target (old i) land e)) (land_lands to within), tt), tt),
       )
 
   probed_fine : (w : Bool) (i id : ℕ) → i < length b.code → (e : flow_of (old i) ≡ flows.Branches) → late_probe b first i ≡ Some id
@@ -394,7 +413,8 @@ module _ (b : Body) (first : ℕ) (form : TwinForm) (is_code : IsCode b.code) wh
       } in (
         image_fine (q_of i) i _ None flows.Branches lt e refl (inl alike),
         (
-          subst (λ q. In q (i + 1) (lead_probe b first (i + 1))) (sym (inverted_target (old i) (lead (i + 1)) e)) (lead_lands (i + 1) (next_within i lt (inr e))),
+          subst (λ q. In q (i + 1) (lead_probe b first (i + 1)) × Behind q (i + 1) (lead_probe b first (i + 1))) (sym (inverted_target (old i) (lead (i + 1)) e))
+              (lead_lands (i + 1) (next_within i lt (inr e)), lead_behind (i + 1) (next_within i lt (inr e))),
           hop_fine (q_of i + 1 + 1) id to (jump_to i id lt e some) h.1.1 within,
         ),
       )
@@ -419,13 +439,13 @@ module _ (b : Body) (first : ℕ) (form : TwinForm) (is_code : IsCode b.code) wh
       } in
       (image_fine (q_of i) i _ (early_probe b first i) flows.Jumps lt e (ap (early_by (probe_of b first) i (old i)) e) alike, tt)
   main_fine i flows.Switches lt e h =
-      let list = arms_is b first form unplaced is_code i e in
+      let list = arms_is b first form any_places is_code i e in
       let within : AreWithin (arms_at b.code i) = λ x c. listed_within i lt x (subst (λ l. Contains l x) list c) in
       let alike : Switches i (with_places (arm_place (probe_of b first) land (q_of i + 1) (arms_at b.code i)) (old i)) = record {
         place = arm_place (probe_of b first) land (q_of i + 1) (arms_at b.code i);
         same = refl;
         each = λ x c. arms_land i (arm_place (probe_of b first) land (q_of i + 1) (arms_at b.code i)) (q_of i + 1) (arms_at b.code i)
-            (are_arms_at b first form unplaced is_code i e) (λ y d. refl) h.1 within x
+            (are_arms_at b first form any_places is_code i e) (λ y d. refl) h.1 within x
             (subst (λ l. Contains l x) (sym list) (subst (λ f. Contains (branches_by f i (targets_of (old i))) x) e c));
       } in
       (image_fine (q_of i) i _ None flows.Switches lt e refl alike, arms_fine (q_of i + 1) (arms_at b.code i) h.1 within (λ x id c some. arm_to i id x lt e c some))
@@ -440,23 +460,36 @@ module _ (b : Body) (first : ℕ) (form : TwinForm) (is_code : IsCode b.code) wh
       (subst (λ k. Each Fine (lead i + k) (early_part (early_probe b first i) i ++ main i (flow_of (old i)))) (sym (length-lead (lead_probe b first i) i))
       (each_append Fine (land i) (early_part (early_probe b first i) i) _ (early_fine i lt)
       (subst (λ k. Each Fine (land i + k) (main i (flow_of (old i)))) (sym (length-early (early_probe b first i) i))
-      (main_fine i (flow_of (old i)) lt refl (main_at b first form unplaced i lt)))))
+      (main_fine i (flow_of (old i)) lt refl (main_at b first form any_places i lt)))))
 
-  start_lands : In prelude_size 0 None
-  start_lands = lead_lands 0 is_code.some
+  start_lands : In (prelude_size form.fetch) 0 None
+  start_lands =
+      let first_place : lead 0 ≡ prelude_size form.fetch = omega arith in
+      subst (λ q. In q 0 None) first_place (lead_lands 0 is_code.some)
+
+  prelude_fine : (fetch : Fetch) → HasAt items 0 (prelude fetch) → In (prelude_size fetch) 0 None → Each Fine 0 (prelude fetch)
+  prelude_fine fetches.Member h on =
+      (record { place = refl; within = omega arith; next = h.1.0 }, (record { place = refl; within = omega arith; next = on }, tt))
+  prelude_fine fetches.Constant h on = (
+    record { place = refl; within = omega arith; next = h.1.0 },
+    (
+      record { place = refl; within = omega arith; next = h.1.1.0 },
+      (record { place = refl; within = omega arith; next = on }, tt),
+    ),
+  )
+
+  front_fine : Each Fine 0 (prelude form.fetch)
+  front_fine = prelude_fine form.fetch (prelude_at b first form) start_lands
 
   all_fine : Each Fine 0 items
   unfolding twin_items
-  all_fine = (
-    record { place = refl; within = omega arith; next = refl },
-    (
-      record { place = refl; within = omega arith; next = start_lands },
-      each_piece Fine (segment b first form) (segment_size b first form) (sized b first form) prelude_size (length b.code) (λ i lt. segment_fine i lt),
-    ),
-  )
+  all_fine =
+      each_append Fine 0 (prelude form.fetch) (pieces (segment b first form) (length b.code)) front_fine
+      (subst (λ k. Each Fine k (pieces (segment b first form) (length b.code))) (sym (zero-add (length (prelude form.fetch)) ∙ length_prelude form.fetch))
+      (each_piece Fine (segment b first form) (segment_size b first form) (sized b first form) (prelude_size form.fetch) (length b.code) (λ i lt. segment_fine i lt)))
 
   pub twin_ok : AllOk b.code (Some b.arg_slots) (probe_of b first) items
   twin_ok = record {
     ok = λ q x h. subst (λ k. Fine k x) (zero-add q) (each_at Fine 0 items q x all_fine h);
-    start = (prelude_at b first form).0;
+    start = (form.fetch, starts_at b first form);
   }

@@ -1,10 +1,10 @@
 -- The twin that the function gives has the probe of each probed edge, and nothing else.
-use Rattle.std.proofs.Common.{◌≡◌, ◌⊎◌, inl, inr, ⊎_elim, ℕ, zero, suc, ◌+◌, ◌<◌, Bool, true, false, ◌&&◌, ◌||◌, nat_eq, List, [], ◌∷◌, ◌++◌, map, length, Option, Some, None, refl, sym, ap, ◌∙◌, subst, arith, add-one, zero-add}
+use Rattle.std.proofs.Common.{◌≡◌, ◌⊎◌, inl, inr, ⊎_elim, ℕ, zero, suc, ◌+◌, ◌<◌, ◌≤◌, Bool, true, false, ◌&&◌, ◌||◌, nat_eq, List, [], ◌∷◌, ◌++◌, map, length, Option, Some, None, refl, sym, ap, ◌∙◌, subst, arith, add-one, zero-add}
 use Rattle.std.specs.Prelude.{slice_get, Contains}
 use Rattle.std.proofs.lemmas.Bool.{cases_lt, and_parts, eq-eqb, ne_eqb, cond-true, cond-false}
 use Rattle.std.proofs.lemmas.Option.{slice_get-get_or, slice_get_within}
 use Rattle.std.proofs.lemmas.List.{length-map}
-use Rattle.jc_bytes.specs.PlainLists.{map_from}
+use Rattle.jc_bytes.specs.PlainLists.{map_from, pieces}
 use Rattle.jc_bytes.specs.FirstSeen.{first_seen, IsDistinct}
 use Rattle.jc_methods.specs.Flow.{flow_of, targets_of, jump_target, falls_at, goes_on, is_fallen_into}
 use Rattle.jc_methods.specs.Insn.{with_places}
@@ -25,9 +25,9 @@ use Rattle.jc_emit.specs.Sizes.{TwinForm, is_wide, insn_at, early_by, early_prob
 use Rattle.jc_emit.specs.Marks.{TwinPlaces, Marks, prelude_size}
 use Rattle.jc_methods.specs.Widened.{inverted}
 use Rattle.jc_emit.specs.TwinCode.{to_of, here_or, arm_place, probe_place, probe_place_by, probe_owner, probe_owner_by, ProbedEdge, InProbe, IsHop, IsWideGoto, NothingElse, HasProbe, HasArm, HasArms, HasGotoBehind}
-use Rattle.jc_emit.specs.Items.{marks_of_items, Item, start, hop, insn_of, own_of, probe, lead_part, early_part, hop_part, arm_parts, test_part, segment_size, lead_of, land_of, image_of, tests_part, image_part, segment, twin_items}
+use Rattle.jc_emit.specs.Items.{marks_of_items, Item, start, hop, insn_of, own_of, prelude, probe, lead_part, early_part, hop_part, arm_parts, test_part, segment_size, lead_of, land_of, image_of, tests_part, image_part, segment, twin_items}
 use Rattle.jc_emit.proofs.PiecesLaws.{HasAt, has_front, Each, each_append, each_at, each_piece}
-use Rattle.jc_emit.proofs.BuiltLaws.{length-lead, length-early, length-hop, length-test, sized}
+use Rattle.jc_emit.proofs.BuiltLaws.{length_prelude, length-lead, length-early, length-hop, length-test, sized}
 use Rattle.jc_emit.proofs.EndsLaws.{lead_none}
 use Rattle.jc_emit.proofs.ToldLaws.{item_stands, main_at, places_told, jumps_told, switches_told}
 use Rattle.jc_methods.specs.declared.insn.Insn.TheVariants as insns
@@ -135,19 +135,19 @@ module _ (b : Body) (first : ℕ) (form : TwinForm) (named : TwinPlaces) (is_cod
   old i = insn_at b.code i
 
   abbrev Edge : Type 0
-  Edge = ProbedEdge b first form code m image_at land lead
+  Edge = ProbedEdge b first form named code m image_at land lead
 
   abbrev place : Branch → ℕ
-  place x = probe_place b first form code m image_at land lead x
+  place x = probe_place b first form named code m image_at land lead x
 
   abbrev place_by : Way → Flow → ℕ → ℕ
-  place_by way flow i = probe_place_by b first form code m image_at land lead way flow i
+  place_by way flow i = probe_place_by b first form named code m image_at land lead way flow i
 
   abbrev owner_by : Way → Flow → ℕ → ℕ
-  owner_by way flow i = probe_owner_by b first form code m image_at land lead way flow i
+  owner_by way flow i = probe_owner_by b first form named code m image_at land lead way flow i
 
   abbrev Has : ℕ → ℕ → ℕ → Type 0
-  Has q id at = HasProbe b first form code m image_at land lead q id at
+  Has q id at = HasProbe b first form named code m image_at land lead q id at
 
   -- ---- which branches there are
 
@@ -195,7 +195,7 @@ module _ (b : Body) (first : ℕ) (form : TwinForm) (named : TwinPlaces) (is_cod
       (cases_lt (i + 1) (length b.code))
 
   arms_have : (i : ℕ) (whole : ℕ → ℕ) (here : ℕ) (xs : List Branch) → Arms i xs → Agrees (probe_of b first) land whole here xs
-      → HasArms b first form code m image_at land lead here xs
+      → HasArms b first form named code m image_at land lead here xs
       → (x : Branch) (id : ℕ) → Contains xs x → probe_of b first x ≡ Some id
       → Has (whole (to_of x)) id (to_of x) × (x.at ≡ i) × (x.way ≡ ways.Switches (to_of x))
   arms_have i whole here [] arms a h x id c some = absurd (none_in x c)
@@ -203,7 +203,7 @@ module _ (b : Body) (first : ℕ) (form : TwinForm) (named : TwinPlaces) (is_cod
       ⊎_elim
       (λ same.
       let yes : probe_of b first y ≡ Some id = ap (probe_of b first) same ∙ some in
-      let arm_has = subst (λ o. HasArm b first form code m image_at land lead here (to_of y) o) yes h.0 in
+      let arm_has = subst (λ o. HasArm b first form named code m image_at land lead here (to_of y) o) yes h.0 in
       let there = subst (λ q. Has q id (to_of y)) (sym (agrees_first (probe_of b first) land whole here id y xs a yes)) arm_has.0 in
       subst (λ z. Has (whole (to_of z)) id (to_of z) × (z.at ≡ i) × (z.way ≡ ways.Switches (to_of z))) same (there, arms.1, arms.2))
       (λ later. arms_have i whole (here + hop_size (probe_of b first y)) xs arms.3 (agrees_rest (probe_of b first) land whole here y xs arms.0 a) h.1 x id later some)
@@ -253,7 +253,7 @@ module _ (b : Body) (first : ℕ) (form : TwinForm) (named : TwinPlaces) (is_cod
       let early : early_probe b first i ≡ Some id = ap (early_by (probe_of b first) i (old i)) e ∙ ap (probe_of b first) same ∙ some in
       subst (λ z. Has (place_by z.way flows.Throws i) id (owner_by z.way flows.Throws i) × (z.at ≡ i)) same ((places_told b first form named).early i id lt early, refl)
 
-  probes_told : (e : Edge) → Has (place e.branch) e.id (probe_owner b first form code m image_at land lead e.branch)
+  probes_told : (e : Edge) → Has (place e.branch) e.id (probe_owner b first form named code m image_at land lead e.branch)
   probes_told e =
       let a = at_found e.branch e.listed in
       let h = edge_has a.at (flow_of (old a.at)) e.branch e.id a.within refl a.listed e.probed in
@@ -261,10 +261,14 @@ module _ (b : Body) (first : ℕ) (form : TwinForm) (named : TwinPlaces) (is_cod
 
   -- ---- and nothing else stands there
 
+  -- which item stands there plays no part in it
+  abbrev any_item : Item
+  any_item = start form.fetch 0
+
   abbrev Role : ℕ → Item → Type 0
   Role q x =
-      (q < prelude_size) ⊎ ((slice_get m.own q ≡ Some true)
-      ⊎ (InProbe b first form code m image_at land lead q ⊎ (IsHop b first form code m image_at land lead q ⊎ IsWideGoto b first form code m image_at land lead q)))
+      (q < prelude_size form.fetch) ⊎ ((slice_get m.own q ≡ Some true)
+      ⊎ (InProbe b first form named code m image_at land lead q ⊎ (IsHop b first form named code m image_at land lead q ⊎ IsWideGoto b first form named code m image_at land lead q)))
 
   own_role : (q : ℕ) (x : Item) → slice_get items q ≡ Some x → own_of x ≡ true → Role q x
   own_role q x h own = inr (inl ((item_stands named b.arg_slots items q x h).own_is ∙ ap Some own))
@@ -274,17 +278,17 @@ module _ (b : Body) (first : ℕ) (form : TwinForm) (named : TwinPlaces) (is_cod
 
   probe_roles : (q id at : ℕ) (late : Bool) (e : Edge) → q ≡ place e.branch → Each Role q (probe id at late)
   probe_roles q id at late e h = (
-    probe_role q (start 0) e 0 (omega arith) (omega (arith, h)),
+    probe_role q any_item e 0 (omega arith) (omega (arith, h)),
     (
-      probe_role (q + 1) (start 0) e 1 (omega arith) (omega (arith, h)),
+      probe_role (q + 1) any_item e 1 (omega arith) (omega (arith, h)),
       (
-        probe_role (q + 1 + 1) (start 0) e 2 (omega arith) (omega (arith, h)),
-        (probe_role (q + 1 + 1 + 1) (start 0) e 3 (omega arith) (omega (arith, h)), tt),
+        probe_role (q + 1 + 1) any_item e 2 (omega arith) (omega (arith, h)),
+        (probe_role (q + 1 + 1 + 1) any_item e 3 (omega arith) (omega (arith, h)), tt),
       ),
     ),
   )
 
-  hop_roles : (q id to : ℕ) (e : Edge) → HasGotoBehind b first form code m image_at land lead e.branch.way (flow_of (old e.branch.at))
+  hop_roles : (q id to : ℕ) (e : Edge) → HasGotoBehind b first form named code m image_at land lead e.branch.way (flow_of (old e.branch.at))
       → q ≡ place e.branch → Each Role q (hop_part land (Some id) to)
   hop_roles q id to e behind h =
       each_append Role q (probe id to true) (hop (land to) to None ∷ []) (probe_roles q id to true e h)
@@ -365,7 +369,7 @@ module _ (b : Body) (first : ℕ) (form : TwinForm) (named : TwinPlaces) (is_cod
       each_append Role (image_at i) part more
       (test_roles (is_wide form i) i refl (inverted (lead (i + 1)) (old i)) (i + 1) (lead_probe b first (i + 1)) lt e (has_front items (image_at i) part more h))
       (hop_roles (image_at i + length part) id (jump_target (old i)) edge
-      (subst (λ f. HasGotoBehind b first form code m image_at land lead (ways.Jumps (jump_target (old i))) f) (sym e) tt)
+      (subst (λ f. HasGotoBehind b first form named code m image_at land lead (ways.Jumps (jump_target (old i))) f) (sym e) tt)
       (there ∙ ap (λ f. place_by (ways.Jumps (jump_target (old i))) f i) (sym e)))
 
   -- switches
@@ -386,7 +390,7 @@ module _ (b : Body) (first : ℕ) (form : TwinForm) (named : TwinPlaces) (is_cod
           let edge = edge_of i flows.Switches x id lt e c some in
           let here_is = agrees_first (probe_of b first) land (arm_at i) here id x xs a some in
           hop_roles here id (to_of x) edge
-          (subst (λ w. HasGotoBehind b first form code m image_at land lead w (flow_of (old x.at))) (sym arms.2) tt)
+          (subst (λ w. HasGotoBehind b first form named code m image_at land lead w (flow_of (old x.at))) (sym arms.2) tt)
           (sym here_is ∙ sym (ap (λ w. place_by w (flow_of (old x.at)) x.at) arms.2 ∙ ap (λ k. arm_at k (to_of x)) arms.1))
 
   main_roles : (i : ℕ) (flow : Flow) → i < length b.code → flow_of (old i) ≡ flow
@@ -409,18 +413,25 @@ module _ (b : Body) (first : ℕ) (form : TwinForm) (named : TwinPlaces) (is_cod
       (subst (λ k. Each Role (land i + k) (image_part b first form i (old i) (flow_of (old i)))) (sym (length-early (early_probe b first i) i))
       (main_roles i (flow_of (old i)) lt refl (main_at b first form named i lt)))))
 
+  front_roles : (q : ℕ) (xs : List Item) → q + length xs ≤ prelude_size form.fetch → Each Role q xs
+  front_roles q [] le = tt
+  front_roles q (x ∷ xs) le = (inl (omega (arith, le)), front_roles (q + 1) xs (omega (arith, le)))
+
   all_roles : Each Role 0 items
   unfolding twin_items
   all_roles =
-      (inl (omega arith), (inl (omega arith), each_piece Role (segment b first form) (segment_size b first form) (sized b first form) prelude_size (length b.code) (λ i lt. segment_roles i lt)))
+      each_append Role 0 (prelude form.fetch) (pieces (segment b first form) (length b.code))
+      (front_roles 0 (prelude form.fetch) (omega (arith, length_prelude form.fetch)))
+      (subst (λ k. Each Role k (pieces (segment b first form) (length b.code))) (sym (zero-add (length (prelude form.fetch)) ∙ length_prelude form.fetch))
+      (each_piece Role (segment b first form) (segment_size b first form) (sized b first form) (prelude_size form.fetch) (length b.code) (λ i lt. segment_roles i lt)))
 
-  others_told : (q : ℕ) → q < length code → Role q (start 0)
+  others_told : (q : ℕ) → q < length code → Role q any_item
   others_told q lt =
       let within : q < length items = omega (arith, length-map items (insn_of named b.arg_slots)) in
-      let here = slice_get-get_or items q (start 0) within in
+      let here = slice_get-get_or items q any_item within in
       let role = each_at Role 0 items q _ all_roles here in
       let e : 0 + q ≡ q = zero-add q in
-      subst (λ k. Role k (start 0)) e role
+      subst (λ k. Role k any_item) e role
 
-  pub nothing_else_told : NothingElse b first form code m image_at land lead
+  pub nothing_else_told : NothingElse b first form named code m image_at land lead
   nothing_else_told = record { probes = probes_told; others = others_told }

@@ -14,7 +14,8 @@ use Rattle.jc_methods.proofs.ByFlowLaws.{insn_by, nowhere_targets, nowhere_place
 use Rattle.jc_methods.proofs.PlacedInsnLaws.{flow_placed, targets_placed}
 use Rattle.jc_methods.proofs.SlotsLaws.{flow_slots}
 use Rattle.jc_kinds_after.specs.Shift.{with_slot}
-use Rattle.jc_emit.specs.Marks.{push}
+use Rattle.jc_methods.specs.ProbeMembers.{most_short}
+use Rattle.jc_emit.specs.Marks.{push, push_by}
 use Rattle.jc_emit.proofs.OthersLaws.{tests_target}
 use Rattle.jc_emit.proofs.LocalLaws.{test_is}
 
@@ -36,6 +37,15 @@ places_push P n =
     cond_both (nat_le n 5) (insns.Simple (3 + n)) (cond (nat_le n 127) (insns.Push 16 (pos n)) (insns.Push 17 (pos n))) (λ x. with_places P x ≡ x)
     (λ few. refl)
     (λ many. cond_both (nat_le n 127) (insns.Push 16 (pos n)) (insns.Push 17 (pos n)) (λ x. with_places P x ≡ x) (λ h. refl) (λ h. refl))
+
+-- the same for each number
+pub flow_push_by : (integer : ℕ → ℕ) (n : ℕ) → flow_of (push_by integer n) ≡ flows.GoesOn
+flow_push_by integer n =
+    cond_both (nat_le n most_short) (push n) (insns.Constant (integer n)) (λ x. flow_of x ≡ flows.GoesOn) (λ few. flow_push n) (λ many. refl)
+
+pub places_push_by : (P : ℕ → ℕ) (integer : ℕ → ℕ) (n : ℕ) → with_places P (push_by integer n) ≡ push_by integer n
+places_push_by P integer n =
+    cond_both (nat_le n most_short) (push n) (insns.Constant (integer n)) (λ x. with_places P x ≡ x) (λ few. places_push P n) (λ many. refl)
 
 pub flow_shifted : (v : ℕ) (insn : Insn) → flow_of (with_slot v insn) ≡ flow_of insn
 flow_shifted v insn = flow_slots _ insn

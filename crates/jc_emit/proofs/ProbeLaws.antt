@@ -1,10 +1,17 @@
 -- Each probe of a twin is that of a probed edge, and each probed edge has one.
-use Rattle.std.proofs.Common.{◌≡◌, ◌⊎◌, inl, inr, ⊎_elim, ℕ, zero, suc, pos, ◌+◌, ◌-◌, ◌<◌, Bool, true, false, List, [], ◌∷◌, length, map, Option, Some, None, nat_le, if◌then◌else◌, refl, sym, ap, ◌∙◌, subst, arith}
+use Rattle.std.proofs.Common.{◌≡◌, ◌⊎◌, inl, inr, ⊎_elim, ℕ, zero, suc, pos, ◌+◌, ◌-◌, ◌<◌, ◌≤◌, Bool, true, false, List, [], ◌∷◌, length, map, Option, Some, None, nat_le, if◌then◌else◌, refl, sym, ap, ◌∙◌, subst, arith}
 use Rattle.std.specs.Prelude.{slice_get, Contains, nat_abs}
+use Rattle.std.proofs.lemmas.Bool.{leb-false}
 use Rattle.std.proofs.lemmas.Option.{slice_get_within, same_Some}
 use Rattle.jc_methods.specs.Flow.{flow_of, targets_of, jump_target}
 use Rattle.jc_methods.specs.Widened.{goto}
-use Rattle.jc_methods.specs.WellMade.{IsCode}
+use Rattle.jc_methods.specs.WellMade.{IsCode, what_used}
+use Rattle.jc_methods.specs.ProbeMembers.{most_short}
+use Rattle.jc_methods.specs.declared.probe_members.Fetch.{Fetch}
+use Rattle.jc_methods.specs.declared.probe_members.Fetch.TheVariants as fetches
+use Rattle.jc_methods.specs.declared.body.Use.{Use}
+use Rattle.jc_methods.specs.declared.body.What.{What}
+use Rattle.jc_methods.specs.declared.body.What.TheVariants as whats
 use Rattle.jc_methods.specs.declared.insn.Insn.{Insn}
 use Rattle.jc_methods.specs.declared.insn.Insn.TheVariants as insns
 use Rattle.jc_methods.specs.declared.insn.Flow.{Flow}
@@ -16,12 +23,15 @@ use Rattle.jc_bytes.proofs.ListLaws.{each_in}
 use Rattle.jc_plan.specs.declared.branch.Branch.{Branch}
 use Rattle.jc_plan.specs.declared.branch.Way.{Way}
 use Rattle.jc_plan.specs.Edges.{sequence, jump, exit, branches_by}
-use Rattle.jc_plan.specs.Probed.{probe_of, id_if, is_probed, id_of}
+use Rattle.jc_plan.specs.Probed.{probe_of, probe_count, id_if, is_probed, id_of}
+use Rattle.jc_plan.proofs.IdsLaws.{ids_within}
 use Rattle.jc_plan.proofs.OneIdLaws.{one_edge}
 use Rattle.jc_plan.proofs.FlowLaws.{IsAt, all_at}
 use Rattle.jc_emit.specs.Sizes.{TwinForm, is_wide, insn_at, late_by, late_probe, arms_by, arms_at, hop_size}
-use Rattle.jc_emit.specs.Marks.{TwinPlaces, Marks, IsProbe, HasEachIdOnce, aload, invokestatic, prelude_size, push, image_place, land_place, lead_place}
-use Rattle.jc_emit.specs.TwinCode.{to_of, Sentences, IsTwinCode, ProbedEdge, InProbe, IsWideGoto, IsAdded, HasGotoBehind, HasTest, HasHop, HasArm, HasArms, IsProbeOf, IsProbeIn, arm, probe_place, probe_place_by}
+use Rattle.jc_emit.specs.Marks.{TwinPlaces, Marks, IsProbeBy, HasEachIdOnce, PushesBy, Pushes, aload, invokestatic, prelude_insns, prelude_size, push, push_by, image_place, land_place, lead_place}
+use Rattle.jc_emit.specs.Twin.{NamesIntegers}
+use Rattle.jc_emit.specs.Told.{NamesIds, HasEdges}
+use Rattle.jc_emit.specs.TwinCode.{to_of, HasPrelude, Sentences, IsTwinCode, ProbedEdge, InProbe, IsWideGoto, IsAdded, HasGotoBehind, HasTest, HasHop, HasArm, HasArms, IsProbeOf, arm, probe_place, probe_place_by}
 use Rattle.jc_emit.proofs.OthersLaws.{Arms, arm_way, Agrees, agrees_first, agrees_rest, arms_by_list, at_found, tests_target, jumps_target}
 
 -- ---- ids
@@ -43,6 +53,47 @@ number_pushed n = by (nat_le n 5) (nat_le n 127)
 pub same_number : (n k : ℕ) → push n ≡ push k → n ≡ k
 same_number n k e = sym (number_pushed n) ∙ ap number_of e ∙ number_pushed k
 
+-- the instruction pushes an Integer of the pool
+abbrev is_constant : Insn → Bool
+is_constant (insns.Constant place) = true
+is_constant _ = false
+
+plain_push : (n : ℕ) → is_constant (push n) ≡ false
+plain_push n = by (nat_le n 5) (nat_le n 127)
+  where
+    by : (a c : Bool) → is_constant (if a then insns.Simple (3 + n) else if c then insns.Push 16 (pos n) else insns.Push 17 (pos n)) ≡ false
+    by true c = refl
+    by false true = refl
+    by false false = refl
+
+no_constant : (n place : ℕ) → push n ≡ insns.Constant place → ⊥
+no_constant n place e = apart (sym (plain_push n) ∙ ap is_constant e)
+  where
+    apart : false ≡ true → ⊥
+    apart e = cc
+
+-- the value of an Integer
+abbrev int_in : What → ℕ
+int_in (whats.Int value) = nat_abs value
+int_in _ = 0
+
+abbrev place_in : Insn → ℕ
+place_in (insns.Constant place) = place
+place_in _ = 0
+
+-- an instruction that pushes a number, by its Integer where no shorter one does, pushes no other number
+one_number : (uses : List Use) (integer : ℕ → ℕ) (n k : ℕ) → (most_short < n → what_used uses (integer n) ≡ Some (whats.Int (pos n)))
+    → Pushes uses (push_by integer n) k → n ≡ k
+one_number uses integer n k named h = by (nat_le n most_short) (nat_le k most_short) refl h
+  where
+    by : (short few : Bool) → nat_le n most_short ≡ short → PushesBy few uses (if short then push n else insns.Constant (integer n)) k → n ≡ k
+    by true true e h = same_number n k h
+    by true false e h = absurd (no_constant n h.0 h.1)
+    by false true e h = absurd (no_constant k (integer n) (sym h))
+    by false false e h =
+        let what = sym (named (leb-false n most_short e)) ∙ ap (what_used uses) (ap place_in h.1) ∙ h.2 in
+        ap int_in (same_Some (whats.Int (pos n)) (whats.Int (pos k)) what)
+
 -- an edge that has an id is probed, and the id is its own
 pub probed_is : (b : Body) (first id : ℕ) (x : Branch) → probe_of b first x ≡ Some id → (is_probed b x ≡ true) × (id_of b first x ≡ id)
 probed_is b first id x e = by (is_probed b x) refl e
@@ -53,27 +104,27 @@ probed_is b first id x e = by (is_probed b x) refl e
 
 -- ---- what stands at a place that isn't own
 
-module _ (b : Body) (first : ℕ) (form : TwinForm) (code : List Insn) (m : Marks) (image land lead : ℕ → ℕ) (named : TwinPlaces) (is_code : IsCode b.code)
-    (s : Sentences b first form code m image land lead named) where
+module _ (b : Body) (first : ℕ) (form : TwinForm) (named : TwinPlaces) (code : List Insn) (m : Marks) (image land lead : ℕ → ℕ) (uses : List Use) (is_code : IsCode b.code)
+    (s : Sentences b first form named code m image land lead) (integers : NamesIntegers first (probe_count b) uses named.integer) where
   abbrev old : ℕ → Insn
   old i = insn_at b.code i
 
   abbrev Edge : Type 0
-  Edge = ProbedEdge b first form code m image land lead
+  Edge = ProbedEdge b first form named code m image land lead
 
   abbrev place : Branch → ℕ
-  place x = probe_place b first form code m image land lead x
+  place x = probe_place b first form named code m image land lead x
 
   -- a goto stands there
   abbrev IsGoto : ℕ → Type 0
   IsGoto q = (to : ℕ) × (slice_get code q ≡ Some (goto to))
 
-  hop_goto : (q to : ℕ) → HasHop b first form code m image land lead q to → IsGoto q
+  hop_goto : (q to : ℕ) → HasHop b first form named code m image land lead q to → IsGoto q
   hop_goto q to h = (land to, h.insn_is)
 
   -- the arm places of these branches stand there
   abbrev HasArmsAt : ℕ → List Branch → Type 0
-  HasArmsAt here xs = HasArms b first form code m image land lead here xs
+  HasArmsAt here xs = HasArms b first form named code m image land lead here xs
 
   arms_goto : (i : ℕ) (whole : ℕ → ℕ) (here : ℕ) (xs : List Branch) → Arms i xs → Agrees (probe_of b first) land whole here xs
       → HasArmsAt here xs → (x : Branch) (id : ℕ) → Contains xs x → probe_of b first x ≡ Some id
@@ -83,7 +134,7 @@ module _ (b : Body) (first : ℕ) (form : TwinForm) (code : List Insn) (m : Mark
       ⊎_elim
       (λ same.
       let yes : probe_of b first y ≡ Some id = ap (probe_of b first) same ∙ some in
-      let arm_has = subst (λ o. HasArm b first form code m image land lead here (to_of y) o) yes h.0 in
+      let arm_has = subst (λ o. HasArm b first form named code m image land lead here (to_of y) o) yes h.0 in
       let at = agrees_first (probe_of b first) land whole here id y xs a yes in
       subst (λ z. IsGoto (whole (to_of z) + 4)) same (subst (λ q. IsGoto (q + 4)) (sym at) (hop_goto (here + 4) (to_of y) arm_has.1)))
       (λ later.
@@ -92,10 +143,10 @@ module _ (b : Body) (first : ℕ) (form : TwinForm) (code : List Insn) (m : Mark
 
   -- the probe of such a branch has a goto behind it
   abbrev HasGoto : Way → Flow → Type 0
-  HasGoto way flow = HasGotoBehind b first form code m image land lead way flow
+  HasGoto way flow = HasGotoBehind b first form named code m image land lead way flow
 
   abbrev place_by : Way → Flow → ℕ → ℕ
-  place_by way flow i = probe_place_by b first form code m image land lead way flow i
+  place_by way flow i = probe_place_by b first form named code m image land lead way flow i
 
   -- the goto behind a probe that has one
   edge_goto : (i : ℕ) (flow : Flow) (x : Branch) (id : ℕ) → i < length b.code → flow_of (old i) ≡ flow
@@ -122,7 +173,7 @@ module _ (b : Body) (first : ℕ) (form : TwinForm) (code : List Insn) (m : Mark
       let listed : Contains (arms_at b.code i) x = subst (λ f. Contains (arms_by i (old i) f) x) (sym e) (subst (λ f. Contains (branches_by f i (targets_of (old i))) x) (sym e) c) in
       let way = arm_way i (arms_at b.code i) arms x listed in
       subst (λ w. IsGoto (place_by w flows.Switches i + 4)) (sym way)
-      (arms_goto i (arm b first form code m image land lead i) (image i + 1) (arms_at b.code i) arms (λ y d. refl) (s.switches.arms i (lt, e)) x id listed some)
+      (arms_goto i (arm b first form named code m image land lead i) (image i + 1) (arms_at b.code i) arms (λ y d. refl) (s.switches.arms i (lt, e)) x id listed some)
   edge_goto i flows.Returns x id lt e c some behind =
       absurd (subst (λ z. HasGoto z.way flows.Returns) (sym (contains_one (exit i) x c)) behind)
   edge_goto i flows.Throws x id lt e c some behind =
@@ -142,14 +193,14 @@ module _ (b : Body) (first : ℕ) (form : TwinForm) (code : List Insn) (m : Mark
           let flow = flow_of (old i) in let targets = targets_of (old i) in
           (each_in (IsAt i) (branches_by flow i targets) x (all_at i flow targets) c).at
 
-  -- ---- conditional jumps of the wide layout
+  -- ---- wide conditional jumps
 
-  test_goto : (w : Bool) (i : ℕ) (insn : Insn) (on : ℕ) → w ≡ true → HasTest b first form code m image land lead w i insn on
+  test_goto : (w : Bool) (i : ℕ) (insn : Insn) (on : ℕ) → w ≡ true → HasTest b first form named code m image land lead w i insn on
       → IsGoto (image i + 1)
   test_goto false i insn on e h = cc
   test_goto true i insn on e h = (jump_target insn, h.1.insn_is)
 
-  wide_goto : (q : ℕ) → IsWideGoto b first form code m image land lead q → IsGoto q
+  wide_goto : (q : ℕ) → IsWideGoto b first form named code m image land lead q → IsGoto q
   wide_goto q w = subst IsGoto (sym w.place) (by (late_probe b first w.test) refl)
     where
       by : (o : Option ℕ) → late_probe b first w.test ≡ o → IsGoto (image w.test + 1)
@@ -158,15 +209,26 @@ module _ (b : Body) (first : ℕ) (form : TwinForm) (code : List Insn) (m : Mark
 
   -- ---- probes
 
-  no_probe : (q id at : ℕ) → IsGoto q → IsProbe code m b.arg_slots q id at → ⊥
+  no_probe : (q id at : ℕ) → IsGoto q → IsProbeBy uses code m b.arg_slots q id at → ⊥
   no_probe q id at g p = let e = same_Some (goto g.0) (aload b.arg_slots) (sym g.1 ∙ p.array.insn_is) in cc
 
-  in_prelude : (q id at : ℕ) → q < prelude_size → IsProbe code m b.arg_slots q id at → ⊥
-  in_prelude zero id at lt p =
-      let e = same_Some (invokestatic named.giver) (aload b.arg_slots) (sym s.prelude.first_insns.0.insn_is ∙ p.array.insn_is) in cc
-  in_prelude (suc zero) id at lt p =
-      let e = same_Some 1 0 (sym s.prelude.first_insns.1.0.extra_is ∙ p.array.extra_is) in omega (arith, e)
-  in_prelude (suc (suc q)) id at lt p = omega (arith, lt)
+  -- the instructions of the prelude, for each way to get the array
+  abbrev Begins : Fetch → Type 0
+  Begins fetch = HasPrelude b first form named code m image land lead 0 (prelude_insns fetch named b.arg_slots)
+
+  in_prelude : (fetch : Fetch) → Begins fetch → (q id at : ℕ) → q < prelude_size fetch → IsProbeBy uses code m b.arg_slots q id at → ⊥
+  in_prelude fetches.Member h zero id at lt p =
+      let e = same_Some (invokestatic named.giver) (aload b.arg_slots) (sym h.0.insn_is ∙ p.array.insn_is) in cc
+  in_prelude fetches.Member h (suc zero) id at lt p =
+      let e = same_Some 1 0 (sym h.1.0.extra_is ∙ p.array.extra_is) in omega (arith, e)
+  in_prelude fetches.Member h (suc (suc q)) id at lt p = omega (arith, lt)
+  in_prelude fetches.Constant h zero id at lt p =
+      let e = same_Some (insns.Constant named.giver) (aload b.arg_slots) (sym h.0.insn_is ∙ p.array.insn_is) in cc
+  in_prelude fetches.Constant h (suc zero) id at lt p =
+      let e = same_Some 1 0 (sym h.1.0.extra_is ∙ p.array.extra_is) in omega (arith, e)
+  in_prelude fetches.Constant h (suc (suc zero)) id at lt p =
+      let e = same_Some 1 0 (sym h.1.1.0.extra_is ∙ p.array.extra_is) in omega (arith, e)
+  in_prelude fetches.Constant h (suc (suc (suc q))) id at lt p = omega (arith, lt)
 
   -- how many values a probe has pushed tells which of its instructions this is
   extra_at : (e : Edge) (step : ℕ) → step < 4 → slice_get m.extra (place e.branch + step) ≡ Some step
@@ -177,8 +239,15 @@ module _ (b : Body) (first : ℕ) (form : TwinForm) (code : List Insn) (m : Mark
   extra_at e (suc (suc (suc zero))) lt = (s.nothing_else.probes e).store.extra_is
   extra_at e (suc (suc (suc (suc step)))) lt = absurd (omega (arith, lt))
 
-  in_probe : (q id at : ℕ) → IsProbe code m b.arg_slots q id at → InProbe b first form code m image land lead q
-      → IsProbeOf b first form code m image land lead q id at
+  -- the Integer of an edge's id
+  edge_named : (e : Edge) → most_short < e.id → what_used uses (named.integer e.id) ≡ Some (whats.Int (pos e.id))
+  edge_named e more =
+      let is = probed_is b first e.id e.branch e.probed in
+      let range = subst (λ k. (first ≤ k) × (k < first + probe_count b)) is.1 (ids_within b first e.branch e.listed is.0) in
+      integers e.id more range.0 range.1
+
+  in_probe : (q id at : ℕ) → IsProbeBy uses code m b.arg_slots q id at → InProbe b first form named code m image land lead q
+      → IsProbeOf b first form named code m image land lead q id at
   in_probe q id at p i =
       let k = s.nothing_else.probes i.edge in
       let first_step = same_Some i.step 0 (sym (extra_at i.edge i.step i.four) ∙ sym (ap (slice_get m.extra) i.place) ∙ p.array.extra_is) in
@@ -186,18 +255,18 @@ module _ (b : Body) (first : ℕ) (form : TwinForm) (code : List Insn) (m : Mark
       let here : q ≡ place i.edge.branch = omega (arith, there, first_step) in
       record {
         edge = i.edge;
-        id_is = same_number i.edge.id id
-            (same_Some (push i.edge.id) (push id) (sym k.number.insn_is ∙ sym (ap (λ x. slice_get code (x + 1)) here) ∙ p.number.insn_is));
+        id_is = one_number uses named.integer i.edge.id id (edge_named i.edge)
+            (subst (λ insn. Pushes uses insn id) (same_Some p.pushing (push_by named.integer i.edge.id) (sym p.number.insn_is ∙ ap (λ x. slice_get code (x + 1)) here ∙ k.number.insn_is)) p.pushes);
         place = here;
         owner = same_Some at _ (sym p.array.at_is ∙ ap (slice_get m.at) here ∙ k.array.at_is);
       }
 
-  pub probe_found : (q id at : ℕ) → IsProbe code m b.arg_slots q id at → IsProbeOf b first form code m image land lead q id at
+  pub probe_found : (q id at : ℕ) → IsProbeBy uses code m b.arg_slots q id at → IsProbeOf b first form named code m image land lead q id at
   probe_found q id at p = by (s.nothing_else.others q (slice_get_within code q (aload b.arg_slots) p.array.insn_is))
     where
-      by : (q < prelude_size) ⊎ ((slice_get m.own q ≡ Some true) ⊎ IsAdded b first form code m image land lead q)
-          → IsProbeOf b first form code m image land lead q id at
-      by (inl low) = absurd (in_prelude q id at low p)
+      by : (q < prelude_size form.fetch) ⊎ ((slice_get m.own q ≡ Some true) ⊎ IsAdded b first form named code m image land lead q)
+          → IsProbeOf b first form named code m image land lead q id at
+      by (inl low) = absurd (in_prelude form.fetch s.prelude.first_insns q id at low p)
       by (inr (inl own)) = let e = same_Some false true (sym p.array.own_is ∙ own) in absurd (false_true e)
         where
           false_true : false ≡ true → ⊥
@@ -206,7 +275,7 @@ module _ (b : Body) (first : ℕ) (form : TwinForm) (code : List Insn) (m : Mark
       by (inr (inr (inr (inl h)))) = absurd (no_probe q id at (subst IsGoto (sym h.place) (behind_edge h.edge h.with_goto)) p)
       by (inr (inr (inr (inr w)))) = absurd (no_probe q id at (wide_goto q w) p)
 
-  pub probe_once : (q r id at to : ℕ) → IsProbe code m b.arg_slots q id at → IsProbe code m b.arg_slots r id to → q ≡ r
+  pub probe_once : (q r id at to : ℕ) → IsProbeBy uses code m b.arg_slots q id at → IsProbeBy uses code m b.arg_slots r id to → q ≡ r
   probe_once q r id at to p k =
       let e = probe_found q id at p in
       let f = probe_found r id to k in
@@ -218,14 +287,11 @@ module _ (b : Body) (first : ℕ) (form : TwinForm) (code : List Insn) (m : Mark
 
 -- ---- in the code of a twin
 
-pub probe_in : (b : Body) (first : ℕ) (form : TwinForm) (named : TwinPlaces) (code : List Insn) (m : Marks) → IsCode b.code
-    → IsTwinCode b first form named code m
-    → (q id at : ℕ) → IsProbe code m b.arg_slots q id at → IsProbeIn b first form code m q id at
-probe_in b first form named code m is_code is q id at p =
-    probe_found b first form code m (image_place m.own) (land_place b first m.own) (lead_place b first m.own) named is_code is q id at p
+module _ (b : Body) (first : ℕ) (form : TwinForm) (named : TwinPlaces) (code : List Insn) (m : Marks) (uses : List Use) where
+  pub probe_in : IsCode b.code → IsTwinCode b first form named code m → NamesIds b first uses named → HasEdges b first form named code m uses
+  probe_in is_code is integers q id at p =
+      probe_found b first form named code m (image_place m.own) (land_place b first m.own) (lead_place b first m.own) uses is_code is integers q id at p
 
-pub one_probe : (b : Body) (first : ℕ) (form : TwinForm) (named : TwinPlaces) (code : List Insn) (m : Marks) → IsCode b.code
-    → IsTwinCode b first form named code m
-    → HasEachIdOnce code m b.arg_slots
-one_probe b first form named code m is_code is q r id at to p k =
-    probe_once b first form code m (image_place m.own) (land_place b first m.own) (lead_place b first m.own) named is_code is q r id at to p k
+  pub one_probe : IsCode b.code → IsTwinCode b first form named code m → NamesIds b first uses named → HasEachIdOnce uses code m b.arg_slots
+  one_probe is_code is integers q r id at to p k =
+      probe_once b first form named code m (image_place m.own) (land_place b first m.own) (lead_place b first m.own) uses is_code is integers q r id at to p k

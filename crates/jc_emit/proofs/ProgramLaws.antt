@@ -1,6 +1,7 @@
 -- Each body of the twin of a program passes the kind check.
 use Rattle.std.proofs.Common.{◌≡◌, inl, inr, ⊎_elim, ℕ, zero, suc, ◌+◌, List, [], ◌∷◌, map, Some, None, is_some, option_and_then, sym, ap, ◌∙◌, subst, if◌then◌else◌}
 use Rattle.std.specs.Prelude.{Contains}
+use Rattle.std.specs.Int.{w64, cast_signed}
 use Rattle.std.specs.List.{sum_by}
 use Rattle.jc_methods.specs.declared.body.Body.{Body}
 use Rattle.jc_methods.specs.declared.body.FrameAt.{FrameAt}
@@ -16,6 +17,9 @@ use Rattle.jc_kinds.specs.Fits.{FitsThere}
 use Rattle.jc_kinds.specs.Checked.{JumpsTo, LeadsTo, NeedsFrame, at_handler, Checked}
 use Rattle.jc_bytes.proofs.BooleanLaws.{which_in, none_in, first_in, later_in, in_map, of_map}
 use Rattle.jc_plan.specs.Probed.{probe_count}
+use Rattle.jc_methods.specs.declared.probe_members.Fetch.{Fetch}
+use Rattle.jc_methods.specs.ProbeMembers.{fetch_of}
+use Rattle.jc_emit.specs.Added.{giver_of}
 use Rattle.jc_emit.specs.Straddling.{NoneStraddles}
 use Rattle.jc_emit.specs.TwinProgram.{AreSameBodies, AreTwinBodies, IsPair, ArePairs, TwinProgram}
 use Rattle.jc_emit.proofs.InitLaws.{verified as init_verified}
@@ -92,26 +96,28 @@ module _ (names new_names : Names) where
       (λ later. same_bodies bodies others are.1 (λ y d. good y (later_in x bodies y d)) b later)
       (which_in o others b c)
 
-  twin_bodies : (owner : List ℕ) (first : ℕ) (bodies others : List Body) (added : Body) → AreTwinBodies names new_names owner first bodies others added
+  twin_bodies : (fetch : Fetch) (class : List ℕ) (bootstrap first : ℕ) (bodies others : List Body) (added : Body)
+      → AreTwinBodies names new_names fetch (giver_of fetch class bootstrap) first bodies others added
       → ((b : Body) → Contains bodies b → IsGood names b) → ((b : Body) → Contains bodies b → NoneStraddles b)
       → Checked new_names added → (b : Body) → Contains others b → Checked new_names b
-  twin_bodies owner first [] others added are good free last b c =
+  twin_bodies fetch class bootstrap first [] others added are good free last b c =
       ⊎_elim (λ here. subst (Checked new_names) here last) (λ later. absurd (none_in b later)) (which_in added ([]) b (subst (λ l. Contains l b) are c))
-  twin_bodies owner first (x ∷ bodies) [] added are good free last b c = absurd are
-  twin_bodies owner first (x ∷ bodies) (o ∷ others) added are good free last b c =
+  twin_bodies fetch class bootstrap first (x ∷ bodies) [] added are good free last b c = absurd are
+  twin_bodies fetch class bootstrap first (x ∷ bodies) (o ∷ others) added are good free last b c =
       ⊎_elim
       (λ here.
       let g = good x (first_in x bodies) in
-      subst (Checked new_names) here (verified names new_names are.0.states owner first x o g.0.of_any_size g.1 are.0.are (free x (first_in x bodies)) are.0.twin))
-      (λ later. twin_bodies owner (first + probe_count x) bodies others added are.1 (λ y d. good y (later_in x bodies y d)) (λ y d. free y (later_in x bodies y d)) last b later)
+      subst (Checked new_names) here (verified names new_names are.0.states fetch class bootstrap first x o g.0.of_any_size g.1 are.0.are (free x (first_in x bodies)) are.0.twin))
+      (λ later.
+      twin_bodies fetch class bootstrap (first + probe_count x) bodies others added are.1 (λ y d. good y (later_in x bodies y d)) (λ y d. free y (later_in x bodies y d)) last b later)
       (which_in o others b c)
 
   pair_checked : (class new : Linked) → IsPair names new_names class new → ((b : Body) → Contains class.bodies b → IsGood names b)
       → (b : Body) → Contains new.bodies b → Checked new_names b
   pair_checked class new (inl same) good b c = same_bodies class.bodies new.bodies same.bodies good b c
   pair_checked class new (inr changed) good b c =
-      twin_bodies class.name 0 class.bodies new.bodies changed.added changed.bodies good changed.none_straddles
-      (init_verified new_names class.name _ (sum_by probe_count class.bodies) changed.added changed.added_is) b c
+      twin_bodies (fetch_of class.version) class.name changed.bootstrap 0 class.bodies new.bodies changed.added changed.bodies good changed.none_straddles
+      (init_verified (fetch_of class.version) new_names class.name (cast_signed w64 changed.id) (sum_by probe_count class.bodies) changed.added changed.added_is) b c
 
   pairs_checked : (classes others : List Linked) → ArePairs names new_names classes others
       → ((c : Linked) → Contains classes c → (b : Body) → Contains c.bodies b → IsGood names b)

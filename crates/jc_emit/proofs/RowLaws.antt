@@ -2,7 +2,7 @@
 use Rattle.std.proofs.Common.{◌≡◌, ◌↔◌, ⊎_elim, ℕ, zero, suc, ◌+◌, ◌<◌, ◌≤◌, Bool, true, false, List, [], ◌∷◌, ◌++◌, length, Option, Some, None, refl, sym, ap, ◌∙◌, subst, arith, add-one, zero-add}
 use Rattle.std.specs.Prelude.{slice_get, ⊤}
 use Rattle.std.proofs.lemmas.Bool.{cases_lt}
-use Rattle.jc_bytes.specs.PlainLists.{total}
+use Rattle.jc_bytes.specs.PlainLists.{pieces, total}
 use Rattle.jc_methods.specs.Flow.{flow_of, jump_target}
 use Rattle.jc_methods.specs.Insn.{with_places}
 use Rattle.jc_methods.specs.WellMade.{IsCode, IsHandler}
@@ -10,17 +10,20 @@ use Rattle.jc_methods.specs.declared.insn.Insn.{Insn}
 use Rattle.jc_methods.specs.declared.insn.Flow.{Flow}
 use Rattle.jc_methods.specs.declared.body.Handler.{Handler}
 use Rattle.jc_methods.specs.declared.body.Body.{Body}
+use Rattle.jc_methods.specs.declared.probe_members.Fetch.{Fetch}
+use Rattle.jc_methods.specs.declared.probe_members.Fetch.TheVariants as fetches
 use Rattle.jc_plan.specs.declared.branch.Branch.{Branch}
 use Rattle.jc_plan.specs.Probed.{probe_of}
 use Rattle.jc_plan.specs.Plan.{lead_probe}
 use Rattle.jc_emit.specs.Sizes.{TwinForm, is_wide, insn_at, early_probe, late_probe, arms_at}
 use Rattle.jc_methods.specs.Widened.{inverted}
+use Rattle.jc_emit.specs.Marks.{prelude_size}
 use Rattle.jc_emit.specs.TwinCode.{to_of}
 use Rattle.jc_emit.specs.TwinTables.{moved_row}
-use Rattle.jc_emit.specs.Items.{Item, image, lead_part, early_part, hop_part, arm_parts, test_part, segment_size, lead_of, land_of, image_of, tests_part, image_part, segment, twin_items}
+use Rattle.jc_emit.specs.Items.{Item, image, prelude, lead_part, early_part, hop_part, arm_parts, test_part, segment_size, lead_of, land_of, image_of, tests_part, image_part, segment, twin_items}
 use Rattle.jc_emit.specs.Local.{OkRow, Holds}
 use Rattle.jc_emit.proofs.PiecesLaws.{Each, each_append, each_at, each_piece}
-use Rattle.jc_emit.proofs.BuiltLaws.{length-lead, length-early, sized}
+use Rattle.jc_emit.proofs.BuiltLaws.{length_prelude, length-lead, length-early, sized}
 use Rattle.jc_emit.proofs.LocalLaws.{land_lands}
 use Rattle.jc_methods.specs.declared.insn.Flow.TheVariants as flows
 
@@ -83,10 +86,16 @@ module _ (b : Body) (first : ℕ) (form : TwinForm) where
       (each_append At (land_of b first form i) (early_part (early_probe b first i) i) main (early_no (land_of b first form i) (early_probe b first i) i)
       (subst (λ k. Each At (land_of b first form i + k) main) (sym (length-early (early_probe b first i) i)) (main_places i (flow_of (insn_at b.code i))))))
 
+  prelude_no : (q : ℕ) (fetch : Fetch) → Each At q (prelude fetch)
+  prelude_no q fetches.Member = (tt, (tt, tt))
+  prelude_no q fetches.Constant = (tt, (tt, (tt, tt)))
+
   all_places : Each At 0 (twin_items b first form)
   unfolding twin_items
   all_places =
-      (tt, (tt, each_piece At (segment b first form) (segment_size b first form) (sized b first form) 2 (length b.code) (λ i lt. segment_places i)))
+      each_append At 0 (prelude form.fetch) (pieces (segment b first form) (length b.code)) (prelude_no 0 form.fetch)
+      (subst (λ k. Each At k (pieces (segment b first form) (length b.code))) (sym (zero-add (length (prelude form.fetch)) ∙ length_prelude form.fetch))
+      (each_piece At (segment b first form) (segment_size b first form) (sized b first form) (prelude_size form.fetch) (length b.code) (λ i lt. segment_places i)))
 
   -- the image of an instruction stands in its one place
   pub image_found : (q i : ℕ) (insn : Insn) (early : Option ℕ) → slice_get (twin_items b first form) q ≡ Some (image insn i early)
@@ -97,7 +106,8 @@ module _ (b : Body) (first : ℕ) (form : TwinForm) where
 
   before_lead : (i j : ℕ) → i < j → image_of b first form i < lead_of b first form j
   before_lead i j lt =
-      let next : lead_of b first form (i + 1) ≡ lead_of b first form i + segment_size b first form i = ap (λ k. 2 + total (segment_size b first form) k) (add-one i) ∙ omega arith in
+      let next : lead_of b first form (i + 1) ≡ lead_of b first form i + segment_size b first form i =
+      ap (λ k. prelude_size form.fetch + total (segment_size b first form) k) (add-one i) ∙ omega arith in
       let far = total_grows (segment_size b first form) (i + 1) j (omega arith) in
       omega (arith, next, far)
 

@@ -1,17 +1,23 @@
 -- The bodies of a program are seen beside those of its twin.
-use Rattle.std.proofs.Common.{◌≡◌, ◌⊎◌, inl, inr, ⊎_elim, ℕ, zero, suc, ◌+◌, ◌≤◌, List, [], ◌∷◌, take, length, Some, refl, sym, ap, ◌∙◌, subst, arith}
+use Rattle.std.proofs.Common.{◌≡◌, ◌⊎◌, inl, inr, ⊎_elim, ℕ, ℤ, zero, suc, ◌+◌, ◌≤◌, List, [], ◌∷◌, take, length, Some, refl, sym, ap, ◌∙◌, subst, arith}
 use Rattle.std.specs.Prelude.{slice_get, Contains}
+use Rattle.std.specs.Int.{w64, cast_signed}
 use Rattle.std.specs.List.{sum_by}
 use Rattle.std.proofs.lemmas.List.Sums.{sum_by-cons, sum_by-take-le}
 use Rattle.std.proofs.lemmas.Option.{same_Some}
 use Rattle.jc_methods.specs.VerificationTypes.{Names}
 use Rattle.jc_methods.specs.WellMade.{IsWellMadeOfAnySize}
+use Rattle.jc_methods.specs.ProbeMembers.{fetch_of}
 use Rattle.jc_methods.specs.declared.body.Body.{Body}
+use Rattle.jc_methods.specs.declared.body.What.{What}
+use Rattle.jc_methods.specs.declared.probe_members.Fetch.{Fetch}
+use Rattle.jc_methods.specs.declared.probe_members.Fetch.TheVariants as fetches
 use Rattle.jc_programs.specs.declared.program.Linked.{Linked}
 use Rattle.jc_programs.specs.declared.program.Program.{Program}
 use Rattle.jc_bytes.proofs.BooleanLaws.{which_in, none_in, first_in, later_in, stands_in}
 use Rattle.jc_plan.specs.Probed.{probe_count, first_id}
 use Rattle.jc_plan.proofs.OneWayLaws.{firsts_rise}
+use Rattle.jc_emit.specs.Added.{IsAddedBody, giver_of}
 use Rattle.jc_emit.specs.Marks.{Marks}
 use Rattle.jc_emit.specs.Seen.{unchanged_marks}
 use Rattle.jc_emit.specs.SeenProgram.{IsSeenTwin, IsSeenSame, IsSeenAt}
@@ -86,35 +92,39 @@ module _ (Has : ℕ → Body → Body → Type 0) (count : Body → ℕ) where
       omega (arith, sum_by-cons count x (take number bodies)) in
       (more.0, more.1, subst (λ k. Has k b more.0) sum more.2)
 
-twins_each : (names new_names : Names) (owner : List ℕ) (first : ℕ) (bodies others : List Body) (added : Body)
-    → AreTwinBodies names new_names owner first bodies others added
-    → Each (HasTwinBody names new_names owner) probe_count first bodies others added
-twins_each names new_names owner first [] others added are = are
-twins_each names new_names owner first (x ∷ bodies) [] added are = absurd are
-twins_each names new_names owner first (x ∷ bodies) (o ∷ others) added are =
-    (are.0, twins_each names new_names owner (first + probe_count x) bodies others added are.1)
+twins_each : (names new_names : Names) (fetch : Fetch) (giver : What) (first : ℕ) (bodies others : List Body) (added : Body)
+    → AreTwinBodies names new_names fetch giver first bodies others added
+    → Each (HasTwinBody names new_names fetch giver) probe_count first bodies others added
+twins_each names new_names fetch giver first [] others added are = are
+twins_each names new_names fetch giver first (x ∷ bodies) [] added are = absurd are
+twins_each names new_names fetch giver first (x ∷ bodies) (o ∷ others) added are =
+    (are.0, twins_each names new_names fetch giver (first + probe_count x) bodies others added are.1)
 
 -- the first id that is told one body after the other is that of the bodies in front
-twin_at : (names new_names : Names) (owner : List ℕ) (first : ℕ) (bodies others : List Body) (added : Body)
-    → AreTwinBodies names new_names owner first bodies others added
+twin_at : (names new_names : Names) (fetch : Fetch) (giver : What) (first : ℕ) (bodies others : List Body) (added : Body)
+    → AreTwinBodies names new_names fetch giver first bodies others added
     → (number : ℕ) (b : Body) → slice_get bodies number ≡ Some b
-    → (b' : Body) × (slice_get others number ≡ Some b') × HasTwinBody names new_names owner (first + first_id bodies number) b b'
-twin_at names new_names owner first bodies others added are number b h =
-    each_at (HasTwinBody names new_names owner) probe_count first bodies others added (twins_each names new_names owner first bodies others added are) number b h
+    → (b' : Body) × (slice_get others number ≡ Some b') × HasTwinBody names new_names fetch giver (first + first_id bodies number) b b'
+twin_at names new_names fetch giver first bodies others added are number b h =
+    each_at (HasTwinBody names new_names fetch giver) probe_count first bodies others added (twins_each names new_names fetch giver first bodies others added are) number b h
 
 -- behind the twins stands one body more
-added_at : (names new_names : Names) (owner : List ℕ) (first : ℕ) (bodies others : List Body) (added : Body)
-    → AreTwinBodies names new_names owner first bodies others added
+added_at : (names new_names : Names) (fetch : Fetch) (giver : What) (first : ℕ) (bodies others : List Body) (added : Body)
+    → AreTwinBodies names new_names fetch giver first bodies others added
     → (slice_get others (length bodies) ≡ Some added) × (length others ≡ length bodies + 1)
-added_at names new_names owner first [] others added are = (ap (λ (l : List Body). slice_get l 0) are, ap length are)
-added_at names new_names owner first (x ∷ bodies) [] added are = absurd are
-added_at names new_names owner first (x ∷ bodies) (o ∷ others) added are =
-    let more = added_at names new_names owner (first + probe_count x) bodies others added are.1 in
+added_at names new_names fetch giver first [] others added are = (ap (λ (l : List Body). slice_get l 0) are, ap length are)
+added_at names new_names fetch giver first (x ∷ bodies) [] added are = absurd are
+added_at names new_names fetch giver first (x ∷ bodies) (o ∷ others) added are =
+    let more = added_at names new_names fetch giver (first + probe_count x) bodies others added are.1 in
     (more.0, omega (arith, more.1))
+
+-- what gives the bodies of a class their array, where the bootstrap method has this number
+abbrev giver_in : Linked → (bootstrap : ℕ) → What
+giver_in class bootstrap = giver_of (fetch_of class.version) class.name bootstrap
 
 pub added_last : (names new_names : Names) (class new : Linked) → (pair : IsChangedPair names new_names class new)
     → (slice_get new.bodies (length class.bodies) ≡ Some pair.added) × (length new.bodies ≡ length class.bodies + 1)
-added_last names new_names class new pair = added_at names new_names class.name 0 class.bodies new.bodies pair.added pair.bodies
+added_last names new_names class new pair = added_at names new_names (fetch_of class.version) (giver_in class pair.bootstrap) 0 class.bodies new.bodies pair.added pair.bodies
 
 -- ---- the bodies of a program
 
@@ -149,9 +159,9 @@ module _ (p p' : Program) (t : TwinProgram p p') where
             },
           )
       by new at (inr pair) =
-          let twin = twin_at p.names p'.names class.name 0 class.bodies new.bodies pair.added pair.bodies number b k in
+          let twin = twin_at p.names p'.names (fetch_of class.version) (giver_in class pair.bootstrap) 0 class.bodies new.bodies pair.added pair.bodies number b k in
           let first : 0 + first_id class.bodies number ≡ first_id class.bodies number = omega arith in
-          let has = subst (λ n. HasTwinBody p.names p'.names class.name n b twin.0) first twin.2 in (
+          let has = subst (λ n. HasTwinBody p.names p'.names (fetch_of class.version) (giver_in class pair.bootstrap) n b twin.0) first twin.2 in (
             new,
             twin.0,
             has.twin.marks,
@@ -160,7 +170,12 @@ module _ (p p' : Program) (t : TwinProgram p p') where
               new_at = at;
               body_at = k;
               new_body_at = twin.1;
-              seen = inl (record { pair = pair; twin = has; marks = refl; seen = seen p.names p'.names has.states class.name (first_id class.bodies number) b twin.0 well has.twin });
+              seen = inl (record {
+                pair = pair;
+                twin = has;
+                marks = refl;
+                seen = seen p.names p'.names has.states (fetch_of class.version) (giver_in class pair.bootstrap) (first_id class.bodies number) b twin.0 well has.twin;
+              });
             },
           )
 
@@ -173,9 +188,9 @@ module _ (p p' : Program) (t : TwinProgram p p') where
       → IsSeenTwin p.names p'.names class new number b b' m ⊎ IsSeenSame p.names p'.names class new b b' m
       → IsSeenTwin p.names p'.names class new number b b' n ⊎ IsSeenSame p.names p'.names class new b b' n → m ≡ n
   marks_alike number class new b b' m n well (inl x) (inl y) =
-      one_marks (first_id class.bodies number) b b' m n well
-      (record { names = p.names; new_names = p'.names; states = x.twin.states; owner = class.name; twin = x.twin.twin; marks = x.marks })
-      (record { names = p.names; new_names = p'.names; states = y.twin.states; owner = class.name; twin = y.twin.twin; marks = y.marks })
+      one_marks (fetch_of class.version) (first_id class.bodies number) b b' m n well
+      (record { names = p.names; new_names = p'.names; states = x.twin.states; giver = giver_in class x.pair.bootstrap; twin = x.twin.twin; marks = x.marks })
+      (record { names = p.names; new_names = p'.names; states = y.twin.states; giver = giver_in class y.pair.bootstrap; twin = y.twin.twin; marks = y.marks })
   marks_alike number class new b b' m n well (inl x) (inr y) = absurd (not_both class new x.pair y.pair)
   marks_alike number class new b b' m n well (inr x) (inl y) = absurd (not_both class new y.pair x.pair)
   marks_alike number class new b b' m n well (inr x) (inr y) = x.marks ∙ sym y.marks
@@ -217,24 +232,29 @@ owned_same names new_names name (x ∷ bodies) (o ∷ others) are owned b c =
     (λ later. owned_same names new_names name bodies others are.1 (λ y d. owned y (later_in x bodies y d)) b later)
     (which_in o others b c)
 
-owned_twins : (names new_names : Names) (name : List ℕ) (first : ℕ) (bodies others : List Body) (added : Body)
-    → AreTwinBodies names new_names name first bodies others added → ((b : Body) → Contains bodies b → b.owner ≡ name) → added.owner ≡ name
+owned_twins : (names new_names : Names) (fetch : Fetch) (giver : What) (name : List ℕ) (first : ℕ) (bodies others : List Body) (added : Body)
+    → AreTwinBodies names new_names fetch giver first bodies others added → ((b : Body) → Contains bodies b → b.owner ≡ name) → added.owner ≡ name
     → (b : Body) → Contains others b → b.owner ≡ name
-owned_twins names new_names name first [] others added are owned last b c =
+owned_twins names new_names fetch giver name first [] others added are owned last b c =
     ⊎_elim (λ here. ap (λ (y : Body). y.owner) (sym here) ∙ last) (λ later. absurd (none_in b later)) (which_in added ([]) b (subst (λ l. Contains l b) are c))
-owned_twins names new_names name first (x ∷ bodies) [] added are owned last b c = absurd are
-owned_twins names new_names name first (x ∷ bodies) (o ∷ others) added are owned last b c =
+owned_twins names new_names fetch giver name first (x ∷ bodies) [] added are owned last b c = absurd are
+owned_twins names new_names fetch giver name first (x ∷ bodies) (o ∷ others) added are owned last b c =
     ⊎_elim
     (λ here. ap (λ (y : Body). y.owner) (sym here) ∙ are.0.twin.method.owner ∙ owned x (first_in x bodies))
-    (λ later. owned_twins names new_names name (first + probe_count x) bodies others added are.1 (λ y d. owned y (later_in x bodies y d)) last b later)
+    (λ later. owned_twins names new_names fetch giver name (first + probe_count x) bodies others added are.1 (λ y d. owned y (later_in x bodies y d)) last b later)
     (which_in o others b c)
+
+added_owned : (fetch : Fetch) (names : Names) (class : List ℕ) (id : ℤ) (count : ℕ) (b : Body) → IsAddedBody fetch names class id count b → b.owner ≡ class
+added_owned fetches.Member names class id count b is = is.method.owner
+added_owned fetches.Constant names class id count b is = is.method.owner
 
 owned_pair : (names new_names : Names) (class new : Linked) → IsPair names new_names class new
     → ((b : Body) → Contains class.bodies b → b.owner ≡ class.name) → (b : Body) → Contains new.bodies b → b.owner ≡ new.name
 owned_pair names new_names class new (inl pair) owned b c =
     owned_same names new_names class.name class.bodies new.bodies pair.bodies owned b c ∙ sym pair.name
 owned_pair names new_names class new (inr pair) owned b c =
-    owned_twins names new_names class.name 0 class.bodies new.bodies pair.added pair.bodies owned pair.added_is.owner b c ∙ sym pair.name
+    owned_twins names new_names (fetch_of class.version) (giver_in class pair.bootstrap) class.name 0 class.bodies new.bodies pair.added pair.bodies owned
+    (added_owned (fetch_of class.version) new_names class.name (cast_signed w64 pair.id) (sum_by probe_count class.bodies) pair.added pair.added_is) b c ∙ sym pair.name
 
 owned_pairs : (names new_names : Names) (classes others : List Linked) → ArePairs names new_names classes others → AreOwned classes → AreOwned others
 owned_pairs names new_names [] [] are owned c d b e = absurd (none_in c d)

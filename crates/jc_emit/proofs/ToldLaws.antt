@@ -1,5 +1,5 @@
 -- The twin that the function gives is as the sentences say.
-use Rattle.std.proofs.Common.{◌≡◌, ℕ, ◌+◌, ◌<◌, Bool, true, false, List, [], ◌∷◌, ◌++◌, map, length, Option, Some, None, refl, sym, ap, ◌∙◌, subst, arith, add-one}
+use Rattle.std.proofs.Common.{◌≡◌, ℕ, ◌+◌, ◌<◌, Bool, true, false, List, [], ◌∷◌, ◌++◌, map, length, Option, Some, None, sym, ap, ◌∙◌, subst, arith, add-one}
 use Rattle.std.specs.Prelude.{slice_get, option_map}
 use Rattle.std.proofs.lemmas.List.{length-map}
 use Rattle.std.proofs.lemmas.Option.{slice_get-map}
@@ -12,11 +12,13 @@ use Rattle.jc_methods.specs.declared.body.Body.{Body}
 use Rattle.jc_plan.specs.declared.branch.Branch.{Branch}
 use Rattle.jc_plan.specs.Probed.{probe_of}
 use Rattle.jc_plan.specs.Plan.{lead_probe}
+use Rattle.jc_methods.specs.declared.probe_members.Fetch.{Fetch}
+use Rattle.jc_methods.specs.declared.probe_members.Fetch.TheVariants as fetches
 use Rattle.jc_emit.specs.Sizes.{TwinForm, is_wide, insn_at, early_probe, late_probe, arms_at, hop_size, wide_by, wide_size}
-use Rattle.jc_emit.specs.Marks.{TwinPlaces, Marks, HasInsn, IsProbe, iconst_1, bastore, prelude_size}
+use Rattle.jc_emit.specs.Marks.{TwinPlaces, Marks, HasInsn, IsProbe, iconst_1, bastore, prelude_insns, prelude_size}
 use Rattle.jc_methods.specs.Widened.{goto, inverted}
-use Rattle.jc_emit.specs.TwinCode.{to_of, Prelude, Images, Places, Jumps, Switches, Lengths, HasTest, HasProbe, HasHop, HasArm, HasArms}
-use Rattle.jc_emit.specs.Items.{Item, marks_of_items, image, hop, insn_of, at_of, own_of, extra_of, probe, lead_part, early_part, hop_part, arm_parts, test_part, segment_size, lead_of, land_of, image_of, tests_part, image_part, twin_items, probe_array, probe_id, probe_one, probe_store, start}
+use Rattle.jc_emit.specs.TwinCode.{to_of, Prelude, HasPrelude, Images, Places, Jumps, Switches, Lengths, HasTest, HasProbe, HasHop, HasArm, HasArms}
+use Rattle.jc_emit.specs.Items.{Item, marks_of_items, prelude, image, hop, insn_of, at_of, own_of, extra_of, probe, lead_part, early_part, hop_part, arm_parts, test_part, segment_size, lead_of, land_of, image_of, tests_part, image_part, twin_items, probe_array, probe_id, probe_one, probe_store, start}
 use Rattle.jc_emit.proofs.PiecesLaws.{HasAt, has_front, has_back}
 use Rattle.jc_emit.proofs.ImagesLaws.{trues_counted}
 use Rattle.jc_emit.proofs.BuiltLaws.{length-lead, length-early, length-hop, length-test, own_twin, segment_at, prelude_at}
@@ -60,7 +62,7 @@ module _ (b : Body) (first : ℕ) (form : TwinForm) (named : TwinPlaces) where
   stands : (q : ℕ) (x : Item) → slice_get items q ≡ Some x → HasInsn code m q (insn_of named b.arg_slots x) (at_of x) (own_of x) (extra_of x)
   stands q x h = item_stands named b.arg_slots items q x h
 
-  probe_stands : (q id at : ℕ) (late : Bool) → HasAt items q (probe id at late) → IsProbe code m b.arg_slots q id at
+  probe_stands : (q id at : ℕ) (late : Bool) → HasAt items q (probe id at late) → IsProbe code m named.integer b.arg_slots q id at
   probe_stands q id at late h =
       let two : q + 1 + 1 ≡ q + 2 = omega arith in
       let three : q + 1 + 1 + 1 ≡ q + 3 = omega arith in
@@ -98,7 +100,7 @@ module _ (b : Body) (first : ℕ) (form : TwinForm) (named : TwinPlaces) where
 
   test_stands : (w : Bool) (i : ℕ) (insn : Insn) (on : ℕ) (due : Option ℕ)
       → HasAt items (image_at i) (test_part w (image_at i) insn i on due)
-      → HasTest b first form code m image_at land lead w i insn on
+      → HasTest b first form named code m image_at land lead w i insn on
   test_stands false i insn on due h = stands (image_at i) (image insn i None) h.0
   test_stands true i insn on due h =
       (stands (image_at i) (image (inverted (image_at i + 2) insn) i None) h.0, stands (image_at i + 1) (hop (jump_target insn) on due) h.1.0)
@@ -126,7 +128,7 @@ module _ (b : Body) (first : ℕ) (form : TwinForm) (named : TwinPlaces) where
 
   -- a probe and a goto behind it
   hop_stands : (q id to : ℕ) → HasAt items q (hop_part land (Some id) to)
-      → HasProbe b first form code m image_at land lead q id to × HasHop b first form code m image_at land lead (q + 4) to
+      → HasProbe b first form named code m image_at land lead q id to × HasHop b first form named code m image_at land lead (q + 4) to
   hop_stands q id to h =
       let four : q + 1 + 1 + 1 + 1 ≡ q + 4 = omega arith in (
         probe_stands q id to true (has_front items q (probe id to true) (hop (land to) to None ∷ []) h),
@@ -135,12 +137,12 @@ module _ (b : Body) (first : ℕ) (form : TwinForm) (named : TwinPlaces) where
 
   -- ---- switches
 
-  arm_stands : (q to : ℕ) (o : Option ℕ) → HasAt items q (hop_part land o to) → HasArm b first form code m image_at land lead q to o
+  arm_stands : (q to : ℕ) (o : Option ℕ) → HasAt items q (hop_part land o to) → HasArm b first form named code m image_at land lead q to o
   arm_stands q to None h = tt
   arm_stands q to (Some id) h = hop_stands q id to h
 
   arms_stand : (q : ℕ) (xs : List Branch) → HasAt items q (arm_parts land (probe_of b first) xs)
-      → HasArms b first form code m image_at land lead q xs
+      → HasArms b first form named code m image_at land lead q xs
   arms_stand q [] h = tt
   arms_stand q (x ∷ xs) h =
       let part = hop_part land (probe_of b first x) (to_of x) in (
@@ -151,19 +153,25 @@ module _ (b : Body) (first : ℕ) (form : TwinForm) (named : TwinPlaces) where
 
   -- ---- the sentences
 
-  pub lengths_told : Lengths b first form code m image_at land lead
+  pub lengths_told : Lengths b first form named code m image_at land lead
   lengths_told = record {
     at_length = length-map items at_of ∙ sym (length-map items (insn_of named b.arg_slots));
     own_length = length-map items own_of ∙ sym (length-map items (insn_of named b.arg_slots));
     extra_length = length-map items extra_of ∙ sym (length-map items (insn_of named b.arg_slots));
   }
 
-  pub prelude_told : Prelude b first form code m image_at land lead named
-  prelude_told = record {
-    first_insns = (stands 0 (start 0) (prelude_at b first form).0, (stands 1 (start 1) (prelude_at b first form).1.0, tt));
-  }
+  prelude_stands : (fetch : Fetch) → HasAt items 0 (prelude fetch)
+      → HasPrelude b first form named code m image_at land lead 0 (prelude_insns fetch named b.arg_slots)
+  prelude_stands fetches.Member h = (stands 0 (start fetches.Member 0) h.0, (stands 1 (start fetches.Member 1) h.1.0, tt))
+  prelude_stands fetches.Constant h = (
+    stands 0 (start fetches.Constant 0) h.0,
+    (stands 1 (start fetches.Constant 1) h.1.0, (stands 2 (start fetches.Constant 2) h.1.1.0, tt)),
+  )
 
-  pub images_told : Images b first form code m image_at land lead
+  pub prelude_told : Prelude b first form named code m image_at land lead
+  prelude_told = record { first_insns = prelude_stands form.fetch (prelude_at b first form) }
+
+  pub images_told : Images b first form named code m image_at land lead
   images_told = record {
     single = trues_counted (map own_of items) ∙ own_twin b first form;
     plain = λ i f. stands (image_at i) _ (main_by i flows.GoesOn f.0 f.1).0;
@@ -171,15 +179,15 @@ module _ (b : Body) (first : ℕ) (form : TwinForm) (named : TwinPlaces) where
     throws = λ i f. stands (image_at i) _ (main_by i flows.Throws f.0 f.1).0;
   }
 
-  pub places_told : Places b first form code m image_at land lead
+  pub places_told : Places b first form named code m image_at land lead
   places_told = record {
     early = λ i id lt e. probe_stands (land i) id i false (subst (λ o. HasAt items (land i) (early_part o i)) e (early_at i lt));
     leads = λ i id lt e. probe_stands (lead i) id i true (subst (λ o. HasAt items (lead i) (lead_part o i)) e (lead_at i lt));
-    first_place = refl;
-    next_place = λ i lt. ap (λ k. prelude_size + total (segment_size b first form) k) (add-one i) ∙ omega arith;
+    first_place = omega arith;
+    next_place = λ i lt. ap (λ k. prelude_size form.fetch + total (segment_size b first form) k) (add-one i) ∙ omega arith;
   }
 
-  pub jumps_told : Jumps b first form code m image_at land lead
+  pub jumps_told : Jumps b first form named code m image_at land lead
   jumps_told = record {
     gotos = λ i f. stands (image_at i) _ (main_by i flows.Jumps f.0 f.1).0;
     tests = λ i f none. test_stands (is_wide form i) i (with_places land (old i)) (jump_target (old i)) None (plain_test i f.0 f.1 none);
@@ -189,7 +197,7 @@ module _ (b : Body) (first : ℕ) (form : TwinForm) (named : TwinPlaces) where
     hops = λ i id f some. (hop_stands (image_at i + 1 + wide_size b form i) id (jump_target (old i)) (hop_at i id f.0 f.1 some)).1;
   }
 
-  pub switches_told : Switches b first form code m image_at land lead
+  pub switches_told : Switches b first form named code m image_at land lead
   switches_told = record {
     images = λ i f. stands (image_at i) _ (main_by i flows.Switches f.0 f.1).0;
     arms = λ i f. arms_stand (image_at i + 1) (arms_at b.code i) (main_by i flows.Switches f.0 f.1).1;

@@ -25,14 +25,17 @@ use Rattle.jc_emit.specs.Sizes.{TwinForm}
 use Rattle.jc_emit.specs.Straddling.{NoneStraddles}
 use Rattle.jc_emit.specs.TwinTables.{moved_row}
 use Rattle.jc_emit.specs.TwinFrames.{state_at}
+use Rattle.jc_methods.specs.declared.probe_members.Fetch.{Fetch}
+use Rattle.jc_emit.specs.Added.{giver_of}
 use Rattle.jc_emit.specs.Twin.{Twin}
 use Rattle.jc_emit.specs.Marks.{TwinPlaces, prelude_size}
-use Rattle.jc_emit.specs.Items.{start, insn_of, segment, lead_of, land_of, image_of}
+use Rattle.jc_emit.specs.Items.{start, segment, lead_of, land_of, image_of}
 use Rattle.jc_emit.proofs.PiecesLaws.{each_at}
-use Rattle.jc_emit.proofs.BuiltLaws.{sized, prelude_at}
-use Rattle.jc_emit.proofs.TwinPremisesLaws.{Premises, premises, stands, code_long, asked_has, leads_grow, same_use}
+use Rattle.jc_emit.proofs.BuiltLaws.{sized}
+use Rattle.jc_emit.proofs.PlacedLaws.{no_targets}
+use Rattle.jc_emit.proofs.TwinPremisesLaws.{Premises, premises, code_long, asked_has, leads_grow, same_use}
 use Rattle.jc_emit.proofs.TwinPlacesLaws.{state_b}
-use Rattle.jc_emit.proofs.TwinStatesLaws.{there_fit, fit_there, after_there, all_fit_on, state_0, state_1, after_0, after_1, E_array}
+use Rattle.jc_emit.proofs.TwinStatesLaws.{there_fit, fit_there, after_there, all_fit_on, Begun, IsBegun, all_begun, state_0}
 use Rattle.jc_emit.proofs.TwinLeadsLaws.{framed, landing_frame, all_led, all_landed}
 use Rattle.jc_emit.proofs.TwinSoundLaws.{Sound, Near, Fine, segment_fine}
 
@@ -55,42 +58,49 @@ module _ (names new_names : Names) (states : List State) (first : ℕ) (form : T
   abbrev SoundAt : ℕ → Type 0
   SoundAt q = Sound names new_names states first form named b b' p q
 
-  -- the state behind the call
-  abbrev E1 : TypeState
-  E1 = E_array names new_names states first form named b b' p
-
   -- ---- the prelude
 
-  call_sound : SoundAt 0
-  call_sound = record {
-    insn = insn_of named b.arg_slots (start 0);
-    stands = stands names new_names states first form named b b' p 0 (start 0) (prelude_at b first form).0;
-    before = entry_of b';
-    state_is = state_0 names new_names states first form named b b' p;
-    after = E1;
-    after_is = after_0 names new_names states first form named b b' p;
-    next = λ falls. fit_there (N 1) E1 E1 (state_1 names new_names states first form named b b' p) (state_itself E1);
-    stops = λ halts. absurd (halts (inl refl));
-    jumps = λ r c. absurd (none_in r c);
+  abbrev At : ℕ → TypeState → Type 0
+  At k after = Begun names new_names states first form named b b' p k after
+
+  -- an instruction that goes on, where its state fits what stands behind it
+  begun_sound : (k : ℕ) (after : TypeState) → At k after → FitsThere (Some after) (N (k + 1)) → SoundAt k
+  begun_sound k after g fits = record {
+    insn = g.insn;
+    stands = g.stands;
+    before = g.before;
+    state_is = g.state_is;
+    after = after;
+    after_is = g.after_is;
+    next = λ falls. fits;
+    stops = λ halts. absurd (halts (inl g.goes_on));
+    jumps = λ r c. absurd (none_in r (subst (λ l. Contains l r) (no_targets g.insn (inl g.goes_on)) c));
   }
 
-  store_sound : SoundAt 1
-  store_sound =
-      let some = p.well.code.some in
-      let l = all_led names new_names states first form named b b' p 0 (omega (arith, some)) in
-      let first_lead : lead 0 ≡ prelude_size = omega arith in
-      record {
-        insn = insn_of named b.arg_slots (start 1);
-        stands = stands names new_names states first form named b b' p 1 (start 1) (prelude_at b first form).1.0;
-        before = E1;
-        state_is = state_1 names new_names states first form named b b' p;
-        after = moved (entry_of b);
-        after_is = after_1 names new_names states first form named b b' p;
-        next = λ falls. fit_there (N prelude_size) (moved (entry_of b)) (moved l.before) (ap N (sym first_lead) ∙ l.state_is)
-            (fits_shift (image_of b first form) b.arg_slots (entry_of b) l.before (l.begins refl));
-        stops = λ halts. absurd (halts (inl refl));
-        jumps = λ r c. absurd (none_in r c);
-      }
+  begun : IsBegun names new_names states first form named b b' p form.fetch
+  begun = all_begun names new_names states first form named b b' p
+
+  prelude_sound : (k : ℕ) → k < prelude_size form.fetch → SoundAt k
+  prelude_sound k lt =
+      let size = begun.size in
+      ⊎_elim
+      (λ below.
+      let g = begun.others k below in
+      begun_sound k g.0 g.1 (subst (λ q. FitsThere (Some g.0) (N q)) (sym (add-one k)) (fit_there (N (suc k)) g.0 g.0 g.2 (state_itself g.0))))
+      (λ above.
+      let last : begun.last ≡ k = omega (arith, size, above, lt) in
+      subst SoundAt last (begun_sound begun.last (moved (entry_of b)) begun.store store_fits))
+      (cases_lt k begun.last)
+    where
+      store_fits : FitsThere (Some (moved (entry_of b))) (N (begun.last + 1))
+      store_fits =
+          let some = p.well.code.some in
+          let l = all_led names new_names states first form named b b' p 0 (omega (arith, some)) in
+          let size = begun.size in
+          let first_lead : lead 0 ≡ begun.last + 1 = omega (arith, size) in
+          subst (λ q. FitsThere (Some (moved (entry_of b))) (N q)) first_lead
+          (fit_there (N (lead 0)) (moved (entry_of b)) (moved l.before) l.state_is
+          (fits_shift (image_of b first form) b.arg_slots (entry_of b) l.before (l.begins refl)))
 
   -- ---- each place belongs to an instruction
 
@@ -100,7 +110,7 @@ module _ (names new_names : Names) (states : List State) (first : ℕ) (form : T
     low : lead owner ≤ q
     high : q < lead (suc owner)
 
-  piece_of : (n q : ℕ) → n ≤ length b.code → prelude_size ≤ q → q < lead n → Piece q
+  piece_of : (n q : ℕ) → n ≤ length b.code → prelude_size form.fetch ≤ q → q < lead n → Piece q
   piece_of zero q le low high = absurd (omega (arith, low, high))
   piece_of (suc n) q le low high =
       ⊎_elim (λ lt. piece_of n q (omega (arith, le)) low lt)
@@ -114,7 +124,7 @@ module _ (names new_names : Names) (states : List State) (first : ℕ) (form : T
       let long = sized b first form i in
       let within : k < length (segment b first form i) = omega (arith, low, high, long) in
       let place : lead i + k ≡ q = omega (arith, low) in
-      let found = slice_get-get_or (segment b first form i) k (start 0) within in
+      let found = slice_get-get_or (segment b first form i) k (start form.fetch 0) within in
       subst (λ m. (w : SoundAt m) × Near names new_names states first form named b b' p i w.before) place
       (each_at (Fine names new_names states first form named b b' p i) (lead i) (segment b first form i) k _ (segment_fine names new_names states first form named b b' p i lt) found)
 
@@ -122,12 +132,13 @@ module _ (names new_names : Names) (states : List State) (first : ℕ) (form : T
   long = code_long names new_names states first form named b b' p
 
   sound : (q : ℕ) → q < length b'.code → SoundAt q
-  sound zero lt = call_sound
-  sound (suc zero) lt = store_sound
-  sound (suc (suc q)) lt =
+  sound q lt =
+      ⊎_elim (λ front. prelude_sound q front)
+      (λ past.
       let l = long in
-      let piece = piece_of (length b.code) (suc (suc q)) (omega arith) (omega arith) (omega (arith, lt, l)) in
-      (near_piece (suc (suc q)) piece.owner piece.within piece.low piece.high).0
+      let piece = piece_of (length b.code) q (omega arith) past (omega (arith, lt, l)) in
+      (near_piece q piece.owner piece.within piece.low piece.high).0)
+      (cases_lt q (prelude_size form.fetch))
 
   -- ---- handlers
 
@@ -249,8 +260,8 @@ module _ (names new_names : Names) (states : List State) (first : ℕ) (form : T
     handlers = handled;
   }
 
-pub verified : (names new_names : List (List ℕ)) (states : List State) (owner : List ℕ) (first : ℕ) (b b' : Body) → IsWellMadeOfAnySize b → Checked names b
-    → AreStates names b states → NoneStraddles b
-    → Twin names new_names states owner first b b' → Checked new_names b'
-verified names new_names states owner first b b' well checked are free t =
-    twin_checked names new_names states first t.form t.places b b' (premises names new_names states owner first b b' well checked are free t)
+pub verified : (names new_names : List (List ℕ)) (states : List State) (fetch : Fetch) (class : List ℕ) (bootstrap first : ℕ) (b b' : Body)
+    → IsWellMadeOfAnySize b → Checked names b → AreStates names b states → NoneStraddles b
+    → Twin names new_names states fetch (giver_of fetch class bootstrap) first b b' → Checked new_names b'
+verified names new_names states fetch class bootstrap first b b' well checked are free t =
+    twin_checked names new_names states first t.form t.places b b' (premises names new_names states fetch class bootstrap first b b' well checked are free t)

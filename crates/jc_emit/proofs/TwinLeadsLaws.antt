@@ -25,16 +25,16 @@ use Rattle.jc_plan.specs.Entries.{is_multi_target, is_invocation_line}
 use Rattle.jc_plan.specs.Probed.{id_if, probes_before}
 use Rattle.jc_plan.specs.Plan.{lead_probe}
 use Rattle.jc_emit.specs.Sizes.{TwinForm, is_wide, early_probe, late_probe, probe_size, wide_by}
-use Rattle.jc_emit.specs.Marks.{TwinPlaces, astore, prelude_size}
+use Rattle.jc_emit.specs.Marks.{TwinPlaces, prelude_size}
 use Rattle.jc_emit.specs.TwinFrames.{state_at, state_behind, IsFrame}
-use Rattle.jc_emit.specs.Items.{Item, start, image, probe_store, insn_of, test_part, lead_part, early_part, lead_of, land_of, image_of, twin_items}
+use Rattle.jc_emit.specs.Items.{Item, image, probe_store, insn_of, test_part, lead_part, early_part, lead_of, land_of, image_of, twin_items}
 use Rattle.jc_emit.proofs.PiecesLaws.{HasAt}
-use Rattle.jc_emit.proofs.BuiltLaws.{size_is, prelude_at}
+use Rattle.jc_emit.proofs.BuiltLaws.{size_is}
 use Rattle.jc_emit.proofs.ToldLaws.{lead_at, early_at, main_at, main_by, plain_test}
 use Rattle.jc_emit.proofs.LocalLaws.{test_is, early_image}
 use Rattle.jc_emit.proofs.TwinPremisesLaws.{Premises, stands, asked_frame, frame_asked, old_at}
 use Rattle.jc_emit.proofs.TwinPlacesLaws.{state_b, no_frame, narrow, behind, tests_size, asked_front}
-use Rattle.jc_emit.proofs.TwinStatesLaws.{first_state, with_one, fit_length, frame_state_is, next_state, there_fit, after_b, A, after_at_b, image_after, S_low, A_low, S_long, next_is, probe_runs, after_1, state_1, E_array}
+use Rattle.jc_emit.proofs.TwinStatesLaws.{first_state, with_one, fit_length, frame_state_is, next_state, there_fit, after_b, A, after_at_b, image_after, S_low, A_low, S_long, next_is, probe_runs, IsBegun, begun_next, all_begun}
 use Rattle.jc_methods.specs.declared.insn.Flow.TheVariants as flows
 use Rattle.jc_emit.specs.Sizes as sizes
 
@@ -299,7 +299,7 @@ module _ (names new_names : Names) (states : List State) (first : ℕ) (form : T
       (narrow names new_names states first form named b b' p (lead (i + 1)) (state_at states (i + 1))
       (inr (inl (record { test = i; id = id; within = lt; probed = some; place = refl; state_is = refl }))))
 
-  -- behind a conditional jump of the wide layout
+  -- behind a wide conditional jump
   pub wide_frame : (i : ℕ) → i < length b.code → flow_of (old i) ≡ flows.Branches → is_wide form i ≡ true
       → Asked (q_of i + 2) (state_behind b states i (late_probe b first i))
   wide_frame i lt e w =
@@ -351,7 +351,7 @@ module _ (names new_names : Names) (states : List State) (first : ℕ) (form : T
   led_zero : Led 0
   led_zero = by (F (lead 0)) refl
     where
-      first_lead : lead 0 ≡ prelude_size
+      first_lead : lead 0 ≡ prelude_size form.fetch
       first_lead = omega arith
 
       some : 0 < length b.code
@@ -362,11 +362,7 @@ module _ (names new_names : Names) (states : List State) (first : ℕ) (form : T
           led_by_state 0 some (frame_state_is new_names b' (lead 0) t e ∙ ap Some (frame_front 0 (lead 0) t (omega arith) (omega arith) e))
       by None e = record {
         before = entry_of b;
-        state_is =
-            ap N first_lead
-            ∙ next_state new_names b' 1 (astore v) (E_array names new_names states first form named b b' p) (moved (entry_of b)) (ap F (sym first_lead) ∙ e)
-            (stands names new_names states first form named b b' p 1 (start 1) (prelude_at b first form).1.0) (inl refl)
-            (state_1 names new_names states first form named b b' p) (after_1 names new_names states first form named b b' p);
+        state_is = ap N past ∙ begun_next names new_names states first form named b b' p begun.last (moved (entry_of b)) begun.store (ap F (sym past) ∙ e);
         fits = there_fit (Some (entry_of b)) (state_of names b 0) (entry_of b) (S 0) refl (state_of_b 0 some) p.checked.entry;
         low = omega arith;
         same = λ none. same_Some (entry_of b) (S 0) (sym (first_state names b none) ∙ state_of_b 0 some);
@@ -374,6 +370,12 @@ module _ (names new_names : Names) (states : List State) (first : ℕ) (form : T
         begins = λ e. state_itself (entry_of b);
       }
         where
+          begun : IsBegun names new_names states first form named b b' p form.fetch
+          begun = all_begun names new_names states first form named b b' p
+
+          past : lead 0 ≡ suc begun.last
+          past = first_lead ∙ sym begun.size
+
           no_zero : (i : ℕ) → 0 ≡ suc i → ⊥
           no_zero i e = omega (arith, e)
 

@@ -173,7 +173,7 @@ module _ (names new_names : Names) (states : List State) (first : ℕ) (form : T
 
   -- ---- what is asked for at a place
 
-  -- in front of the image, or at it, the state before the instruction; behind it only the wide layout and switches
+  -- in front of the image, or at it, the state before the instruction; behind it only wide conditional jumps and switches
   -- have frames
   abbrev pub Front : ℕ → ℕ → State → Type 0
   Front i q s = (q ≤ q_of i) × (type_state names s ≡ S i)

@@ -16,6 +16,7 @@ use Rattle.jc_methods.specs.declared.kind.State.{State}
 use Rattle.jc_methods.specs.declared.body.Body.{Body}
 use Rattle.jc_methods.specs.declared.body.FrameAt.{FrameAt}
 use Rattle.jc_methods.specs.declared.body.What.{What}
+use Rattle.jc_methods.specs.declared.probe_members.Fetch.{Fetch}
 use Rattle.jc_methods.specs.VerificationTypes.{Names, TypeState, type_state, type_state_at}
 use Rattle.jc_kinds.specs.States.{frames_of, frame_at}
 use Rattle.jc_kinds.specs.Checked.{Checked, HasFrame}
@@ -24,14 +25,15 @@ use Rattle.jc_kinds.proofs.StateShiftLaws.{frame_is}
 use Rattle.jc_kinds_after.specs.Shift.{with_slot, shifted, IsImage, led, inverted, HasImages}
 use Rattle.jc_bytes.proofs.BooleanLaws.{which_in, none_in}
 use Rattle.jc_methods.specs.FrameOrder.{RiseFrom}
-use Rattle.jc_plan.specs.Probed.{probe_of}
+use Rattle.jc_plan.specs.Probed.{probe_of, probe_count}
 use Rattle.jc_plan.specs.Plan.{lead_probe}
 use Rattle.jc_emit.specs.Marks.{TwinPlaces}
 use Rattle.jc_emit.specs.Sizes.{TwinForm, is_wide, insn_at, early_probe, late_probe, arms_at}
 use Rattle.jc_emit.specs.TwinCode.{arm_place}
 use Rattle.jc_emit.specs.TwinTables.{AreMovedTables}
 use Rattle.jc_emit.specs.TwinFrames.{IsFrame, AreTwinFrames}
-use Rattle.jc_emit.specs.Twin.{Twin, IsSameMethod, probe_init, KeepsUses}
+use Rattle.jc_emit.specs.Added.{giver_of}
+use Rattle.jc_emit.specs.Twin.{Twin, IsSameMethod, NamesProbes, KeepsUses}
 use Rattle.jc_emit.specs.Straddling.{NoneStraddles}
 use Rattle.jc_emit.specs.Items.{Item, insn_of, image, segment_size, lead_of, land_of, image_of, test_part, image_part, twin_items}
 use Rattle.jc_emit.proofs.PiecesLaws.{HasAt}
@@ -57,8 +59,9 @@ pub record Premises (names new_names : Names) (states : List State) (first : ℕ
   pub are : AreStates names b states
   pub free : NoneStraddles b
   pub method : IsSameMethod b b'
-  pub owner : List ℕ
-  pub calls : what_used b'.uses named.giver ≡ Some (probe_init owner)
+  pub class : List ℕ
+  pub bootstrap : ℕ
+  pub names_probes : NamesProbes form.fetch (giver_of form.fetch class bootstrap) first (probe_count b) b'.uses named
   pub uses : KeepsUses b b'
   pub code : b'.code ≡ map (insn_of named b.arg_slots) (twin_items b first form)
   pub tables : AreMovedTables b (lead_of b first form) (land_of b first form) b'.handlers b'.lines b'.vars b'.kind_vars
@@ -67,10 +70,10 @@ pub record Premises (names new_names : Names) (states : List State) (first : ℕ
   pub max_locals : b'.max_locals ≡ b.max_locals + 1
 
 -- with the places of the function
-pub premises : (names new_names : Names) (states : List State) (owner : List ℕ) (first : ℕ) (b b' : Body) → IsWellMadeOfAnySize b → Checked names b
-    → AreStates names b states → NoneStraddles b
-    → (t : Twin names new_names states owner first b b') → Premises names new_names states first t.form t.places b b'
-premises names new_names states owner first b b' well checked are free t =
+pub premises : (names new_names : Names) (states : List State) (fetch : Fetch) (class : List ℕ) (bootstrap first : ℕ) (b b' : Body) → IsWellMadeOfAnySize b
+    → Checked names b → AreStates names b states → NoneStraddles b
+    → (t : Twin names new_names states fetch (giver_of fetch class bootstrap) first b b') → Premises names new_names states first t.form t.places b b'
+premises names new_names states fetch class bootstrap first b b' well checked are free t =
     let images = images_known b first t.form t.places b'.code t.marks well.code t.code in
     let lands = lands_known b first t.form t.places b'.code t.marks well.code t.code in
     let leads = leads_known b first t.form t.places b'.code t.marks well.code t.code in
@@ -80,8 +83,9 @@ premises names new_names states owner first b b' well checked are free t =
       are = are;
       free = free;
       method = t.method;
-      owner = owner;
-      calls = t.calls;
+      class = class;
+      bootstrap = bootstrap;
+      names_probes = subst (λ f. NamesProbes f (giver_of f class bootstrap) first (probe_count b) b'.uses t.places) (sym t.fetch_is) t.names_probes;
       uses = t.uses;
       code = code_known b first t.form t.places b'.code t.marks well.code t.code;
       tables =

@@ -28,7 +28,7 @@ use Rattle.jc_plan.specs.Plan.{lead_probe}
 use Rattle.jc_bytes.proofs.FirstSeenLaws.{first_seen_listed}
 use Rattle.jc_bytes.proofs.ListLaws.{each_in}
 use Rattle.jc_emit.specs.Marks.{TwinPlaces}
-use Rattle.jc_emit.proofs.PlacedLaws.{no_fall_goto, never, only, inverse_targets, placed_targets, no_targets, goto_stops, switch_stops}
+use Rattle.jc_emit.proofs.PlacedLaws.{flow_push_by, no_fall_goto, never, only, inverse_targets, placed_targets, no_targets, goto_stops, switch_stops}
 use Rattle.jc_methods.proofs.PlacedInsnLaws.{targets_placed}
 use Rattle.jc_emit.proofs.StateLaws.{slots-renamed}
 use Rattle.jc_emit.specs.Sizes.{TwinForm, is_wide, early_probe, late_probe, arms_at, probe_size, hop_size, arm_sizes, wide_by}
@@ -45,7 +45,7 @@ use Rattle.jc_emit.proofs.StepLaws.{moves_nothing}
 use Rattle.jc_emit.proofs.ConditionalBranchLaws.{left_is}
 use Rattle.jc_emit.proofs.TwinPremisesLaws.{Premises, stands, code_long, asked_frame, asked_has, frame_asked, old_at, leads_grow}
 use Rattle.jc_emit.proofs.TwinPlacesLaws.{no_frame, narrow, tests_size, asked_piece, arms_switch, arms_are}
-use Rattle.jc_emit.proofs.TwinStatesLaws.{fit_there, frame_state_is, next_state, fits_same, after_b, A, push_is, image_after, S_low, A_low, S_long, goes, next_is, probe_runs, with_array, with_id, with_one}
+use Rattle.jc_emit.proofs.TwinStatesLaws.{fit_there, frame_state_is, next_state, fits_same, after_b, A, image_after, S_low, A_low, S_long, goes, next_is, probe_runs, with_array, with_id, with_one}
 use Rattle.jc_emit.proofs.TwinLeadsLaws.{slot_flow, placed_flow, framed, fits_branch, landing_frame, led_long, stopped_frame, inverse_frame, wide_frame, all_led, all_landed, all_imaged}
 use Rattle.jc_methods.specs.declared.insn.Insn.TheVariants as insns
 use Rattle.jc_methods.specs.declared.insn.Flow.TheVariants as flows
@@ -136,7 +136,7 @@ module _ (names new_names : Names) (states : List State) (first : ℕ) (form : T
       let X3 = with_one names new_names states first form named b b' p X in (
         going i q (probe_array id at late) (moved X) X1 h.0 refl before r.after0 (same_fits (N (q + 1)) X1 r.state1) near,
         (
-          going i (q + 1) (probe_id id at late) X1 X2 h.1.0 (push_is id b'.uses (returns_of b')).1 r.state1 r.after1 (same_fits (N (q + 1 + 1)) X2 r.state2) near,
+          going i (q + 1) (probe_id id at late) X1 X2 h.1.0 (flow_push_by named.integer id) r.state1 r.after1 (same_fits (N (q + 1 + 1)) X2 r.state2) near,
           (
             going i (q + 1 + 1) (probe_one id at late) X2 X3 h.1.1.0 refl r.state2 r.after2 (same_fits (N (q + 1 + 1 + 1)) X3 r.state3) near,
             (going i (q + 1 + 1 + 1) (probe_store id at late) X3 (moved X) h.1.1.1.0 refl r.state3 r.after3 last near, tt),
@@ -292,7 +292,7 @@ module _ (names new_names : Names) (states : List State) (first : ℕ) (form : T
       (stands names new_names states first form named b b' p (q_of i) (image new i None) here) (inr flow)
       (all_imaged names new_names states first form named b b' p i lt) (image_after names new_names states first form named b b' p i lt)
 
-  -- no frame stands behind a conditional jump of the narrow layout
+  -- no frame stands behind a conditional jump that isn't wide
   none_behind : (i : ℕ) → flow_of (old i) ≡ flows.Branches → is_wide form i ≡ false → q_of i + 1 < lead (suc i) → F (q_of i + 1) ≡ None
   none_behind i e w high = by (F (q_of i + 1)) refl
     where
@@ -322,7 +322,7 @@ module _ (names new_names : Names) (states : List State) (first : ℕ) (form : T
     lead_target i lt (inr e),
   )
 
-  -- behind the goto of the wide layout
+  -- behind the goto of a wide conditional jump
   to_behind : (i : ℕ) (lt : i < length b.code) → flow_of (old i) ≡ flows.Branches → is_wide form i ≡ true → HasFrame b' (q_of i + 2)
   to_behind i lt e w =
       asked_has names new_names states first form named b b' p (q_of i + 2) (state_behind b states i (late_probe b first i)) (wide_frame names new_names states first form named b b' p i lt e w)

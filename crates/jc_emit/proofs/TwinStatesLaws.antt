@@ -3,25 +3,30 @@ use Rattle.std.proofs.Common.{true≢false, ◌≡◌, inl, inr, ℕ, zero, suc,
 use Rattle.std.proofs.lemmas.Option.{none-some, same_Some}
 use Rattle.std.specs.List.{sum_by}
 use Rattle.std.proofs.lemmas.List.Sums.{sum_by-cons}
-use Rattle.std.specs.Prelude.{slice_get, IsSome}
-use Rattle.std.proofs.lemmas.Bool.{leb-true}
+use Rattle.std.specs.Prelude.{slice_get, IsSome, codes}
+use Rattle.std.proofs.lemmas.Bool.{leb-true, leb-false}
 use Rattle.std.proofs.lemmas.List.{length-map}
 use Rattle.std.proofs.lemmas.List.Edits.{get_or-insert_at}
 use Rattle.jc_methods.specs.Flow.{flow_of, FallsThrough, falls_at}
 use Rattle.jc_methods.specs.DescriptorTypes.{types_from, rest_from}
 use Rattle.jc_bytes.specs.Descriptor.{FieldType}
-use Rattle.jc_methods.specs.WellMade.{kind_slots}
+use Rattle.jc_methods.specs.Opcode as opcode
+use Rattle.jc_methods.specs.WellMade.{kind_slots, what_used}
+use Rattle.jc_methods.specs.ProbeMembers.{data_type, most_short}
 use Rattle.jc_methods.specs.declared.insn.Insn.{Insn}
 use Rattle.jc_methods.specs.declared.kind.Kind.{Kind}
 use Rattle.jc_methods.specs.declared.kind.State.{State}
 use Rattle.jc_methods.specs.declared.body.Body.{Body}
 use Rattle.jc_methods.specs.declared.body.Use.{Use}
-use Rattle.jc_methods.specs.VerificationTypes.{Names, VerificationType, top, int, TypeState, verification_type, type_state, width, slots}
+use Rattle.jc_methods.specs.declared.body.What.TheVariants as whats
+use Rattle.jc_methods.specs.declared.probe_members.Fetch.{Fetch}
+use Rattle.jc_methods.specs.declared.probe_members.Fetch.TheVariants as fetches
+use Rattle.jc_methods.specs.VerificationTypes.{Names, VerificationType, top, int, object, TypeState, verification_type, type_state, width, slots}
 use Rattle.jc_methods.specs.EntryState.{entry_of, entry_seen}
 use Rattle.jc_kinds_after.specs.Wants.{accepts}
 use Rattle.jc_kinds_after.specs.Step.{kind, moves, apply, put_local, with_stack, limited}
 use Rattle.jc_kinds_after.specs.Table.{form as one_form, one, table, forms_at}
-use Rattle.jc_kinds_after.specs.After.{insn_at, ground_of, returns_of, step_of, member_step, after_of}
+use Rattle.jc_kinds_after.specs.After.{insn_at, ground_of, returns_of, step_of, member_step, constant_step, class_step, after_of}
 use Rattle.jc_kinds.specs.States.{frames_of, frame_at, or_else, state_of, after_at}
 use Rattle.jc_kinds.specs.Fits.{Fits, IsNullOrObject, FitEach, FitState, FitsThere}
 use Rattle.jc_kinds_after.specs.Shift.{renamed, probes, shifted}
@@ -29,13 +34,19 @@ use Rattle.jc_kinds.specs.StateShift.{IsStraddled}
 use Rattle.jc_methods.proofs.FlowLaws.{falls_decided}
 use Rattle.jc_kinds.proofs.StateShiftLaws.{state_fine, states_shift, frame_is, frame_state}
 use Rattle.jc_kinds.proofs.EntryShiftLaws.{entry_shifts}
+use Rattle.jc_plan.specs.Probed.{probe_count}
+use Rattle.jc_emit.specs.Added.{giver_of}
 use Rattle.jc_emit.specs.Sizes.{TwinForm}
+use Rattle.jc_emit.specs.Twin.{NamesProbes}
 use Rattle.jc_emit.proofs.StateLaws.{slots-renamed}
-use Rattle.jc_emit.specs.Marks.{TwinPlaces, push, invokestatic}
+use Rattle.jc_emit.specs.Marks.{TwinPlaces, push, push_by, astore, prelude_size}
 use Rattle.jc_emit.specs.TwinFrames.{state_at}
-use Rattle.jc_emit.specs.Items.{Item, start, probe_array, probe_id, probe_one, probe_store, insn_of, extra_of, probe, lead_of, land_of, image_of, twin_items}
+use Rattle.jc_emit.specs.Items.{Item, start, probe_array, probe_id, probe_one, probe_store, insn_of, extra_of, prelude, probe, lead_of, land_of, image_of, twin_items}
 use Rattle.jc_emit.proofs.PiecesLaws.{HasAt}
-use Rattle.jc_emit.proofs.BuiltLaws.{prelude_at}
+use Rattle.jc_emit.proofs.BuiltLaws.{prelude_at, starts_at}
+use Rattle.jc_emit.proofs.EdgeIdLaws.{item_within}
+use Rattle.jc_emit.proofs.LocalLaws.{twin_ok}
+use Rattle.jc_emit.proofs.PlacedLaws.{flow_push_by}
 use Rattle.jc_emit.proofs.StepLaws.{state, moves_one, moves_gives, limited_is, slots-append}
 use Rattle.jc_emit.proofs.TwinPremisesLaws.{Premises, stands, images}
 use Rattle.jc_emit.proofs.TwinPlacesLaws.{state_b, no_frame}
@@ -117,31 +128,39 @@ is_some_value (Some t) h = (t, refl)
 
 -- ---- pushing an id
 
+-- the instruction pushes an int
+abbrev pub PushesInt : List Use → Insn → Type 0
+PushesInt uses insn = (returns : Option FieldType) → step_of uses returns insn ≡ moves (one [] (kind int ∷ []))
+
 abbrev IsPush : ℕ → Type 0
-IsPush n =
-    (uses : List Use) (returns : Option FieldType) → (step_of uses returns (insns.Simple (3 + n)) ≡ moves (one [] (kind int ∷ []))) × (flow_of (insns.Simple (3 + n)) ≡ flows.GoesOn)
+IsPush n = (uses : List Use) → PushesInt uses (insns.Simple (3 + n))
 
 small_pushes : AllFrom IsPush 0 6
 unfolding forms_at table
 small_pushes =
-    (λ u r. (refl, refl), (λ u r. (refl, refl), (λ u r. (refl, refl), (λ u r. (refl, refl), (λ u r. (refl, refl), (λ u r. (refl, refl), tt))))))
+    (λ u r. refl, (λ u r. refl, (λ u r. refl, (λ u r. refl, (λ u r. refl, (λ u r. refl, tt))))))
 
-abbrev Pushes : Insn → Type 0
-Pushes insn =
-    (uses : List Use) (returns : Option FieldType) → (step_of uses returns insn ≡ moves (one [] (kind int ∷ []))) × (flow_of insn ≡ flows.GoesOn)
-
-pub push_is : (n : ℕ) → Pushes (push n)
+push_is : (n : ℕ) (uses : List Use) → PushesInt uses (push n)
 unfolding forms_at table
-push_is n = by (nat_le n 5) refl (nat_le n 127)
+push_is n uses = by (nat_le n 5) refl (nat_le n 127)
   where
-    wide : (c : Bool) → Pushes (if c then insns.Push 16 (pos n) else insns.Push 17 (pos n))
-    wide true uses returns = (refl, refl)
-    wide false uses returns = (refl, refl)
+    wide : (c : Bool) → PushesInt uses (if c then insns.Push 16 (pos n) else insns.Push 17 (pos n))
+    wide true returns = refl
+    wide false returns = refl
 
     by : (a : Bool) → nat_le n 5 ≡ a → (c : Bool)
-        → Pushes (if a then insns.Simple (3 + n) else if c then insns.Push 16 (pos n) else insns.Push 17 (pos n))
-    by true e c = let le = leb-true n 5 e in all_from IsPush 0 6 n small_pushes (omega arith) (omega (arith, le))
+        → PushesInt uses (if a then insns.Simple (3 + n) else if c then insns.Push 16 (pos n) else insns.Push 17 (pos n))
+    by true e c = let le = leb-true n 5 e in all_from IsPush 0 6 n small_pushes (omega arith) (omega (arith, le)) uses
     by false e c = wide c
+
+-- the same for each number, where its Integer stands at the place that the instruction names
+pub push_by_is : (integer : ℕ → ℕ) (n : ℕ) (uses : List Use) → (most_short < n → what_used uses (integer n) ≡ Some (whats.Int (pos n)))
+    → PushesInt uses (push_by integer n)
+push_by_is integer n uses found = by (nat_le n most_short) refl
+  where
+    by : (t : Bool) → nat_le n most_short ≡ t → PushesInt uses (if t then push n else insns.Constant (integer n))
+    by true e = push_is n uses
+    by false e = λ returns. ap constant_step (found (leb-false n most_short e))
 
 module _ (names new_names : Names) (states : List State) (first : ℕ) (form : TwinForm) (named : TwinPlaces) (b b' : Body) (p : Premises names new_names states first form named b b') where
   abbrev v : ℕ
@@ -306,16 +325,23 @@ module _ (names new_names : Names) (states : List State) (first : ℕ) (form : T
       ap (λ (h : VerificationType). if accepts wants.Anything h then with_stack (moved X) (limited b'.max_stack ((moved X).stack ++ h ∷ [])) else None) here
       ∙ ap (with_stack (moved X)) (limited_is b'.max_stack (with_array X).stack (omega (arith, most, m)))
 
-  id_step : (q id at : ℕ) (late : Bool) (X : TypeState) → slots X.stack ≤ b.max_stack → Step q (probe_id id at late) (with_array X) (with_id X)
-  id_step q id at late X low =
+  -- the id of a probe is one of the body's, for each of which the pool has an Integer where one is needed
+  id_pushed : (q id at : ℕ) (late : Bool) → slice_get items q ≡ Some (probe_id id at late) → PushesInt b'.uses (push_by named.integer id)
+  id_pushed q id at late here =
+      let range = item_within b first (Some b.arg_slots) items (twin_ok b first form p.well.code) q id (probe_id id at late) here refl in
+      push_by_is named.integer id b'.uses (λ more. p.names_probes.integers id more range.0 range.1)
+
+  id_step : (q id at : ℕ) (late : Bool) (X : TypeState) → slice_get items q ≡ Some (probe_id id at late) → slots X.stack ≤ b.max_stack
+      → Step q (probe_id id at late) (with_array X) (with_id X)
+  id_step q id at late X here low =
       let most = p.max_stack in let m = array_low X low in
-      ap (λ st. apply (ground_of b' q) st (with_array X)) (push_is id b'.uses (returns_of b')).0
+      ap (λ st. apply (ground_of b' q) st (with_array X)) (id_pushed q id at late here (returns_of b'))
       ∙ moves_gives (ground_of b' q) int (moved X).locals (with_array X).stack (omega (arith, most, m))
 
   one_step : (q id at : ℕ) (late : Bool) (X : TypeState) → slots X.stack ≤ b.max_stack → Step q (probe_one id at late) (with_id X) (with_one X)
   one_step q id at late X low =
       let most = p.max_stack in let m = id_low X low in
-      ap (λ st. apply (ground_of b' q) st (with_id X)) (push_is 1 b'.uses (returns_of b')).0
+      ap (λ st. apply (ground_of b' q) st (with_id X)) (push_is 1 b'.uses (returns_of b'))
       ∙ moves_gives (ground_of b' q) int (moved X).locals (with_id X).stack (omega (arith, most, m))
 
   store_step : (q id at : ℕ) (late : Bool) (X : TypeState) → slots X.stack ≤ b.max_stack
@@ -338,8 +364,8 @@ module _ (names new_names : Names) (states : List State) (first : ℕ) (form : T
       λ k x here more. no_frame names new_names states first form named b b' p k x here (λ l. more l.1) in
       let a0 = goes q (probe_array id at late) (moved X) (with_array X) h.0 (array_step q id at late X low long) in
       let s1 = next_is q (probe_array id at late) (moved X) (with_array X) h.0 refl (none (q + 1) (probe_id id at late) h.1.0 (λ e. cc)) before a0 in
-      let a1 = goes (q + 1) (probe_id id at late) (with_array X) (with_id X) h.1.0 (id_step (q + 1) id at late X low) in
-      let s2 = next_is (q + 1) (probe_id id at late) (with_array X) (with_id X) h.1.0 (push_is id b'.uses (returns_of b')).1 (none (q + 1 + 1) (probe_one id at late) h.1.1.0 (λ e. cc)) s1 a1 in
+      let a1 = goes (q + 1) (probe_id id at late) (with_array X) (with_id X) h.1.0 (id_step (q + 1) id at late X h.1.0 low) in
+      let s2 = next_is (q + 1) (probe_id id at late) (with_array X) (with_id X) h.1.0 (flow_push_by named.integer id) (none (q + 1 + 1) (probe_one id at late) h.1.1.0 (λ e. cc)) s1 a1 in
       let a2 = goes (q + 1 + 1) (probe_one id at late) (with_id X) (with_one X) h.1.1.0 (one_step (q + 1 + 1) id at late X low) in
       let s3 = next_is (q + 1 + 1) (probe_one id at late) (with_id X) (with_one X) h.1.1.0 refl (none (q + 1 + 1 + 1) (probe_store id at late) h.1.1.1.0 (λ e. cc)) s2 a2 in
       record {
@@ -354,42 +380,133 @@ module _ (names new_names : Names) (states : List State) (first : ℕ) (form : T
 
   -- ---- the prelude
 
-  -- the state in which the twin begins
+  -- the state in which the twin begins, and those behind the instructions of the prelude that leave one value more
   abbrev pub E : TypeState
   E = entry_of b'
 
-  abbrev pub E_array : TypeState
+  abbrev anything : VerificationType
+  anything = object (codes "java/lang/Object")
+
+  abbrev E_constant : TypeState
+  E_constant = state E.locals (anything ∷ [])
+
+  abbrev E_array : TypeState
   E_array = state E.locals (probes ∷ [])
 
   entry_same : E ≡ entry_seen b.owner b.name b.desc b.flags (b.max_locals + 1)
   entry_same k = entry_seen (p.method.owner k) (p.method.name k) (p.method.desc k) (p.method.flags k) (p.max_locals k)
 
-  no_frame_first : F 0 ≡ None
-  no_frame_first = no_frame names new_names states first form named b b' p 0 (start 0) (prelude_at b first form).0 (λ l. l.0)
+  -- no frame stands at an instruction of the prelude
+  no_frame_first : (k : ℕ) (fetch : Fetch) (number : ℕ) → slice_get items k ≡ Some (start fetch number) → F k ≡ None
+  no_frame_first k fetch number here = no_frame names new_names states first form named b b' p k (start fetch number) here (λ l. l.0)
 
-  pub state_0 : N 0 ≡ Some E
-  state_0 = first_state new_names b' no_frame_first
+  -- one that goes on, and has this state after it
+  pub record Begun (k : ℕ) (after : TypeState) : Type 0 where
+    pub insn : Insn
+    pub stands : insn_at b' k ≡ Some insn
+    pub goes_on : flow_of insn ≡ flows.GoesOn
+    pub before : TypeState
+    pub state_is : N k ≡ Some before
+    pub after_is : after_of b' k before ≡ Some after
 
-  call_step : Step 0 (start 0) E E_array
-  unfolding types_from rest_from
-  call_step =
-      let most = p.max_stack in
-      ap (λ o. apply (ground_of b' 0) (member_step 184 o) E) p.calls
-      ∙ moves_gives (ground_of b' 0) probes E.locals [] (omega (arith, most))
+  begun : (k : ℕ) (x : Item) (s t : TypeState) → slice_get items k ≡ Some x → flow_of (insn_of named v x) ≡ flows.GoesOn → N k ≡ Some s → Step k x s t → Begun k t
+  begun k x s t here flow before step = record {
+    insn = insn_of named v x;
+    stands = stands names new_names states first form named b b' p k x here;
+    goes_on = flow;
+    before = s;
+    state_is = before;
+    after_is = goes k x s t here step;
+  }
 
-  pub after_0 : after_of b' 0 E ≡ Some E_array
-  after_0 = goes 0 (start 0) E E_array (prelude_at b first form).0 call_step
+  -- where no frame stands behind it
+  pub begun_next : (k : ℕ) (t : TypeState) → Begun k t → F (suc k) ≡ None → N (suc k) ≡ Some t
+  begun_next k t g none = next_state new_names b' k g.insn g.before t none g.stands (inl g.goes_on) g.state_is g.after_is
 
-  pub state_1 : N 1 ≡ Some E_array
-  state_1 =
-      next_state new_names b' 0 (invokestatic named.giver) E E_array (no_frame names new_names states first form named b b' p 1 (start 1) (prelude_at b first form).1.0 (λ l. l.0))
-      (stands names new_names states first form named b b' p 0 (start 0) (prelude_at b first form).0) (inl refl) state_0 after_0
+  -- Behind the last instruction the twin has the state in which the method begins, with the array in its place. Behind each other
+  -- one stands the next, which finds the state that it leaves.
+  pub record IsBegun (fetch : Fetch) : Type 0 where
+    pub last : ℕ
+    pub size : suc last ≡ prelude_size fetch
+    pub store : Begun last (moved (entry_of b))
+    pub others : (k : ℕ) → k < last → (after : TypeState) × Begun k after × (N (suc k) ≡ Some after)
 
-  store_array : Step 1 (start 1) E_array (moved (entry_of b))
-  store_array =
+  array_stored : (k : ℕ) (fetch : Fetch) → insn_of named v (start fetch k) ≡ astore v → Step k (start fetch k) E_array (moved (entry_of b))
+  array_stored k fetch is =
       let shifts = entry_shifts (image_of b first form) b p.well in
-      ap (with_stack (record E_array { locals = put_local v probes E_array.locals })) (limited_is b'.max_stack [] (omega arith))
+      ap (λ insn. apply (ground_of b' k) (step_of b'.uses (returns_of b') insn) E_array) is
+      ∙ ap (with_stack (record E_array { locals = put_local v probes E_array.locals })) (limited_is b'.max_stack [] (omega arith))
       ∙ ap (λ (l : List VerificationType). Some (state l [])) (ap (λ (e : TypeState). put_local v probes e.locals) entry_same ∙ shifts)
 
-  pub after_1 : after_of b' 1 E_array ≡ Some (moved (entry_of b))
-  after_1 = goes 1 (start 1) E_array (moved (entry_of b)) (prelude_at b first form).1.0 store_array
+  -- the method gives the array
+  array_called : what_used b'.uses named.giver ≡ Some (giver_of fetches.Member p.class p.bootstrap) → Step 0 (start fetches.Member 0) E E_array
+  unfolding types_from rest_from
+  array_called giver =
+      let most = p.max_stack in
+      ap (λ o. apply (ground_of b' 0) (member_step opcode.invokestatic o) E) giver
+      ∙ moves_gives (ground_of b' 0) probes E.locals [] (omega (arith, most))
+
+  -- the constant is an object, which is cast to the class of the array
+  constant_loaded : what_used b'.uses named.giver ≡ Some (giver_of fetches.Constant p.class p.bootstrap) → Step 0 (start fetches.Constant 0) E E_constant
+  unfolding types_from rest_from
+  constant_loaded giver =
+      let most = p.max_stack in
+      ap (λ o. apply (ground_of b' 0) (constant_step o) E) giver
+      ∙ moves_gives (ground_of b' 0) anything E.locals [] (omega (arith, most))
+
+  constant_cast : what_used b'.uses named.array ≡ Some (whats.Class data_type) → Step 1 (start fetches.Constant 1) E_constant E_array
+  constant_cast array =
+      let most = p.max_stack in
+      ap (λ o. apply (ground_of b' 1) (class_step opcode.checkcast o) E_constant) array
+      ∙ moves_one (ground_of b' 1) (one_form (wants.Reference ∷ []) (kind probes ∷ [])) E.locals [] (anything ∷ []) refl refl (omega (arith, most))
+
+  state_first : (fetch : Fetch) → slice_get items 0 ≡ Some (start fetch 0) → N 0 ≡ Some E
+  state_first fetch here = first_state new_names b' (no_frame_first 0 fetch 0 here)
+
+  begun_by : (fetch : Fetch) → HasAt items 0 (prelude fetch) → NamesProbes fetch (giver_of fetch p.class p.bootstrap) first (probe_count b) b'.uses named
+      → IsBegun fetch
+  begun_by fetches.Member h names_probes = record {
+    last = 1;
+    size = refl;
+    store = begun 1 (start fetches.Member 1) E_array (moved (entry_of b)) h.1.0 refl state_1 (array_stored 1 fetches.Member refl);
+    others = others;
+  }
+    where
+      call : Begun 0 E_array
+      call = begun 0 (start fetches.Member 0) E E_array h.0 refl (state_first fetches.Member h.0) (array_called names_probes.giver_is)
+
+      state_1 : N 1 ≡ Some E_array
+      state_1 = begun_next 0 E_array call (no_frame_first 1 fetches.Member 1 h.1.0)
+
+      others : (k : ℕ) → k < 1 → (after : TypeState) × Begun k after × (N (suc k) ≡ Some after)
+      others zero lt = (E_array, call, state_1)
+      others (suc k) lt = absurd (omega (arith, lt))
+  begun_by fetches.Constant h names_probes = record {
+    last = 2;
+    size = refl;
+    store = begun 2 (start fetches.Constant 2) E_array (moved (entry_of b)) h.1.1.0 refl state_2 (array_stored 2 fetches.Constant refl);
+    others = others;
+  }
+    where
+      load : Begun 0 E_constant
+      load = begun 0 (start fetches.Constant 0) E E_constant h.0 refl (state_first fetches.Constant h.0) (constant_loaded names_probes.giver_is)
+
+      state_1 : N 1 ≡ Some E_constant
+      state_1 = begun_next 0 E_constant load (no_frame_first 1 fetches.Constant 1 h.1.0)
+
+      cast : Begun 1 E_array
+      cast = begun 1 (start fetches.Constant 1) E_constant E_array h.1.0 refl state_1 (constant_cast names_probes.array_is)
+
+      state_2 : N 2 ≡ Some E_array
+      state_2 = begun_next 1 E_array cast (no_frame_first 2 fetches.Constant 2 h.1.1.0)
+
+      others : (k : ℕ) → k < 2 → (after : TypeState) × Begun k after × (N (suc k) ≡ Some after)
+      others zero lt = (E_constant, load, state_1)
+      others (suc zero) lt = (E_array, cast, state_2)
+      others (suc (suc k)) lt = absurd (omega (arith, lt))
+
+  pub all_begun : IsBegun form.fetch
+  all_begun = begun_by form.fetch (prelude_at b first form) p.names_probes
+
+  pub state_0 : N 0 ≡ Some E
+  state_0 = state_first form.fetch (starts_at b first form)

@@ -19,7 +19,7 @@ module _ (b : Body) (first : ℕ) (form : TwinForm) (named : TwinPlaces) (is_cod
   abbrev marks : Marks
   marks = marks_of_items (twin_items b first form)
 
-  pub sentences : Sentences b first form code marks (image_of b first form) (land_of b first form) (lead_of b first form) named
+  pub sentences : Sentences b first form named code marks (image_of b first form) (land_of b first form) (lead_of b first form)
   sentences = record {
     lengths = lengths_told b first form named;
     prelude = prelude_told b first form named;
@@ -35,7 +35,7 @@ pub code_told : (b : Body) (first : ℕ) (form : TwinForm) (named : TwinPlaces) 
 code_told b first form named is_code =
     let code = map (insn_of named b.arg_slots) (twin_items b first form) in
     let m = marks_of_items (twin_items b first form) in
-    subst (λ f. Sentences b first form code m f (land_place b first m.own) (lead_place b first m.own) named) (sym (images_are b first form is_code))
-    (subst (λ f. Sentences b first form code m (image_of b first form) f (lead_place b first m.own) named) (sym (lands_are b first form is_code))
-    (subst (λ f. Sentences b first form code m (image_of b first form) (land_of b first form) f named) (sym (leads_are b first form is_code))
+    subst (λ f. Sentences b first form named code m f (land_place b first m.own) (lead_place b first m.own)) (sym (images_are b first form is_code))
+    (subst (λ f. Sentences b first form named code m (image_of b first form) f (lead_place b first m.own)) (sym (lands_are b first form is_code))
+    (subst (λ f. Sentences b first form named code m (image_of b first form) (land_of b first form) f) (sym (leads_are b first form is_code))
     (sentences b first form named is_code)))

@@ -30,10 +30,11 @@ behind_in flows.Branches ids = sum_by hop_size ids
 behind_in flows.Switches ids = sum_by hop_size ids
 behind_in _ ids = 0
 
--- an id that one instruction pushes (JVM Specification 6.5, sipush)
-abbrev pub IsPushed : Option ℕ → Type 0
-IsPushed None = ⊤
-IsPushed (Some id) = id ≤ most_short
+-- One instruction pushes the id: sipush, or ldc of one of so many Integers, of the numbers behind those that sipush pushes (JVM
+-- Specification 6.5).
+abbrev pub IsPushed : (integers : ℕ) → Option ℕ → Type 0
+IsPushed integers None = ⊤
+IsPushed integers (Some id) = id < most_short + 1 + integers
 
 -- the image of a conditional jump: with a probe its inverse, which leads to where the fall-through does
 abbrev pub test_image : (ℕ → ℕ) → (next : ℕ) → Insn → Option ℕ → Insn

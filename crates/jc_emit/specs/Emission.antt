@@ -1,5 +1,5 @@
 -- The instrumented code of a body before its layout is chosen, and the frames of its wide form: functions of the body.
-use Rattle.std.specs.Prelude.{ℕ, zero, suc, ◌+◌, Bool, true, false, ◌&&◌, ◌||◌, not, List, [], ◌∷◌, ◌++◌, map, length, Option, Some, None, is_some, is_none, nat_eq, if◌then◌else◌, ◌≡◌, ◌⊎◌, slice_index_or, Contains}
+use Rattle.std.specs.Prelude.{ℕ, zero, suc, ◌+◌, Bool, true, false, ◌&&◌, ◌||◌, List, [], ◌∷◌, ◌++◌, map, length, Option, Some, None, is_some, is_none, nat_eq, if◌then◌else◌, ◌≡◌, ◌⊎◌, slice_index_or, Contains}
 use Rattle.std.specs.List.{list_any}
 use Rattle.jc_methods.specs.VerificationTypes.{Names}
 use Rattle.jc_methods.specs.WellMade.{IsWellMadeOfAnySize}
@@ -18,7 +18,8 @@ use Rattle.jc_plan.specs.Plan.{lead_probe}
 use Rattle.jc_emit.specs.Marks.{unplaced}
 use Rattle.jc_emit.specs.Shift.{probe_array_class, shifted_state, image_kind}
 use Rattle.jc_emit.specs.Sizes.{TwinForm, narrow, insn_at, late_probe, arms_at, hop_size}
-use Rattle.jc_methods.specs.Widened.{all_wide, wide_place}
+use Rattle.jc_methods.specs.Widened.{WideSet, wide_place}
+use Rattle.jc_methods.specs.declared.probe_members.Fetch.{Fetch}
 use Rattle.jc_emit.specs.TwinTables.{moved_row, moved_line, moved_var}
 use Rattle.jc_emit.specs.TwinFrames.{state_at, left_by, state_behind, IsFrame, AreTwinFrames}
 use Rattle.jc_emit.specs.Items.{Item, insn_of, at_of, own_of, extra_of, lead_of, land_of, image_of, twin_items}
@@ -50,10 +51,17 @@ frame at state = record { at = at; state = state }
 abbrev pub frame_if : Bool → FrameAt → List FrameAt
 frame_if test f = if test then f ∷ [] else []
 
-module _ (b : Body) (first : ℕ) (states : List State) (array : ℕ) where
+-- what a class gives the emission of its bodies: how they get the array of probes, the number of its class `[Z` in the names, and
+-- where the pool has the Integers of ids
+pub record Emitting : Type 0 where
+  pub fetch : Fetch
+  pub array : ℕ
+  pub integer : ℕ → ℕ
+
+module _ (b : Body) (first : ℕ) (states : List State) (given : Emitting) where
   -- the shifted form of a state
   abbrev pub moved_state : State → State
-  moved_state state = shifted_state b.arg_slots array (image_of b first narrow) state
+  moved_state state = shifted_state b.arg_slots given.array (image_of b first (narrow given.fetch)) state
 
   -- a frame of the body stands at i
   abbrev pub has_frame : ℕ → Bool
@@ -76,41 +84,41 @@ module _ (b : Body) (first : ℕ) (states : List State) (array : ℕ) where
 
   -- the frames at the arm places of i, if it is a switch
   abbrev pub arm_frames_at : ℕ → List FrameAt
-  arm_frames_at i = arm_frames (image_of b first narrow i + 1) (moved_state (left_by (insn_at b.code i) (state_at states i))) (arms_at b.code i)
+  arm_frames_at i = arm_frames (image_of b first (narrow given.fetch) i + 1) (moved_state (left_by (insn_at b.code i) (state_at states i))) (arms_at b.code i)
 
   -- the frames of what belongs to i
   abbrev pub frames_at : ℕ → List FrameAt
   frames_at i =
       frame_if (has_inverse i && is_some (lead_probe b first i))
-      (frame (lead_of b first narrow i) (moved_state (state_at states i)))
+      (frame (lead_of b first (narrow given.fetch) i) (moved_state (state_at states i)))
       ++ (frame_if (has_frame i || (has_inverse i && is_none (lead_probe b first i)))
-      (frame (land_of b first narrow i) (moved_state (state_at states i)))
+      (frame (land_of b first (narrow given.fetch) i) (moved_state (state_at states i)))
       ++ arm_frames_at i)
 
-  -- the wide layout needs a frame behind each conditional jump, where none stands
-  abbrev pub is_further : ℕ → Option ℕ → Flow → Bool
-  is_further i None flows.Branches = not (has_frame (i + 1) && is_none (lead_probe b first (i + 1)))
-  is_further i (Some id) flows.Branches = true
-  is_further i probe flow = false
+  -- a conditional jump
+  abbrev pub tests_by : Flow → Bool
+  tests_by flows.Branches = true
+  tests_by flow = false
 
+  -- the frame behind each conditional jump, for where it is wide
   abbrev pub wide_frames_at : ℕ → List FrameAt
   wide_frames_at i =
-      frame_if (is_further i (late_probe b first i) (flow_of (insn_at b.code i)))
-      (frame (image_of b first narrow i + 1) (moved_state (state_behind b states i (late_probe b first i))))
+      frame_if (tests_by (flow_of (insn_at b.code i)))
+      (frame (image_of b first (narrow given.fetch) i + 1) (moved_state (state_behind b states i (late_probe b first i))))
 
   abbrev pub items : List Item
-  items = twin_items b first narrow
+  items = twin_items b first (narrow given.fetch)
 
   unfoldable pub emission : Emitted
   emission = record {
-    code = map (insn_of unplaced b.arg_slots) items;
+    code = map (insn_of (unplaced given.integer) b.arg_slots) items;
     at = map at_of items;
     own = map own_of items;
     extra = map extra_of items;
-    handlers = map (twin_row b first narrow) b.handlers;
-    lines = map (moved_line (land_of b first narrow)) b.lines;
-    vars = map (moved_var b.arg_slots (land_of b first narrow)) b.vars;
-    kind_vars = map (moved_var b.arg_slots (land_of b first narrow)) b.kind_vars;
+    handlers = map (twin_row b first (narrow given.fetch)) b.handlers;
+    lines = map (moved_line (land_of b first (narrow given.fetch))) b.lines;
+    vars = map (moved_var b.arg_slots (land_of b first (narrow given.fetch))) b.vars;
+    kind_vars = map (moved_var b.arg_slots (land_of b first (narrow given.fetch))) b.kind_vars;
     frames = pieces frames_at (length b.code);
     wide_frames = pieces wide_frames_at (length b.code);
     max_stack = b.max_stack + 3;
@@ -125,6 +133,10 @@ AreFramesInForm names states first b form frames =
 
 -- ---- the frames of the wide form of the code
 
+-- The form of a twin by a set of places of the narrow code.
+abbrev pub form_by : Body → (first : ℕ) → Fetch → WideSet → TwinForm
+form_by b first fetch wide = record { fetch = fetch; wide = λ i. wide (image_of b first (narrow fetch) i) }
+
 -- a frame, where its place and the places of `new` instructions are those of the wide code
 abbrev pub widened_state : (ℕ → ℕ) → State → State
 widened_state place s = record { locals = map (image_kind place) s.locals; stack = map (image_kind place) s.stack }
@@ -132,9 +144,14 @@ widened_state place s = record { locals = map (image_kind place) s.locals; stack
 abbrev pub widened_frame : (ℕ → ℕ) → FrameAt → FrameAt
 widened_frame place f = record { at = place f.at; state = widened_state place f.state }
 
--- the frames of the narrow layout and the further ones, in the wide code, one at each place
-pub record AreWidened (e : Emitted) (frames : List FrameAt) : Type 0 where
+-- the frame stands behind a jump that is wide
+abbrev pub IsUsed : WideSet → FrameAt → Type 0
+IsUsed wide f = (q : ℕ) × (f.at ≡ q + 1) × (wide q ≡ true)
+
+-- the frames of the narrow code, and those behind wide jumps, in the wide code, one at each place
+pub record AreWidened (wide : WideSet) (e : Emitted) (frames : List FrameAt) : Type 0 where
   pub rising : RiseFrom 0 frames
   pub each : (f : FrameAt) → Contains frames f
-      → (g : FrameAt) × (Contains e.frames g ⊎ Contains e.wide_frames g) × (f ≡ widened_frame (wide_place all_wide e.code) g)
-  pub every : (g : FrameAt) → Contains e.frames g ⊎ Contains e.wide_frames g → Contains frames (widened_frame (wide_place all_wide e.code) g)
+      → (g : FrameAt) × (Contains e.frames g ⊎ (Contains e.wide_frames g × IsUsed wide g)) × (f ≡ widened_frame (wide_place wide e.code) g)
+  pub every : (g : FrameAt) → Contains e.frames g ⊎ (Contains e.wide_frames g × IsUsed wide g)
+      → Contains frames (widened_frame (wide_place wide e.code) g)

@@ -11,7 +11,7 @@ use Rattle.jc_plan.specs.Plan.{plan_of}
 use Rattle.jc_emit.specs.declared.frames.Framing.{Framing}
 use Rattle.jc_emit.specs.Sizes.{hop_size}
 use Rattle.jc_emit.specs.Placing.{ArePlaces}
-use Rattle.jc_emit.specs.Emission.{frame_if, frame}
+use Rattle.jc_emit.specs.Emission.{Emitting, frame_if, frame}
 
 -- the `new` of an object without a constructor's call is one of the first so many instructions
 abbrev pub IsMadeWithin : ℕ → Kind → Type 0
@@ -32,11 +32,12 @@ abbrev pub id_frames : ℕ → State → List (Option ℕ) → List FrameAt
 id_frames here state [] = []
 id_frames here state (id ∷ ids) = frame_if (is_some id) (frame here state) ++ id_frames (here + hop_size id) state ids
 
--- the parts are those of one body, whose first id is `first`
-pub record IsFraming (first : ℕ) (f : Framing) : Type 0 where
+-- the parts are those of one body, whose first id is `first`, and of what its class gives
+pub record IsFraming (first : ℕ) (given : Emitting) (f : Framing) : Type 0 where
   pub code : IsCode f.body.now.code
   pub plan : f.plan.now ≡ plan_of f.body.now first
-  pub places : ArePlaces f.body.now first f.places.now
+  pub places : ArePlaces f.body.now first given.fetch f.places.now
+  pub array : f.array ≡ given.array
   pub count : length f.states.now ≡ length f.body.now.code
   pub states : All (IsState f.body.now.code f.body.now.max_locals f.body.now.max_stack) f.states.now
   pub arguments : f.body.now.arg_slots ≤ f.body.now.max_locals

@@ -5,22 +5,24 @@ use Rattle.jc_methods.specs.Flow.{flow_of, jump_target}
 use Rattle.jc_methods.specs.Insn.{with_places}
 use Rattle.jc_methods.specs.declared.insn.Insn.{Insn}
 use Rattle.jc_methods.specs.declared.insn.Flow.{Flow}
+use Rattle.jc_methods.specs.declared.probe_members.Fetch.{Fetch}
+use Rattle.jc_methods.specs.declared.probe_members.Fetch.TheVariants as fetches
 use Rattle.jc_methods.specs.declared.body.Body.{Body}
 use Rattle.jc_plan.specs.declared.branch.Branch.{Branch}
 use Rattle.jc_plan.specs.Probed.{probe_of}
 use Rattle.jc_plan.specs.Plan.{lead_probe}
 use Rattle.jc_kinds_after.specs.Shift.{with_slot}
 use Rattle.jc_emit.specs.Sizes.{TwinForm, insn_at, early_probe, late_probe, arms_at, probe_size, is_wide, behind_size}
-use Rattle.jc_emit.specs.Marks.{TwinPlaces, Marks, aload, iconst_1, bastore, push, prelude_insn, prelude_size}
+use Rattle.jc_emit.specs.Marks.{Marks, TwinPlaces, aload, iconst_1, bastore, push_by, prelude_insn, prelude_size}
 use Rattle.jc_methods.specs.Widened.{goto, inverted}
 use Rattle.jc_emit.specs.TwinCode.{to_of, arm_place}
 use Rattle.jc_methods.specs.declared.insn.Flow.TheVariants as flows
 
--- One instruction of a twin, with the instruction of the body to which it belongs. The first ones are those of the prelude, by
--- their numbers. A probe is late where its edge was taken before it, and not where it stands in front of the goto, return or
--- athrow. An image has the probe that was passed early, and a goto that is no image the probe that is still due where it leads.
+-- One instruction of a twin, with the instruction of the body to which it belongs. The first ones are those of the prelude, by their
+-- numbers. A probe is late where its edge was taken before it, and not where it stands in front of the goto, return or athrow. An
+-- image has the probe that was passed early, and a goto that is no image the probe that is still due where it leads.
 pub data Item : Type 0 where
-  start : (k : ℕ) → Item
+  start : Fetch → (k : ℕ) → Item
   image : (insn : Insn) (at : ℕ) (early : Option ℕ) → Item
   probe_array : (id at : ℕ) (late : Bool) → Item
   probe_id : (id at : ℕ) (late : Bool) → Item
@@ -30,16 +32,16 @@ pub data Item : Type 0 where
 
 -- the instruction, where the probe array stands in local variable v, and the pool has at these places what is named
 abbrev pub insn_of : TwinPlaces → (v : ℕ) → Item → Insn
-insn_of named v (start k) = prelude_insn named v k
-insn_of named v (image insn at early) = insn
-insn_of named v (probe_array id at late) = aload v
-insn_of named v (probe_id id at late) = push id
-insn_of named v (probe_one id at late) = iconst_1
-insn_of named v (probe_store id at late) = bastore
-insn_of named v (hop to at due) = goto to
+insn_of p v (start fetch k) = prelude_insn fetch p v k
+insn_of p v (image insn at early) = insn
+insn_of p v (probe_array id at late) = aload v
+insn_of p v (probe_id id at late) = push_by p.integer id
+insn_of p v (probe_one id at late) = iconst_1
+insn_of p v (probe_store id at late) = bastore
+insn_of p v (hop to at due) = goto to
 
 abbrev pub at_of : Item → ℕ
-at_of (start k) = 0
+at_of (start fetch k) = 0
 at_of (image insn at early) = at
 at_of (probe_array id at late) = at
 at_of (probe_id id at late) = at
@@ -57,7 +59,7 @@ start_extra zero = 0
 start_extra (suc k) = 1
 
 abbrev pub extra_of : Item → ℕ
-extra_of (start k) = start_extra k
+extra_of (start fetch k) = start_extra k
 extra_of (probe_id id at late) = 1
 extra_of (probe_one id at late) = 2
 extra_of (probe_store id at late) = 3
@@ -67,8 +69,9 @@ extra_of _ = 0
 abbrev pub marks_of_items : List Item → Marks
 marks_of_items items = record { at = map at_of items; own = map own_of items; extra = map extra_of items }
 
-abbrev pub prelude : List Item
-prelude = start 0 ∷ start 1 ∷ []
+abbrev pub prelude : Fetch → List Item
+prelude fetches.Member = start fetches.Member 0 ∷ start fetches.Member 1 ∷ []
+prelude fetches.Constant = start fetches.Constant 0 ∷ start fetches.Constant 1 ∷ start fetches.Constant 2 ∷ []
 
 abbrev pub probe : ℕ → ℕ → Bool → List Item
 probe id at late = probe_array id at late ∷ probe_id id at late ∷ probe_one id at late ∷ probe_store id at late ∷ []
@@ -106,7 +109,7 @@ module _ (b : Body) (first : ℕ) (form : TwinForm) where
 
   -- where fall-throughs into i lead, where jumps to i land, and where its image stands
   abbrev pub lead_of : ℕ → ℕ
-  lead_of i = prelude_size + total segment_size i
+  lead_of i = prelude_size form.fetch + total segment_size i
 
   abbrev pub land_of : ℕ → ℕ
   land_of i = lead_of i + probe_size (lead_probe b first i)
@@ -139,4 +142,4 @@ module _ (b : Body) (first : ℕ) (form : TwinForm) where
 
   -- all of it: the prelude, and then what belongs to each instruction
   unfoldable pub twin_items : List Item
-  twin_items = prelude ++ pieces segment (length b.code)
+  twin_items = prelude form.fetch ++ pieces segment (length b.code)

@@ -8,6 +8,7 @@ pub mod Twin
 pub mod Items
 pub mod Emission
 pub mod TwinBody
+pub mod Told
 pub mod Straddling
 pub mod Local
 pub mod Seen

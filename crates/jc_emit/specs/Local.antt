@@ -6,6 +6,7 @@ use Rattle.jc_methods.specs.Insn.{with_places}
 use Rattle.jc_methods.specs.declared.insn.Insn.{Insn}
 use Rattle.jc_methods.specs.declared.insn.Flow.{Flow}
 use Rattle.jc_methods.specs.declared.body.Handler.{Handler}
+use Rattle.jc_methods.specs.declared.probe_members.Fetch.{Fetch}
 use Rattle.jc_plan.specs.declared.branch.Branch.{Branch}
 use Rattle.jc_plan.specs.Edges.{place_of, sequence, jump, branches_of, branches}
 use Rattle.jc_kinds_after.specs.Shift.{with_slot}
@@ -20,7 +21,7 @@ use Rattle.jc_methods.specs.declared.insn.Flow.TheVariants as flows
 
 -- it stands behind the prelude
 abbrev pub IsBehind : Item → Type 0
-IsBehind (start k) = ⊥
+IsBehind (start fetch k) = ⊥
 IsBehind _ = ⊤
 
 -- the id that is still to be hit for an edge that was taken
@@ -146,30 +147,34 @@ module _ (code : List Insn) (slot : Option ℕ) (ids : Branch → Option ℕ) (i
   OkStore q id at false = (insn : Insn) × (slice_get items (q + 1) ≡ Some (image insn at (Some id)))
 
   -- the prelude goes on with its next instruction, if there is one, and else with the first instruction of the method
-  abbrev pub StartsOn : Bool → (q k : ℕ) → Type 0
-  StartsOn true q k = slice_get items (q + 1) ≡ Some (start (suc k))
-  StartsOn false q k = Lands (q + 1) 0 None
+  abbrev pub StartsOn : Bool → (q : ℕ) → Fetch → (k : ℕ) → Type 0
+  StartsOn true q fetch k = slice_get items (q + 1) ≡ Some (start fetch (suc k))
+  StartsOn false q fetch k = Lands (q + 1) 0 None
 
-  -- an instruction of the prelude stands at the place of its number
-  pub record OkStarting (q k : ℕ) : Type 0 where
+  pub record OkStarting (q : ℕ) (fetch : Fetch) (k : ℕ) : Type 0 where
     pub place : q ≡ k
-    pub within : k < prelude_size
-    pub next : StartsOn (nat_lt (suc k) prelude_size) q k
+    pub within : k < prelude_size fetch
+    pub next : StartsOn (nat_lt (suc k) (prelude_size fetch)) q fetch k
+
+  -- behind a probe that is due where a goto leads stands no goto of the twin
+  abbrev pub LandsBehind : (to at : ℕ) → Option ℕ → Type 0
+  LandsBehind to at None = ⊤
+  LandsBehind to at (Some id) = Lands (to + 4) at None
 
   abbrev pub Ok : ℕ → Item → Type 0
-  Ok q (start k) = OkStarting q k
+  Ok q (start fetch k) = OkStarting q fetch k
   Ok q (image new i early) =
       (i < length code) × (early ≡ early_at i) × OkImage q i (insn_at code i) new (flow_of (insn_at code i))
   Ok q (probe_array id at late) = IsOfEdge id at late × (slice_get items (q + 1) ≡ Some (probe_id id at late))
   Ok q (probe_id id at late) = IsOfEdge id at late × (slice_get items (q + 1) ≡ Some (probe_one id at late))
   Ok q (probe_one id at late) = IsOfEdge id at late × (slice_get items (q + 1) ≡ Some (probe_store id at late))
   Ok q (probe_store id at late) = IsOfEdge id at late × OkStore q id at late
-  Ok q (hop to at due) = Lands to at due
+  Ok q (hop to at due) = Lands to at due × LandsBehind to at due
 
   -- a twin begins with the prelude, and an unchanged body with its first instruction
   abbrev pub OkStart : Option ℕ → Type 0
   OkStart None = Lands 0 0 None
-  OkStart (Some v) = slice_get items 0 ≡ Some (start 0)
+  OkStart (Some v) = (fetch : Fetch) × (slice_get items 0 ≡ Some (start fetch 0))
 
   -- each instruction is what it is said to be, and goes on where it should
   pub record AllOk : Type 0 where

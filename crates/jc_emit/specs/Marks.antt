@@ -1,10 +1,15 @@
 -- What is said of each instruction of an instrumented method, and where those stand that the method had.
-use Rattle.std.specs.Prelude.{◌≡◌, ℕ, zero, suc, ◌+◌, ◌-◌, Bool, true, false, List, [], ◌∷◌, Some, pos, nat_le, if◌then◌else◌, length, slice_get}
+use Rattle.std.specs.Prelude.{◌≡◌, ℕ, zero, suc, ◌+◌, ◌-◌, Bool, true, false, List, [], ◌∷◌, Some, pos, nat_le, if◌then◌else◌, length, slice_get, slice_index_or}
 use Rattle.jc_methods.specs.Opcode as opcode
 use Rattle.jc_methods.specs.declared.insn.Insn.{Insn}
 use Rattle.jc_methods.specs.declared.insn.Insn.TheVariants as insns
 use Rattle.jc_methods.specs.declared.body.Body.{Body}
 use Rattle.jc_methods.specs.declared.body.Use.{Use}
+use Rattle.jc_methods.specs.declared.body.What.TheVariants as whats
+use Rattle.jc_methods.specs.declared.probe_members.Fetch.{Fetch}
+use Rattle.jc_methods.specs.declared.probe_members.Fetch.TheVariants as fetches
+use Rattle.jc_methods.specs.ProbeMembers.{most_short}
+use Rattle.jc_methods.specs.WellMade.{what_used}
 use Rattle.jc_plan.specs.Plan.{lead_probe}
 use Rattle.jc_emit.specs.Sizes.{probe_size, early_probe}
 
@@ -42,53 +47,71 @@ iconst_1 = insns.Simple opcode.iconst_1
 abbrev pub bastore : Insn
 bastore = insns.Simple opcode.bastore
 
--- the shortest instruction that pushes a number: iconst_0 to iconst_5, bipush to 127, and sipush
+-- the shortest instruction with its operand in it that pushes a number: iconst_0 to iconst_5, bipush to 127, and sipush
 abbrev pub push : ℕ → Insn
 push n =
     if nat_le n 5 then insns.Simple (opcode.iconst_0 + n)
     else if nat_le n 127 then insns.Push opcode.bipush (pos n)
     else insns.Push opcode.sipush (pos n)
 
--- the instruction pushes the number, where these are the entries of the pool that the code uses
-abbrev pub Pushes : List Use → Insn → ℕ → Type 0
-Pushes uses insn n = insn ≡ push n
+-- the same for each number, where the Integers of those above stand at these places of the pool: ldc of one
+abbrev pub push_by : (integer : ℕ → ℕ) → ℕ → Insn
+push_by integer n = if nat_le n most_short then push n else insns.Constant (integer n)
 
--- Where the pool has what a twin names: the method that gives the array of probes.
+-- The instruction pushes the number, where these are the entries of the pool that the code uses.
+abbrev pub PushesBy : Bool → List Use → Insn → ℕ → Type 0
+PushesBy true uses insn n = insn ≡ push n
+PushesBy false uses insn n = (place : ℕ) × (insn ≡ insns.Constant place) × (what_used uses place ≡ Some (whats.Int (pos n)))
+
+abbrev pub Pushes : List Use → Insn → ℕ → Type 0
+Pushes uses insn n = PushesBy (nat_le n most_short) uses insn n
+
+-- Where the pool has what a twin names: the method or the constant that gives the array of probes; the class of the array, which
+-- a twin names that gets it by a constant; and the Integer of each id that no shorter instruction pushes.
 pub record TwinPlaces : Type 0 where
   pub giver : ℕ
-
-abbrev pub giver_at : (place : ℕ) → TwinPlaces
-giver_at place = record { giver = place }
+  pub array : ℕ
+  pub integer : ℕ → ℕ
 
 -- before the pool has what the prelude names
-abbrev pub unplaced : TwinPlaces
-unplaced = record { giver = 0 }
+abbrev pub unplaced : (integer : ℕ → ℕ) → TwinPlaces
+unplaced integer = record { giver = 0; array = 0; integer = integer }
 
--- The prelude: its instructions in order, each with how many values the ones in front of it have put on the stack. The
--- method with this place in the pool gives the array of probes, and it is stored in local variable v.
-abbrev pub prelude_insns : TwinPlaces → (v : ℕ) → List (Insn × ℕ)
-prelude_insns named v = (invokestatic named.giver, 0) ∷ (astore v, 1) ∷ []
+-- The prelude: its instructions in order, each with how many values the ones in front of it have put on the stack. The array of
+-- probes is got from the method or the constant, and stored in local variable v. The constant is an object for the kind check
+-- (JVM Specification 4.10.1.9), so it is cast to the class of the array.
+abbrev pub prelude_insns : Fetch → TwinPlaces → (v : ℕ) → List (Insn × ℕ)
+prelude_insns fetches.Member p v = (invokestatic p.giver, 0) ∷ (astore v, 1) ∷ []
+prelude_insns fetches.Constant p v = (insns.Constant p.giver, 0) ∷ (insns.OfClass opcode.checkcast p.array, 1) ∷ (astore v, 1) ∷ []
 
 -- how many instructions it has
-abbrev pub prelude_size : ℕ
-prelude_size = length (prelude_insns unplaced 0)
+abbrev pub prelude_size : Fetch → ℕ
+prelude_size fetch = length (prelude_insns fetch (unplaced (λ n. 0)) 0)
 
 -- the one with this number
-abbrev pub prelude_insn : TwinPlaces → (v k : ℕ) → Insn
-prelude_insn named v zero = invokestatic named.giver
-prelude_insn named v (suc k) = astore v
+abbrev pub prelude_insn : Fetch → TwinPlaces → (v k : ℕ) → Insn
+prelude_insn fetch p v k = (slice_index_or (prelude_insns fetch p v) k (insns.Simple opcode.nop, 0)).0
 
 -- A probe stands at a place, and belongs to the instruction `at`: the array of probes stands in local variable v, and
 -- true is stored at the index `id` of it.
-pub record IsProbe (code : List Insn) (m : Marks) (v q id at : ℕ) : Type 0 where
+pub record IsProbe (code : List Insn) (m : Marks) (integer : ℕ → ℕ) (v q id at : ℕ) : Type 0 where
   pub array : HasInsn code m q (aload v) at false 0
-  pub number : HasInsn code m (q + 1) (push id) at false 1
+  pub number : HasInsn code m (q + 1) (push_by integer id) at false 1
+  pub one : HasInsn code m (q + 2) iconst_1 at false 2
+  pub store : HasInsn code m (q + 3) bastore at false 3
+
+-- The same by the number that is pushed, where these are the entries of the pool that the code uses.
+pub record IsProbeBy (uses : List Use) (code : List Insn) (m : Marks) (v q id at : ℕ) : Type 0 where
+  pub pushing : Insn
+  pub pushes : Pushes uses pushing id
+  pub array : HasInsn code m q (aload v) at false 0
+  pub number : HasInsn code m (q + 1) pushing at false 1
   pub one : HasInsn code m (q + 2) iconst_1 at false 2
   pub store : HasInsn code m (q + 3) bastore at false 3
 
 -- no two probes have one id
-abbrev pub HasEachIdOnce : List Insn → Marks → (v : ℕ) → Type 0
-HasEachIdOnce code m v = (q r id at to : ℕ) → IsProbe code m v q id at → IsProbe code m v r id to → q ≡ r
+abbrev pub HasEachIdOnce : List Use → List Insn → Marks → (v : ℕ) → Type 0
+HasEachIdOnce uses code m v = (q r id at to : ℕ) → IsProbeBy uses code m v q id at → IsProbeBy uses code m v r id to → q ≡ r
 
 -- ---- where instructions of the body stand
 

@@ -2,6 +2,7 @@
 use Rattle.std.specs.Prelude.{◌≡◌, ℕ, ◌+◌, ◌≤◌, List, length, slice_index}
 use Rattle.jc_methods.specs.declared.body.Body.{Body}
 use Rattle.jc_methods.specs.declared.plan.Plan.{Plan}
+use Rattle.jc_methods.specs.declared.probe_members.Fetch.{Fetch}
 use Rattle.jc_plan.specs.Plan.{plan_of}
 use Rattle.jc_emit.specs.Sizes.{narrow}
 use Rattle.jc_emit.specs.declared.places.Places.{Places}
@@ -16,12 +17,12 @@ pub record IsTable (place : ℕ → ℕ) (count : ℕ) (table : List ℕ) : Type
   pub size : length table ≡ count + 1
   pub each : (i : ℕ) → i ≤ count → slice_index table i ≡ place i
 
--- where fall-throughs lead, jumps land and images stand, in the narrow layout
-pub record ArePlaces (b : Body) (first : ℕ) (places : Places) : Type 0 where
-  pub leads : IsTable (lead_of b first narrow) (length b.code) places.leads.items
-  pub lands : IsTable (land_of b first narrow) (length b.code) places.lands.items
-  pub images : IsTable (image_of b first narrow) (length b.code) places.images.items
+-- where fall-throughs lead, jumps land and images stand in the code without wide jumps
+pub record ArePlaces (b : Body) (first : ℕ) (fetch : Fetch) (places : Places) : Type 0 where
+  pub leads : IsTable (lead_of b first (narrow fetch)) (length b.code) places.leads.items
+  pub lands : IsTable (land_of b first (narrow fetch)) (length b.code) places.lands.items
+  pub images : IsTable (image_of b first (narrow fetch)) (length b.code) places.images.items
 
--- these are the places of the body with this plan
-abbrev pub ArePlacesFor : Body → Plan → Places → Type 0
-ArePlacesFor b plan places = (first : ℕ) → plan ≡ plan_of b first → ArePlaces b first places
+-- these are the places of the body with this plan, which gets the array of probes so
+abbrev pub ArePlacesFor : Body → Plan → Fetch → Places → Type 0
+ArePlacesFor b plan fetch places = (first : ℕ) → plan ≡ plan_of b first → ArePlaces b first fetch places

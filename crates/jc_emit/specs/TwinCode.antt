@@ -16,7 +16,7 @@ use Rattle.jc_plan.specs.Edges.{branches}
 use Rattle.jc_plan.specs.Probed.{probe_of}
 use Rattle.jc_plan.specs.Plan.{lead_probe}
 use Rattle.jc_emit.specs.Sizes.{TwinForm, insn_at, early_probe, late_probe, arms_at, hop_size, is_wide, wide_size, behind_size}
-use Rattle.jc_emit.specs.Marks.{TwinPlaces, Marks, HasInsn, IsProbe, prelude_insns, prelude_size, image_place, land_place, lead_place}
+use Rattle.jc_emit.specs.Marks.{Marks, HasInsn, IsProbe, TwinPlaces, prelude_insns, prelude_size, image_place, land_place, lead_place}
 
 -- ---- switches
 
@@ -43,9 +43,9 @@ arm_place probe land here [] to = land to
 arm_place probe land here (x ∷ xs) to =
     if nat_eq (to_of x) to then here_or (probe x) here (land to) else arm_place probe land (here + hop_size (probe x)) xs to
 
--- The sentences on the code speak of three functions: where the image of an instruction stands, where jumps to it land,
--- and where a fall-through into it leads.
-module _ (b : Body) (first : ℕ) (form : TwinForm) (code : List Insn) (m : Marks) (image land lead : ℕ → ℕ) where
+-- The sentences on the code speak of where the pool has what it names, and of three functions: where the image of an instruction
+-- stands, where jumps to it land, and where a fall-through into it leads.
+module _ (b : Body) (first : ℕ) (form : TwinForm) (named : TwinPlaces) (code : List Insn) (m : Marks) (image land lead : ℕ → ℕ) where
   -- the instruction at a place of the body
   abbrev pub old : ℕ → Insn
   old i = insn_at b.code i
@@ -58,7 +58,7 @@ module _ (b : Body) (first : ℕ) (form : TwinForm) (code : List Insn) (m : Mark
   HasImage i insn = HasInsn code m (image i) insn i true 0
 
   abbrev pub HasProbe : ℕ → ℕ → ℕ → Type 0
-  HasProbe q id at = IsProbe code m b.arg_slots q id at
+  HasProbe q id at = IsProbe code m named.integer b.arg_slots q id at
 
   -- a goto that is no image leads to where jumps to an instruction land, and belongs to that instruction
   abbrev pub HasHop : ℕ → ℕ → Type 0
@@ -71,9 +71,9 @@ module _ (b : Body) (first : ℕ) (form : TwinForm) (code : List Insn) (m : Mark
   HasPrelude q [] = ⊤
   HasPrelude q (x ∷ xs) = HasInsn code m q x.0 0 false x.1 × HasPrelude (q + 1) xs
 
-  -- The twin begins with them: they fetch the array of probes and put it behind the arguments.
-  pub record Prelude (named : TwinPlaces) : Type 0 where
-    pub first_insns : HasPrelude 0 (prelude_insns named b.arg_slots)
+  -- The twin begins with them: they get the array of probes and put it behind the arguments.
+  pub record Prelude : Type 0 where
+    pub first_insns : HasPrelude 0 (prelude_insns form.fetch named b.arg_slots)
 
   -- ---- images
 
@@ -94,14 +94,13 @@ module _ (b : Body) (first : ℕ) (form : TwinForm) (code : List Insn) (m : Mark
   pub record Places : Type 0 where
     pub early : (i id : ℕ) → i < length b.code → early_probe b first i ≡ Some id → HasProbe (land i) id i
     pub leads : (i id : ℕ) → i < length b.code → lead_probe b first i ≡ Some id → HasProbe (lead i) id i
-    pub first_place : lead 0 ≡ prelude_size
+    pub first_place : lead 0 ≡ prelude_size form.fetch
     pub next_place : (i : ℕ) → i < length b.code → lead (i + 1) ≡ image i + 1 + behind_size b first form i
 
   -- ---- jumps
 
-  -- A conditional jump is the image of its instruction. Where it is wide, as its offset might not fit, the image is its inverse, which leads
-  -- to the place two behind it, and directly behind it stands a goto to where the jump leads, which belongs to the instruction to which it
-  -- leads on.
+  -- A conditional jump is the image of its instruction. Where it is wide, the image is its inverse, which leads to the place two
+  -- behind it, and directly behind it stands a goto to where the jump leads, which belongs to the instruction to which it leads on.
   abbrev pub HasTest : Bool → ℕ → Insn → ℕ → Type 0
   HasTest false i insn on = HasImage i insn
   HasTest true i insn on =
@@ -211,7 +210,7 @@ module _ (b : Body) (first : ℕ) (form : TwinForm) (code : List Insn) (m : Mark
   -- no probe is told.
   pub record NothingElse : Type 0 where
     pub probes : (e : ProbedEdge) → HasProbe (probe_place e.branch) e.id (probe_owner e.branch)
-    pub others : (q : ℕ) → q < length code → (q < prelude_size) ⊎ ((slice_get m.own q ≡ Some true) ⊎ IsAdded q)
+    pub others : (q : ℕ) → q < length code → (q < prelude_size form.fetch) ⊎ ((slice_get m.own q ≡ Some true) ⊎ IsAdded q)
 
   -- A probe with this id, which stands at q and belongs to `at`, is that of a probed edge.
   pub record IsProbeOf (q id at : ℕ) : Type 0 where
@@ -228,22 +227,22 @@ module _ (b : Body) (first : ℕ) (form : TwinForm) (code : List Insn) (m : Mark
 
   -- ---- the whole
 
-  pub record Sentences (named : TwinPlaces) : Type 0 where
+  pub record Sentences : Type 0 where
     pub lengths : Lengths
-    pub prelude : Prelude named
+    pub prelude : Prelude
     pub images : Images
     pub nothing_else : NothingElse
     pub places : Places
     pub jumps : Jumps
     pub switches : Switches
 
--- The code and its marks are those of the twin of the body whose first id is `first`, in this form, where the pool has at these
--- places what it names. The three functions are told by the own instructions.
+-- The code and its marks are those of the twin of the body whose first id is `first`, in this form, where the pool has at these places
+-- what the twin names. The three functions are told by the own instructions.
 abbrev pub IsTwinCode : Body → ℕ → TwinForm → TwinPlaces → List Insn → Marks → Type 0
 IsTwinCode b first form named code m =
-    Sentences b first form code m (image_place m.own) (land_place b first m.own) (lead_place b first m.own) named
+    Sentences b first form named code m (image_place m.own) (land_place b first m.own) (lead_place b first m.own)
 
 -- the same of a probe in it
-abbrev pub IsProbeIn : Body → ℕ → TwinForm → List Insn → Marks → ℕ → ℕ → ℕ → Type 0
-IsProbeIn b first form code m q id at =
-    IsProbeOf b first form code m (image_place m.own) (land_place b first m.own) (lead_place b first m.own) q id at
+abbrev pub IsProbeIn : Body → ℕ → TwinForm → TwinPlaces → List Insn → Marks → ℕ → ℕ → ℕ → Type 0
+IsProbeIn b first form named code m q id at =
+    IsProbeOf b first form named code m (image_place m.own) (land_place b first m.own) (lead_place b first m.own) q id at

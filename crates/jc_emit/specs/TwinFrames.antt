@@ -87,11 +87,12 @@ module _ (b : Body) (first : ℕ) (states : List State) (image land lead : ℕ �
     pub behind : IsFrameBehind 2 q state
     pub layout : is_wide form behind.test ≡ true
 
-  -- the frames of every layout
+  -- the frames of every form
   abbrev pub IsNarrowFrame : ℕ → State → Type 0
   IsNarrowFrame q state = IsOldFrame q state ⊎ (IsInverseFrame q state ⊎ IsArmFrame q state)
 
-  -- the frames of the layout
+  -- The frames of a form. The frame behind a wide conditional jump stands at one place with another only where that is the frame of
+  -- the body at the next instruction, in front of which no probe stands: then both say the state of that instruction.
   abbrev pub IsFrame : TwinForm → ℕ → State → Type 0
   IsFrame form q state = IsNarrowFrame q state ⊎ IsWideFrame form q state
 

@@ -1,5 +1,5 @@
 -- The twin of a program: the same classes, some of them with their probes.
-use Rattle.std.specs.Prelude.{◌≡◌, ◌⊎◌, ⊤, ℕ, pos, ◌+◌, List, [], ◌∷◌, ◌++◌, map, Some, None, Contains}
+use Rattle.std.specs.Prelude.{◌≡◌, ◌⊎◌, ⊤, ℕ, ◌+◌, List, [], ◌∷◌, ◌++◌, map, Some, None, Contains}
 use Rattle.std.specs.Int.{w64, cast_signed}
 use Rattle.std.specs.List.{sum_by}
 use Rattle.jc_methods.specs.VerificationTypes.{Names, type_state_at}
@@ -12,8 +12,11 @@ use Rattle.jc_programs.specs.declared.program.Program.{Program}
 use Rattle.jc_kinds.specs.Answers.{AreStates}
 use Rattle.jc_kinds.specs.Checked.{Checked}
 use Rattle.jc_plan.specs.Probed.{probe_count}
-use Rattle.jc_methods.specs.ProbeMembers.{data_name, data_type, init_name}
-use Rattle.jc_emit.specs.Added.{IsInitBody}
+use Rattle.jc_methods.specs.declared.body.What.{What}
+use Rattle.jc_methods.specs.declared.probe_members.Fetch.{Fetch}
+use Rattle.jc_methods.specs.declared.probe_members.Fetch.TheVariants as fetches
+use Rattle.jc_methods.specs.ProbeMembers.{data_name, init_name, fetch_of}
+use Rattle.jc_emit.specs.Added.{IsAddedBody, giver_of, bootstrap_of, added_statics}
 use Rattle.jc_emit.specs.Straddling.{NoneStraddles}
 use Rattle.jc_emit.specs.Twin.{Twin}
 
@@ -55,37 +58,38 @@ pub record HasNeither (class : Linked) : Type 0 where
   pub bodies : (b : Body) → Contains class.bodies b → IsAddedName b.name → ⊥
   pub statics : (f : StaticField) → Contains class.statics f → IsAddedName f.name → ⊥
 
--- the twin of a body whose first id is this one, and whose prelude calls a method of this class
-pub record HasTwinBody (names new_names : Names) (owner : List ℕ) (first : ℕ) (b b' : Body) : Type 0 where
+-- the twin of a body whose first id is this one, of a class that gets its array so, from what gives it
+pub record HasTwinBody (names new_names : Names) (fetch : Fetch) (giver : What) (first : ℕ) (b b' : Body) : Type 0 where
   pub states : List State
   pub are : AreStates names b states
-  pub twin : Twin names new_names states owner first b b'
+  pub twin : Twin names new_names states fetch giver first b b'
 
 -- Each body has its twin, in order, and behind them stands one body more. The first ids are told by the bodies in front.
-abbrev pub AreTwinBodies : Names → Names → (owner : List ℕ) → ℕ → List Body → List Body → Body → Type 0
-AreTwinBodies names new_names owner first [] others added = others ≡ added ∷ []
-AreTwinBodies names new_names owner first (b ∷ bodies) [] added = ⊥
-AreTwinBodies names new_names owner first (b ∷ bodies) (b' ∷ others) added =
-    HasTwinBody names new_names owner first b b' × AreTwinBodies names new_names owner (first + probe_count b) bodies others added
+abbrev pub AreTwinBodies : Names → Names → Fetch → (giver : What) → ℕ → List Body → List Body → Body → Type 0
+AreTwinBodies names new_names fetch giver first [] others added = others ≡ added ∷ []
+AreTwinBodies names new_names fetch giver first (b ∷ bodies) [] added = ⊥
+AreTwinBodies names new_names fetch giver first (b ∷ bodies) (b' ∷ others) added =
+    HasTwinBody names new_names fetch giver first b b' × AreTwinBodies names new_names fetch giver (first + probe_count b) bodies others added
 
--- the static field that keeps the probe array, none before the program begins
-abbrev pub data_static : StaticField
-data_static = record { name = data_name; desc = data_type; first = pos 0 }
-
--- The second has a twin of each body of the first, which calls the method that was added to this class.
+-- The second has a twin of each body of the first, all of which get the array as classes of this version do: by the added method of
+-- their own class, or by the constant that the bootstrap method with one and the same number gives.
 pub record IsChangedPair (names new_names : Names) (class new : Linked) : Type 0 where
   pub name : new.name ≡ class.name
   pub version : new.version ≡ class.version
+  -- The machine knows no dynamic constant yet, and every class that is accepted has a version in which the method gives the array.
+  pub by_member : fetch_of class.version ≡ fetches.Member
   pub has_clinit : new.has_clinit ≡ class.has_clinit
   pub none_added : HasNeither class
   pub no_probes : class.probes ≡ None
   pub none_straddles : (b : Body) → Contains class.bodies b → NoneStraddles b
   pub id : ℕ
+  pub bootstrap : ℕ
   pub added : Body
-  pub bodies : AreTwinBodies names new_names class.name 0 class.bodies new.bodies added
-  pub added_is : IsInitBody new_names class.name (cast_signed w64 id) (sum_by probe_count class.bodies) added
-  pub statics : new.statics ≡ class.statics ++ data_static ∷ []
-  pub probes : new.probes ≡ Some (record { id = id; count = sum_by probe_count class.bodies; bootstrap = None })
+  pub bodies : AreTwinBodies names new_names (fetch_of class.version) (giver_of (fetch_of class.version) class.name bootstrap) 0 class.bodies new.bodies added
+  pub added_is : IsAddedBody (fetch_of class.version) new_names class.name (cast_signed w64 id) (sum_by probe_count class.bodies) added
+  pub statics : new.statics ≡ class.statics ++ added_statics (fetch_of class.version)
+  pub probes : new.probes
+      ≡ Some (record { id = id; count = sum_by probe_count class.bodies; bootstrap = bootstrap_of (fetch_of class.version) bootstrap })
 
 abbrev pub IsPair : Names → Names → Linked → Linked → Type 0
 IsPair names new_names class new = IsUnchangedPair names new_names class new ⊎ IsChangedPair names new_names class new

@@ -1,27 +1,24 @@
 //! Laws of instrumented code and the kind check.
 ghost use Rattle.std.specs.Prelude.{ℕ, ℤ, List, Contains};
 ghost use Rattle.jc_methods.specs.VerificationTypes.{Names};
-ghost use Rattle.jc_methods.specs.WellMade.{IsWellMadeOfAnySize};
 ghost use Rattle.jc_methods.specs.declared.body.Body.{Body};
-ghost use Rattle.jc_methods.specs.declared.kind.State.{State};
-ghost use Rattle.jc_kinds.specs.Answers.{AreStates};
 ghost use Rattle.jc_kinds.specs.Checked.{Checked};
 ghost use Rattle.jc_programs.specs.declared.program.Linked.{Linked};
 ghost use Rattle.jc_programs.specs.declared.program.Program.{Program};
-ghost use Rattle.jc_emit.specs.Added.{IsInitBody};
-ghost use Rattle.jc_emit.specs.Straddling.{NoneStraddles};
-ghost use Rattle.jc_emit.specs.Twin.{Twin};
-ghost use Rattle.jc_emit.specs.TwinProgram.{TwinProgram};
+ghost use Rattle.jc_methods.specs.declared.probe_members.Fetch.{Fetch};
+ghost use Rattle.jc_emit.specs.Added.{giver_of, IsAddedBody};
+ghost use Rattle.jc_emit.specs.Told.{CanHaveTwin};
+ghost use Rattle.jc_emit.specs.TwinProgram.{TwinProgram, HasTwinBody};
 
-/// The twin of a body that passes the kind check passes it too.
+/// The twin of a body that passes the kind check passes it too, where its class's method or constant gives it the array.
 pub fn each_twin_is_verified()
-    ensures { (names names' : Names) (states : List State) (owner : List ℕ) (first : ℕ) (b b' : Body) → IsWellMadeOfAnySize b → Checked names b
-        → AreStates names b states → NoneStraddles b → Twin names names' states owner first b b' → Checked names' b' }
+    ensures { (names names' : Names) (fetch : Fetch) (class : List ℕ) (bootstrap first : ℕ) (b b' : Body) → CanHaveTwin names b
+        → HasTwinBody names names' fetch (giver_of fetch class bootstrap) first b b' → Checked names' b' }
 {}
 
 /// The method that is added to a class passes the kind check.
 pub fn each_init_is_verified()
-    ensures { (names : Names) (class : List ℕ) (id : ℤ) (count : ℕ) (b : Body) → IsInitBody names class id count b
+    ensures { (fetch : Fetch) (names : Names) (class : List ℕ) (id : ℤ) (count : ℕ) (b : Body) → IsAddedBody fetch names class id count b
         → Checked names b }
 {}
 

@@ -2,7 +2,7 @@
 ghost use Rattle.std.specs.Prelude.{◌≡◌, ◌⊎◌, ⊤, ℕ, ◌+◌, ◌≤◌};
 ghost use Rattle.std.specs.Prelude.{Some, None, length, IfOk, OnOk, IfErr, IfSome, MatchResult};
 ghost use Rattle.std.specs.List.{sum_by};
-ghost use Rattle.jc_methods.specs.ProbeMembers.{most_probes};
+ghost use Rattle.jc_methods.specs.ProbeMembers.{most_ids, most_short};
 ghost use Rattle.jc_methods.specs.VerificationTypes.{Grows, AreNumberedFrames};
 ghost use Rattle.jc_methods.specs.Insn.{arm_count};
 ghost use Rattle.jc_bytes.specs.Names.{with_name};
@@ -12,8 +12,9 @@ ghost use Rattle.jc_kinds.specs.Answers.{AreStates, refusal_of};
 ghost use Rattle.jc_bytes.specs.Failing.{Said};
 ghost use Rattle.jc_plan.specs.Plan.{plan_of};
 ghost use Rattle.jc_emit.specs.Emission.{IsArrayNumber, emission};
+ghost use Rattle.jc_emit.specs.Written.{given, integer_in};
 ghost use Rattle.jc_emit.specs.Framing.{ArePut};
-ghost use Rattle.jc_emit.specs.Placing.{HasPlan};
+ghost use Rattle.jc_emit.specs.Placing.{HasPlan, ArePlacesFor};
 ghost use Rattle.jc_emit.specs.Refusing.{IsEmitRefusal, IsTaken, HasRoom};
 ghost use Rattle.jc_emit.specs.Shift.{probe_array_class};
 ghost use Rattle.jc_emit.specs.Straddling.{IsEmitReason};
@@ -21,12 +22,12 @@ ghost use Rattle.jc_emit.specs.Twin.{IsEmitted};
 
 use crate::frames::Framing;
 use crate::places::Places;
-use crate::segments::write_code;
+use crate::segments::{CodeSource, write_code};
 use crate::straddling::straddles;
 use crate::tables::{MovedTables, moved_tables};
 use crate::written::Written;
 use jc_bytes::{Fail, List, Memory, Names, Refusal, RefusalKind};
-use jc_methods::{Body, Emitted, PROBE_ARRAY, Plan, State};
+use jc_methods::{Body, Emitted, Fetch, PROBE_ARRAY, Plan, State};
 use std::alloc::Global;
 
 /// A refusal of the method.
@@ -64,27 +65,34 @@ pub(crate) fn refused(body: &Body) -> Option<Refusal>
 /// number.
 fn instrumented(
     alloc: Global,
-    body: &Body,
-    plan: &Plan,
+    source: CodeSource<'_>,
     states: &[State],
     array: u32,
 ) -> Result<Emitted, Memory>
-    requires body { IsWellMade body.now }
-    requires plan { HasPlan body.now plan.now }
-    requires next { plan.now.next ≤ most_probes }
-    requires states { ArePut body.now states.now }
-    requires room { HasRoom body.now }
-    ensures { (first : ℕ) → plan.now ≡ plan_of body.now first → IfOk result (λ e. e ≡ emission body.now first states.now array) }
+    requires body { IsWellMade source.body.now }
+    requires plan { HasPlan source.body.now source.plan.now }
+    requires next { source.plan.now.next ≤ most_ids }
+    requires enough { source.plan.now.next ≤ most_short + 1 + length source.constants.now }
+    requires places { ArePlacesFor source.body.now source.plan.now source.fetch source.places.now }
+    requires states { ArePut source.body.now states.now }
+    requires room { HasRoom source.body.now }
+    ensures { (first : ℕ) → source.entry.plan.now ≡ plan_of source.entry.body.now first → IfOk result
+        (λ e. e ≡ emission source.entry.body.now first states.now (given source.entry.fetch array source.entry.constants.now)) }
 {
-    let places = Places::of(alloc, body, plan)?;
     let Written {
         code,
         at,
         own,
         extra,
-    } = write_code(alloc, body, plan, &places)?;
-    let framing = Framing::of(alloc, body, plan, &places, states, array)?;
-    let frames = framing.layout_frames(false)?;
+    } = write_code(alloc, source)?;
+    let CodeSource {
+        body,
+        plan,
+        places,
+        ..
+    } = source;
+    let framing = Framing::of(alloc, body, plan, places, states, array)?;
+    let frames = framing.layout_frames(&[])?;
     let wide_frames = framing.wide_frames()?;
     let MovedTables {
         handlers,
@@ -93,7 +101,7 @@ fn instrumented(
         kind_vars,
         max_stack,
         max_locals,
-    } = moved_tables(alloc, body, &places)?;
+    } = moved_tables(alloc, body, places)?;
     Ok(Emitted {
         code: List::from_vec(code),
         at: List::from_vec(at),
@@ -110,9 +118,12 @@ fn instrumented(
     })
 }
 
-/// The instrumented code of a method in the narrow layout: each instruction with the probes of its edges in
-/// front of it or behind it, and the tables and frames that belong to it. The pool places of the call in front
-/// are 0, until the class has the method that it calls.
+/// The instrumented code of a method without wide jumps: each instruction with the probes of its edges in
+/// front of it or behind it, and the tables and frames that belong to it. The places in the pool of what the
+/// instructions in front name are 0, until the class has the method or the constant that gives the array of probes.
+/// An id above 32,767 is pushed by `ldc` of its Integer: `constants[k]` is the place of the Integer 32,768 + k.
+///
+/// `wide_frames` has one frame for each conditional jump, in order, for where that jump is wide.
 ///
 /// The local variable behind the arguments, of number v, holds the array of probes, whose class `[Z` gets a
 /// number in `names`. A local variable at or above v goes up by one. A probe of a fall-through, of a `goto`, of
@@ -135,19 +146,22 @@ pub fn emit(
     body: &Body,
     plan: &Plan,
     states: &[State],
+    fetch: Fetch,
+    constants: &[u16],
     names: &mut Names,
 ) -> Result<Emitted, Fail<Refusal>>
     requires body { IsWellMade body.now }
     requires plan { HasPlan body.now plan.now }
-    requires next { plan.now.next ≤ most_probes }
+    requires next { plan.now.next ≤ most_ids }
+    requires enough { plan.now.next ≤ most_short + 1 + length constants.now }
     requires states { AreStates names.old body.now states.now }
     requires frames { AreNumberedFrames (length names.old) body.now.frames }
     // What is given is the emission of the definition, with the number of `[Z` in the names afterwards.
     ensures emitted { (first : ℕ) → plan.now ≡ plan_of body.now first → IfOk result
-        (λ e. (array : ℕ) × IsArrayNumber names.new array × (e ≡ emission body.now first states.now array)) }
+        (λ e. (array : ℕ) × IsArrayNumber names.new array × (e ≡ emission body.now first states.now (given fetch array constants.now))) }
     // So it is instrumented code of the body.
     ensures twin { (first : ℕ) → plan.now ≡ plan_of body.now first
-        → IfOk result (IsEmitted names.new names.new states.now first body.now) }
+        → IfOk result (IsEmitted names.new names.new states.now fetch (integer_in constants.now) first body.now) }
     ensures few { IfOk result (λ e. length e.code + sum_by arm_count e.code ≤ 1000000) }
     ensures refused { IfErr result (λ e. Said e (IsEmitRefusal body.now)) }
     // Each refusal comes exactly where its reason holds, unless memory runs out.
@@ -165,6 +179,14 @@ pub fn emit(
         return Err(Fail::Said(refusal));
     }
     let array = names.number(alloc, PROBE_ARRAY)?;
-    let emitted = instrumented(alloc, body, plan, states, array)?;
+    let places = Places::of(alloc, body, plan, fetch)?;
+    let source = CodeSource {
+        body,
+        plan,
+        fetch,
+        constants,
+        places: &places,
+    };
+    let emitted = instrumented(alloc, source, states, array)?;
     Ok(emitted)
 }

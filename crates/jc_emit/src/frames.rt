@@ -8,14 +8,15 @@ ghost use Rattle.jc_methods.specs.WellMade.{IsState};
 ghost use Rattle.jc_emit.specs.Shift.{image_kind, shifted_state};
 ghost use Rattle.jc_emit.specs.Sizes.{insn_at, late_probe};
 ghost use Rattle.jc_emit.specs.TwinFrames.{operands_of};
-ghost use Rattle.jc_emit.specs.Emission.{frame, frame_if, moved_state, has_inverse};
+ghost use Rattle.jc_methods.specs.Widened.{listed};
+ghost use Rattle.jc_emit.specs.Emission.{Emitting, frame, frame_if, moved_state, has_inverse};
 ghost use Rattle.jc_emit.specs.Emission.{frames_at, wide_frames_at, arm_frames_at};
-ghost use Rattle.jc_emit.specs.Stages.{layout_frames, layout_frames_at};
+ghost use Rattle.jc_emit.specs.Stages.{is_framed_behind, further_frames_at, layout_frames, layout_frames_at};
 ghost use Rattle.jc_emit.specs.Framing.{IsMadeWithin, without, AreFramed, id_frames, IsFraming};
 
 use crate::places::{Places, hop_size};
 use jc_bytes::{List, Memory, TryClone};
-use jc_methods::{Body, Flow, FrameAt, Insn, Kind, Plan, State, opcode};
+use jc_methods::{Body, Flow, FrameAt, Insn, Kind, Plan, State, is_listed, opcode};
 use std::alloc::Global;
 
 /// A type, where an object without a constructor's call is named by the image of its `new`.
@@ -141,13 +142,6 @@ fn is_landed(framed: bool, inverse: bool, lead: bool) -> bool
     framed || (inverse && !lead)
 }
 
-/// Whether the wide layout needs a further frame where a fall-through leads.
-fn is_further(framed: bool, lead: bool) -> bool
-    ensures { result ≡ not (framed && not lead) }
-{
-    !(framed && !lead)
-}
-
 /// What the frames of the instrumented code of a method are made from.
 #[derive(Drop)]
 pub(crate) struct Framing<'a> {
@@ -195,9 +189,9 @@ impl<'a> Framing<'a> {
 
     /// The probe of the jump of a conditional jump.
     fn late_probe(&self, at: usize) -> Option<u32>
-        requires framing { (first : ℕ) × IsFraming first self.now }
+        requires framing { (first : ℕ) × (given : Emitting) × IsFraming first given self.now }
         requires at { at < length self.now.body.now.code }
-        ensures { (first : ℕ) → IsFraming first self.now → result ≡ late_probe self.now.body.now first at }
+        ensures { (first : ℕ) (given : Emitting) → IsFraming first given self.now → result ≡ late_probe self.now.body.now first at }
     {
         match self.body.code[at].flow() {
             Flow::Branches => match self.plan.out[at].as_slice() {
@@ -210,10 +204,10 @@ impl<'a> Framing<'a> {
 
     /// Whether the jump in front of an instruction is inverted, and leads to where the fall-through does.
     fn has_inverse(&self, at: usize) -> bool
-        requires framing { (first : ℕ) × IsFraming first self.now }
+        requires framing { (first : ℕ) × (given : Emitting) × IsFraming first given self.now }
         requires at { at < length self.now.body.now.code }
-        ensures { (first : ℕ) → IsFraming first self.now
-            → result ≡ has_inverse self.now.body.now first self.now.states.now self.now.array at }
+        ensures { (first : ℕ) (given : Emitting) → IsFraming first given self.now
+            → result ≡ has_inverse self.now.body.now first self.now.states.now given at }
     {
         if at == 0 {
             return false;
@@ -223,10 +217,10 @@ impl<'a> Framing<'a> {
 
     /// The shifted form of a state without so many of its topmost stack entries.
     fn moved(&self, state: &State, operands: usize) -> Result<State, Memory>
-        requires framing { (first : ℕ) × IsFraming first self.now }
+        requires framing { (first : ℕ) × (given : Emitting) × IsFraming first given self.now }
         requires state { IsState self.now.body.now.code self.now.body.now.max_locals self.now.body.now.max_stack state.now }
-        ensures { (first : ℕ) → IsFraming first self.now → IfOk result (λ s. s
-            ≡ moved_state self.now.body.now first self.now.states.now self.now.array (without operands state.now)) }
+        ensures { (first : ℕ) (given : Emitting) → IsFraming first given self.now → IfOk result (λ s. s
+            ≡ moved_state self.now.body.now first self.now.states.now given (without operands state.now)) }
     {
         shifted(
             self.alloc,
@@ -247,10 +241,10 @@ impl<'a> Framing<'a> {
         operands: usize,
         frames: &mut Vec<FrameAt>,
     ) -> Result<(), Memory>
-        requires framing { (first : ℕ) × IsFraming first self.now }
+        requires framing { (first : ℕ) × (given : Emitting) × IsFraming first given self.now }
         requires state { IsState self.now.body.now.code self.now.body.now.max_locals self.now.body.now.max_stack state.now }
-        ensures { (first : ℕ) → IsFraming first self.now → OnOk result (frames.new.items ≡ frames.old.items ++ frame_if test
-            (frame place (moved_state self.now.body.now first self.now.states.now self.now.array (without operands state.now)))) }
+        ensures { (first : ℕ) (given : Emitting) → IsFraming first given self.now → OnOk result (frames.new.items ≡ frames.old.items ++ frame_if test
+            (frame place (moved_state self.now.body.now first self.now.states.now given (without operands state.now)))) }
     {
         if !test {
             return Ok(());
@@ -262,10 +256,10 @@ impl<'a> Framing<'a> {
 
     /// Puts the frames at the arm places of a switch.
     fn put_arms_at(&self, at: usize, frames: &mut Vec<FrameAt>) -> Result<(), Memory>
-        requires framing { (first : ℕ) × IsFraming first self.now }
+        requires framing { (first : ℕ) × (given : Emitting) × IsFraming first given self.now }
         requires at { at < length self.now.body.now.code }
-        ensures { (first : ℕ) → IsFraming first self.now → OnOk result (frames.new.items
-            ≡ frames.old.items ++ arm_frames_at self.now.body.now first self.now.states.now self.now.array at) }
+        ensures { (first : ℕ) (given : Emitting) → IsFraming first given self.now → OnOk result (frames.new.items
+            ≡ frames.old.items ++ arm_frames_at self.now.body.now first self.now.states.now given at) }
     {
         let insn = &self.body.code[at];
         match insn.flow() {
@@ -281,10 +275,10 @@ impl<'a> Framing<'a> {
 
     /// Puts the frames of what belongs to an instruction.
     fn put_at(&self, at: usize, frames: &mut Vec<FrameAt>) -> Result<(), Memory>
-        requires framing { (first : ℕ) × IsFraming first self.now }
+        requires framing { (first : ℕ) × (given : Emitting) × IsFraming first given self.now }
         requires at { at < length self.now.body.now.code }
-        ensures { (first : ℕ) → IsFraming first self.now → OnOk result (frames.new.items
-            ≡ frames.old.items ++ frames_at self.now.body.now first self.now.states.now self.now.array at) }
+        ensures { (first : ℕ) (given : Emitting) → IsFraming first given self.now → OnOk result (frames.new.items
+            ≡ frames.old.items ++ frames_at self.now.body.now first self.now.states.now given at) }
     {
         let lead = self.plan.lead[at].is_some();
         let inverse = self.has_inverse(at);
@@ -297,13 +291,13 @@ impl<'a> Framing<'a> {
         Ok(())
     }
 
-    /// Puts the frame that the wide layout needs behind a conditional jump, where none stands.
+    /// Puts the frame behind a conditional jump, for where it is wide.
     fn put_behind(&self, at: usize, frames: &mut Vec<FrameAt>) -> Result<(), Memory>
-        requires framing { (first : ℕ) × IsFraming first self.now }
+        requires framing { (first : ℕ) × (given : Emitting) × IsFraming first given self.now }
         requires at { at < length self.now.body.now.code }
         requires tests { flow_of (insn_at self.now.body.now.code at) ≡ flows.Branches }
-        ensures { (first : ℕ) → IsFraming first self.now → OnOk result (frames.new.items
-            ≡ frames.old.items ++ wide_frames_at self.now.body.now first self.now.states.now self.now.array at) }
+        ensures { (first : ℕ) (given : Emitting) → IsFraming first given self.now → OnOk result (frames.new.items
+            ≡ frames.old.items ++ wide_frames_at self.now.body.now first self.now.states.now given at) }
     {
         let behind = self.places.images[at] + 1;
         match self.late_probe(at) {
@@ -313,20 +307,18 @@ impl<'a> Framing<'a> {
                 Ok(())
             }
             None => {
-                let next = at + 1;
-                let further = is_further(self.framed[next], self.plan.lead[next].is_some());
-                self.put_if(further, behind, &self.states[next], 0, frames)?;
+                self.put_if(true, behind, &self.states[at + 1], 0, frames)?;
                 Ok(())
             }
         }
     }
 
-    /// Puts the further frame of the wide layout of what belongs to an instruction, if there is one.
+    /// Puts the frame behind an instruction for where it is wide, if it is a conditional jump.
     fn put_wide_at(&self, at: usize, frames: &mut Vec<FrameAt>) -> Result<(), Memory>
-        requires framing { (first : ℕ) × IsFraming first self.now }
+        requires framing { (first : ℕ) × (given : Emitting) × IsFraming first given self.now }
         requires at { at < length self.now.body.now.code }
-        ensures { (first : ℕ) → IsFraming first self.now → OnOk result (frames.new.items
-            ≡ frames.old.items ++ wide_frames_at self.now.body.now first self.now.states.now self.now.array at) }
+        ensures { (first : ℕ) (given : Emitting) → IsFraming first given self.now → OnOk result (frames.new.items
+            ≡ frames.old.items ++ wide_frames_at self.now.body.now first self.now.states.now given at) }
     {
         match self.body.code[at].flow() {
             Flow::Branches => {
@@ -337,25 +329,60 @@ impl<'a> Framing<'a> {
         }
     }
 
-    /// Puts the frames of a layout of what belongs to an instruction.
-    fn put_layout_at(&self, wide: bool, at: usize, frames: &mut Vec<FrameAt>) -> Result<(), Memory>
-        requires framing { (first : ℕ) × IsFraming first self.now }
+    /// Whether a frame stands where a fall-through from an instruction leads, with no probe in front of it.
+    fn is_framed_behind(&self, at: usize) -> bool
+        requires framing { (first : ℕ) × (given : Emitting) × IsFraming first given self.now }
         requires at { at < length self.now.body.now.code }
-        ensures { (first : ℕ) → IsFraming first self.now → OnOk result (frames.new.items
-            ≡ frames.old.items ++ layout_frames_at self.now.body.now first self.now.states.now self.now.array wide at) }
+        requires tests { flow_of (insn_at self.now.body.now.code at) ≡ flows.Branches }
+        ensures { (first : ℕ) (given : Emitting) → IsFraming first given self.now
+            → result ≡ is_framed_behind self.now.body.now first self.now.states.now given at }
     {
-        self.put_at(at, frames)?;
-        if wide {
-            self.put_wide_at(at, frames)?;
-        }
-        Ok(())
+        self.late_probe(at).is_none() && self.framed[at + 1] && self.plan.lead[at + 1].is_none()
     }
 
-    /// The frames of a layout, in rising order.
-    pub(crate) fn layout_frames(&self, wide: bool) -> Result<Vec<FrameAt>, Memory>
-        requires { (first : ℕ) × IsFraming first self.now }
-        ensures { (first : ℕ) → IsFraming first self.now → IfOk result (λ frames. frames.items
-            ≡ layout_frames self.now.body.now first self.now.states.now self.now.array wide) }
+    /// Puts the frame behind an instruction if it is a wide conditional jump, behind which none stands.
+    fn put_further_at(
+        &self,
+        wide: &[bool],
+        at: usize,
+        frames: &mut Vec<FrameAt>,
+    ) -> Result<(), Memory>
+        requires framing { (first : ℕ) × (given : Emitting) × IsFraming first given self.now }
+        requires at { at < length self.now.body.now.code }
+        ensures { (first : ℕ) (given : Emitting) → IsFraming first given self.now → OnOk result (frames.new.items
+            ≡ frames.old.items ++ further_frames_at self.now.body.now first self.now.states.now given (listed wide.now) at) }
+    {
+        let image = self.places.images[at] as usize;
+        match self.body.code[at].flow() {
+            Flow::Branches if is_listed(wide, image) && !self.is_framed_behind(at) => {
+                self.put_behind(at, frames)?;
+                Ok(())
+            }
+            _ => Ok(()),
+        }
+    }
+
+    /// Puts the frames of what belongs to an instruction, where these jumps are wide.
+    fn put_layout_at(
+        &self,
+        wide: &[bool],
+        at: usize,
+        frames: &mut Vec<FrameAt>,
+    ) -> Result<(), Memory>
+        requires framing { (first : ℕ) × (given : Emitting) × IsFraming first given self.now }
+        requires at { at < length self.now.body.now.code }
+        ensures { (first : ℕ) (given : Emitting) → IsFraming first given self.now → OnOk result (frames.new.items
+            ≡ frames.old.items ++ layout_frames_at self.now.body.now first self.now.states.now given (listed wide.now) at) }
+    {
+        self.put_at(at, frames)?;
+        self.put_further_at(wide, at, frames)
+    }
+
+    /// The frames of the code where these jumps are wide, in rising order.
+    pub(crate) fn layout_frames(&self, wide: &[bool]) -> Result<Vec<FrameAt>, Memory>
+        requires { (first : ℕ) × (given : Emitting) × IsFraming first given self.now }
+        ensures { (first : ℕ) (given : Emitting) → IsFraming first given self.now → IfOk result (λ frames. frames.items
+            ≡ layout_frames self.now.body.now first self.now.states.now given (listed wide.now)) }
     {
         let mut frames = Vec::new(self.alloc);
         'framing: for at in 0..self.body.code.len() {
@@ -364,11 +391,11 @@ impl<'a> Framing<'a> {
         Ok(frames)
     }
 
-    /// The further frames that the wide layout needs, in rising order.
+    /// The frames behind conditional jumps, for where these are wide, in rising order.
     pub(crate) fn wide_frames(&self) -> Result<Vec<FrameAt>, Memory>
-        requires { (first : ℕ) × IsFraming first self.now }
-        ensures { (first : ℕ) → IsFraming first self.now → IfOk result (λ frames. frames.items
-            ≡ pieces (wide_frames_at self.now.body.now first self.now.states.now self.now.array) (length self.now.body.now.code)) }
+        requires { (first : ℕ) × (given : Emitting) × IsFraming first given self.now }
+        ensures { (first : ℕ) (given : Emitting) → IsFraming first given self.now → IfOk result (λ frames. frames.items
+            ≡ pieces (wide_frames_at self.now.body.now first self.now.states.now given) (length self.now.body.now.code)) }
     {
         let mut frames = Vec::new(self.alloc);
         'framing: for at in 0..self.body.code.len() {

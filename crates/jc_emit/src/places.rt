@@ -1,20 +1,17 @@
-//! Where the instructions of an instrumented method stand, in the narrow layout.
+//! Where the instructions of an instrumented method without wide jumps stand.
 ghost use Rattle.std.specs.Prelude.{◌≡◌, ◌≤◌, ◌+◌, ◌*◌, [], ◌∷◌, ◌++◌, ℕ, length, IfOk, OnOk};
 ghost use Rattle.std.specs.List.{sum_by};
-ghost use Rattle.jc_methods.specs.ProbeMembers.{most_probes};
+ghost use Rattle.jc_methods.specs.ProbeMembers.{most_ids};
 ghost use Rattle.jc_methods.specs.WellMade.{IsWellMadeOfAnySize};
 ghost use Rattle.jc_emit.specs.Branching.{early_in, late_in, behind_in};
+ghost use Rattle.jc_emit.specs.Marks.{prelude_size};
 ghost use Rattle.jc_emit.specs.Sizes.{probe_size, hop_size};
 
 use jc_bytes::Memory;
-use jc_methods::{Body, Flow, Plan};
+use jc_methods::{Body, Fetch, Flow, Plan};
 use std::alloc::Global;
 
-/// How many instructions stand in front of what belongs to the first one: the call that fetches the array of
-/// probes, and the store.
-const PRELUDE_SIZE: u32 = 2;
-
-/// Where the instructions of an instrumented method stand, in the narrow layout: one entry for each instruction of the
+/// Where the instructions of an instrumented method without wide jumps stand: one entry for each instruction of the
 /// method, and one for its end.
 #[derive(Debug, Drop)]
 pub struct Places {
@@ -24,6 +21,18 @@ pub struct Places {
     pub(crate) lands: Vec<u32>,
     /// Where the image of the instruction stands.
     pub(crate) images: Vec<u32>,
+}
+
+/// How many instructions stand in front of what belongs to the first one: those that get the array of probes, and the
+/// store.
+fn prelude_size(fetch: Fetch) -> u32
+    ensures value { result ≡ prelude_size fetch }
+    ensures small { result ≤ 3 }
+{
+    match fetch {
+        Fetch::Member => 2,
+        Fetch::Constant => 3,
+    }
 }
 
 /// How many instructions a probe has.
@@ -137,15 +146,20 @@ impl Places {
     /// # Errors
     ///
     /// `Memory` where memory was refused.
-    pub(crate) fn of(alloc: Global, body: &Body, plan: &Plan) -> Result<Places, Memory>
+    pub(crate) fn of(
+        alloc: Global,
+        body: &Body,
+        plan: &Plan,
+        fetch: Fetch,
+    ) -> Result<Places, Memory>
         requires made { IsWellMadeOfAnySize body.now }
         requires plan { HasPlan body.now plan.now }
-        requires next { plan.now.next ≤ most_probes }
-        ensures places { (first : ℕ) → plan.now ≡ plan_of body.now first → IfOk result (ArePlaces body.now first) }
+        requires next { plan.now.next ≤ most_ids }
+        ensures places { (first : ℕ) → plan.now ≡ plan_of body.now first → IfOk result (ArePlaces body.now first fetch) }
         ensures small { IfOk result AreSmall }
     {
         let mut places = Places::with_room(alloc, body.code.len() + 1)?;
-        let mut here = PRELUDE_SIZE;
+        let mut here = prelude_size(fetch);
         'placing: for (at, insn) in body.code.iter().enumerate() {
             let flow = insn.flow();
             let ids = plan.out[at].as_slice();

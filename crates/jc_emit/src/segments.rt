@@ -3,32 +3,48 @@ ghost use Rattle.std.specs.Prelude.{◌≡◌, ◌<◌, ◌≤◌, ◌+◌, ℕ,
 ghost use Rattle.jc_methods.specs.Flow.{flow_of};
 ghost use Rattle.jc_methods.specs.Insn.{IsWellFormed};
 ghost use Rattle.jc_methods.specs.InsnUse.{LeadsWithin};
-ghost use Rattle.jc_methods.specs.ProbeMembers.{most_probes};
+ghost use Rattle.jc_methods.specs.ProbeMembers.{most_ids, most_short};
 ghost use Rattle.jc_methods.specs.WellMade.{IsWellMadeOfAnySize};
 ghost use Rattle.jc_methods.specs.declared.body.Body.{Body as MethodBody};
 ghost use Rattle.jc_methods.specs.declared.insn.Flow.TheVariants as flows;
+ghost use Rattle.jc_methods.specs.declared.probe_members.Fetch.{Fetch as Fetching};
 ghost use Rattle.jc_plan.specs.Plan.{plan_of};
 ghost use Rattle.jc_emit.specs.Branching.{IsPushed, test_image};
-ghost use Rattle.jc_emit.specs.Items.{tests_part, segment, twin_items};
+ghost use Rattle.jc_emit.specs.Items.{tests_part};
 ghost use Rattle.jc_emit.specs.Placing.{HasPlan, ArePlaces, ArePlacesFor};
 ghost use Rattle.jc_emit.specs.Sizes.{narrow, insn_at};
-ghost use Rattle.jc_emit.specs.Writing.{Grows, GrowsByImage, CanWrite};
-ghost use Rattle.jc_emit.specs.Written.{Shows};
+ghost use Rattle.jc_emit.specs.Writing.{GrowsFrom, GrowsByImageOf, GrowsBySegmentOf, ShowsTwin, CanWrite};
 
 use crate::image::{inverted, jump_target, led, moved};
 use crate::places::{Places, early_id, late_id};
 use crate::switches::{put_arms, set_arms};
-use crate::written::Written;
+use crate::written::{ProbeSource, Written};
 use jc_bytes::{Memory, TryClone};
-use jc_methods::{Body, Flow, Insn, Plan};
+use jc_methods::{Body, Fetch, Flow, Insn, Plan};
 use std::alloc::Global;
 
 /// What the code of an instrumented method is made from.
 #[derive(Clone, Copy)]
-struct CodeSource<'a> {
-    body: &'a Body,
-    plan: &'a Plan,
-    places: &'a Places,
+pub(crate) struct CodeSource<'a> {
+    pub(crate) body: &'a Body,
+    pub(crate) plan: &'a Plan,
+    pub(crate) fetch: Fetch,
+    /// The places of the Integers of ids.
+    pub(crate) constants: &'a [u16],
+    pub(crate) places: &'a Places,
+}
+
+impl<'a> CodeSource<'a> {
+    /// Where the probes of the method find what they need.
+    fn probes(&self) -> ProbeSource<'a>
+        ensures slot { result.slot ≡ self.now.body.now.arg_slots }
+        ensures constants { result.constants.now ≡ self.now.constants.now }
+    {
+        ProbeSource {
+            slot: self.body.arg_slots,
+            constants: self.constants,
+        }
+    }
 }
 
 /// A conditional jump of a method, and the probe of its jump.
@@ -64,7 +80,7 @@ fn test_image(
 fn put_test(
     alloc: Global,
     written: &mut Written,
-    slot: u16,
+    probes: ProbeSource<'_>,
     places: &Places,
     at: u32,
     jump: ConditionalJump<'_>,
@@ -73,13 +89,13 @@ fn put_test(
     requires formed { IsWellFormed jump.insn.now }
     requires next { at + 1 < length places.now.leads.items }
     requires within { LeadsWithin (length places.now.lands.items) jump.insn.now }
-    requires pushed { IsPushed jump.late }
-    ensures { (b : MethodBody) (first : ℕ) → ArePlaces b first places.now
-        → OnOk result (Grows slot written.old written.new (tests_part b first narrow at jump.entry.insn.now jump.entry.late)) }
+    requires pushed { IsPushed (length probes.constants.now) jump.late }
+    ensures { (b : MethodBody) (first : ℕ) (fetch : Fetching) → ArePlaces b first fetch places.now
+        → OnOk result (GrowsFrom probes.entry written.old written.new (tests_part b first (narrow fetch) at jump.entry.insn.now jump.entry.late)) }
 {
     written.put_image(test_image(alloc, places, at, jump)?, at)?;
     let to = jump_target(jump.insn);
-    written.put_behind(slot, jump.late, to, places.lands[to as usize])?;
+    written.put_behind(probes, jump.late, to, places.lands[to as usize])?;
     Ok(())
 }
 
@@ -92,13 +108,13 @@ fn put_switch(
     source: CodeSource<'_>,
     at: usize,
 ) -> Result<(), Memory>
-    requires given { CanWrite source.body.now source.plan.now source.places.now }
+    requires given { CanWrite source.body.now source.plan.now source.fetch source.constants.now source.places.now }
     requires at { at < length source.body.now.code }
     requires switch { flow_of (insn_at source.body.now.code at) ≡ flows.Switches }
     requires table { length table.old ≡ length source.body.now.code + 1 }
     ensures table { length table.new ≡ length table.old }
     ensures code { (first : ℕ) → source.entry.plan.now ≡ plan_of source.entry.body.now first
-        → OnOk result (GrowsByImage source.entry.body.now first at flows.Switches written.old written.new) }
+        → OnOk result (GrowsByImageOf source.entry first at flows.Switches written.old written.new) }
 {
     let insn = &source.body.code[at];
     let ids = source.plan.out[at].as_slice();
@@ -113,7 +129,7 @@ fn put_switch(
     written.put_image(led(alloc, table, insn)?, at as u32)?;
     put_arms(
         written,
-        source.body.arg_slots,
+        source.probes(),
         &source.places.lands,
         &targets,
         ids,
@@ -136,12 +152,12 @@ fn put_main(
     source: CodeSource<'_>,
     at: usize,
 ) -> Result<(), Memory>
-    requires given { CanWrite source.body.now source.plan.now source.places.now }
+    requires given { CanWrite source.body.now source.plan.now source.fetch source.constants.now source.places.now }
     requires at { at < length source.body.now.code }
     requires table { length table.old ≡ length source.body.now.code + 1 }
     ensures table { length table.new ≡ length table.old }
     ensures code { (first : ℕ) → source.entry.plan.now ≡ plan_of source.entry.body.now first
-        → OnOk result (GrowsByImage source.entry.body.now first at (flow_of (insn_at source.entry.body.now.code at)) written.old written.new) }
+        → OnOk result (GrowsByImageOf source.entry first at (flow_of (insn_at source.entry.body.now.code at)) written.old written.new) }
 {
     let insn = &source.body.code[at];
     match insn.flow() {
@@ -157,7 +173,7 @@ fn put_main(
             put_test(
                 alloc,
                 written,
-                source.body.arg_slots,
+                source.probes(),
                 source.places,
                 at as u32,
                 jump,
@@ -188,45 +204,40 @@ fn put_segment(
     source: CodeSource<'_>,
     at: usize,
 ) -> Result<(), Memory>
-    requires given { CanWrite source.body.now source.plan.now source.places.now }
+    requires given { CanWrite source.body.now source.plan.now source.fetch source.constants.now source.places.now }
     requires at { at < length source.body.now.code }
     requires table { length table.old ≡ length source.body.now.code + 1 }
     ensures table { length table.new ≡ length table.old }
     ensures code { (first : ℕ) → source.entry.plan.now ≡ plan_of source.entry.body.now first
-        → OnOk result (Grows source.entry.body.now.arg_slots written.old written.new (segment source.entry.body.now first narrow at)) }
+        → OnOk result (GrowsBySegmentOf source.entry first at written.old written.new) }
 {
-    written.put_front(source.body.arg_slots, source.plan.lead[at], at as u32)?;
+    written.put_front(source.probes(), source.plan.lead[at], at as u32)?;
     let early = early_id(source.body.code[at].flow(), source.plan.out[at].as_slice());
-    written.put_front(source.body.arg_slots, early, at as u32)?;
+    written.put_front(source.probes(), early, at as u32)?;
     put_main(alloc, written, table, source, at)?;
     Ok(())
 }
 
-/// The instructions of an instrumented method, in the narrow layout. That takes time in proportion to
+/// The instructions of an instrumented method without wide jumps. That takes time in proportion to
 /// the instructions and the arms of switches: each switch puts where it leads into a table of places
 /// and reads its arms off there.
 ///
 /// # Errors
 ///
 /// `Memory` where memory was refused.
-pub(crate) fn write_code(
-    alloc: Global,
-    body: &Body,
-    plan: &Plan,
-    places: &Places,
-) -> Result<Written, Memory>
-    requires made { IsWellMadeOfAnySize body.now }
-    requires plan { HasPlan body.now plan.now }
-    requires next { plan.now.next ≤ most_probes }
-    requires places { ArePlacesFor body.now plan.now places.now }
-    ensures { (first : ℕ) → plan.now ≡ plan_of body.now first
-        → IfOk result (Shows body.now.arg_slots (twin_items body.now first narrow)) }
+pub(crate) fn write_code(alloc: Global, source: CodeSource<'_>) -> Result<Written, Memory>
+    requires made { IsWellMadeOfAnySize source.body.now }
+    requires plan { HasPlan source.body.now source.plan.now }
+    requires next { source.plan.now.next ≤ most_ids }
+    requires enough { source.plan.now.next ≤ most_short + 1 + length source.constants.now }
+    requires places { ArePlacesFor source.body.now source.plan.now source.fetch source.places.now }
+    ensures { (first : ℕ) → source.entry.plan.now ≡ plan_of source.entry.body.now first
+        → IfOk result (ShowsTwin source.entry first) }
 {
-    let mut written = Written::with_room(alloc, places.count())?;
-    written.put_prelude(body.arg_slots)?;
-    let mut table = Vec::from_slice(alloc, &places.lands)?;
-    'writing: for at in 0..body.code.len() {
-        let source = CodeSource { body, plan, places };
+    let mut written = Written::with_room(alloc, source.places.count())?;
+    written.put_prelude(source.fetch, source.body.arg_slots)?;
+    let mut table = Vec::from_slice(alloc, &source.places.lands)?;
+    'writing: for at in 0..source.body.code.len() {
         put_segment(alloc, &mut written, &mut table, source, at)?;
     }
     Ok(written)

@@ -4,10 +4,10 @@ ghost use Rattle.std.specs.Prelude.{slice_index, slice_index_or, OnOk, None};
 ghost use Rattle.jc_bytes.specs.PlainLists.{pieces};
 ghost use Rattle.jc_emit.specs.Branching.{IsPushed, IsTableOf, arm_place_in, arm_part_in};
 ghost use Rattle.jc_emit.specs.TwinCode.{here_or};
-ghost use Rattle.jc_emit.specs.Writing.{Grows};
+ghost use Rattle.jc_emit.specs.Writing.{GrowsFrom};
 
 use crate::places::{hop_size, hop_sizes};
-use crate::written::Written;
+use crate::written::{ProbeSource, Written};
 use jc_bytes::Memory;
 
 /// The arm place where there is a probe, and else where jumps to the target land.
@@ -52,19 +52,19 @@ pub(crate) fn set_arms(
 /// that has a probe.
 pub(crate) fn put_arms(
     written: &mut Written,
-    slot: u16,
+    source: ProbeSource<'_>,
     lands: &[u32],
     targets: &[u32],
     ids: &[Option<u32>],
 ) -> Result<(), Memory>
     requires within { All (λ to. to < length lands.now) targets.now }
     requires ids { length ids.now ≡ length targets.now }
-    requires pushed { (number : ℕ) → IsPushed (slice_index_or ids.now number None) }
+    requires pushed { (number : ℕ) → IsPushed (length source.constants.now) (slice_index_or ids.now number None) }
     ensures { (land : ℕ → ℕ) → IsTableOf land lands.now
-        → OnOk result (Grows slot written.old written.new (pieces (arm_part_in land targets.now ids.now) (length targets.now))) }
+        → OnOk result (GrowsFrom source.entry written.old written.new (pieces (arm_part_in land targets.now ids.now) (length targets.now))) }
 {
     'putting: for (number, to) in targets.iter().enumerate() {
-        written.put_behind(slot, ids[number], *to, lands[*to as usize])?;
+        written.put_behind(source, ids[number], *to, lands[*to as usize])?;
     }
     Ok(())
 }

@@ -1,6 +1,7 @@
 //! The tables of instrumented code (JVM Specification 4.7.3, 4.7.12 to 4.7.14).
 ghost use Rattle.std.specs.Prelude.{◌≡◌, ◌<◌, ℕ, length, map, All, IfOk, slice_index};
 ghost use Rattle.jc_methods.specs.WellMade.{IsWellMadeOfAnySize};
+ghost use Rattle.jc_methods.specs.declared.probe_members.Fetch.{Fetch as Fetching};
 ghost use Rattle.jc_emit.specs.Placing.{ArePlaces};
 ghost use Rattle.jc_emit.specs.Refusing.{HasRoom};
 ghost use Rattle.jc_emit.specs.Stages.{moved_tables};
@@ -113,9 +114,10 @@ pub(crate) fn moved_tables(
     places: &Places,
 ) -> Result<MovedTables, Memory>
     requires body { IsWellMadeOfAnySize body.now }
-    requires places { (first : ℕ) × ArePlaces body.now first places.now }
+    requires places { (first : ℕ) × (fetch : Fetching) × ArePlaces body.now first fetch places.now }
     requires room { HasRoom body.now }
-    ensures { (first : ℕ) → ArePlaces body.now first places.now → IfOk result (λ tables. tables ≡ moved_tables body.now first) }
+    ensures { (first : ℕ) (fetch : Fetching) → ArePlaces body.now first fetch places.now
+        → IfOk result (λ tables. tables ≡ moved_tables body.now first fetch) }
 {
     let leads = places.leads.as_slice();
     let lands = places.lands.as_slice();

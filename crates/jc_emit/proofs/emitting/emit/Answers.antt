@@ -6,6 +6,7 @@ use Rattle.jc_methods.specs.declared.emitted.Emitted.{Emitted}
 use Rattle.jc_methods.proofs.PlacedInsnLaws.{few_insns}
 use Rattle.jc_emit.specs.Twin.{IsEmitted}
 use Rattle.jc_emit.specs.Shift.{probe_array_class}
+use Rattle.jc_emit.specs.Written.{given, integer_in}
 use Rattle.jc_emit.proofs.EmittingLaws.{grows_one, states_put}
 use Rattle.jc_emit.proofs.FewLaws.{few_emitted}
 use Rattle.jc_emit.proofs.FrameStateLaws.{frames_have_states}
@@ -31,9 +32,10 @@ returns-clause-twin c = λ first is.
     let states = c.args.states.now in
     let names = c.number.new.self in
     let array = c.in_ok-array.array in
+    let integer = integer_in c.args.constants.now in
     let made = c.requires.body.of_any_size in
-    subst (λ (e : Emitted). IsEmitted names names states first b e) (sym (c.in_ok-emitted.ensures first is))
-    (emitted b first states array names made
+    subst (λ (e : Emitted). IsEmitted names names states c.args.fetch integer first b e) (sym (c.in_ok-emitted.ensures first is))
+    (emitted b first states (given c.args.fetch array c.args.constants.now) names made
     (frames_have_states c.args.names.now c.in_ok-array.ensures.names_before.distinct b states made c.requires.frames c.requires.states)
     (get_or_from_slice_get names array probe_array_class [] c.in_ok-array.ensures.place))
 
@@ -41,7 +43,8 @@ pub returns-clause-few : goal.returns-clause-few
 returns-clause-few c =
     let plan = c.requires.plan in
     subst (λ (e : Emitted). length e.code + sum_by arm_count e.code ≤ 1000000) (sym (c.in_ok-emitted.ensures plan.0 plan.1))
-    (few_emitted c.args.body.now plan.0 c.args.states.now c.in_ok-array.array c.requires.body.of_any_size.code)
+    (few_emitted c.args.body.now plan.0 c.args.states.now (given c.args.fetch c.in_ok-array.array c.args.constants.now)
+    c.requires.body.of_any_size.code)
 
 pub returns-clause-names : goal.returns-clause-names
 returns-clause-names c = grows_one c.args.names.now c.number.new.self probe_array_class c.in_ok-array.ensures.names

@@ -7,10 +7,11 @@ use Rattle.jc_emit.specs.Branching.{IsPushed, early_in}
 use Rattle.jc_emit.specs.Items.{lead_part, early_part, image_part}
 use Rattle.jc_emit.specs.Sizes.{narrow, insn_at, early_probe}
 use Rattle.jc_emit.specs.Writing.{Grows}
+use Rattle.jc_emit.specs.Written.{integer_in}
 use Rattle.jc_emit.proofs.PlanReadsLaws.{length_leads, length_outs, lead_here, outs_seen}
 use Rattle.jc_emit.proofs.PlacingLaws.{insn_seen, early_read}
 use Rattle.jc_emit.proofs.SegmentLaws.{lead_pushed, outs_pushed, early_pushed}
-use Rattle.jc_emit.proofs.WritingLaws.{grows_append}
+use Rattle.jc_emit.proofs.WritingLaws.{grows_append, grows_alike}
 use Rattle.jc_emit.proofs.segments.put_segment.Goals as goal
 
 pub bounds-deref-at : goal.bounds-deref-at
@@ -26,9 +27,13 @@ put_front-requires c =
     let plan = c.requires.given.planned in
     let b = c.args.source.body.now in
     let at = c.args.at in
-    subst IsPushed
-    (sym (ap (λ (l : List (Option ℕ)). get_or l at None) c.deref.ensures ∙ lead_here b plan.0 c.args.source.plan.now plan.1 at None c.requires.at))
-    (lead_pushed b plan.0 c.args.source.plan.now plan.1 c.requires.given.next at)
+    let pushed = lead_pushed b plan.0 c.args.source.plan.now plan.1 c.requires.given.made.code (length c.args.source.constants.now) c.requires.given.enough at c.requires.at in
+    let read = ap (λ (l : List (Option ℕ)). get_or l at None) c.deref.ensures ∙ lead_here b plan.0 c.args.source.plan.now plan.1 at None c.requires.at in
+    record {
+      pushed =
+          subst (λ (l : List ℕ). IsPushed (length l) (get_or c.deref.result.now at None)) (sym c.probes.ensures.constants)
+          (subst (IsPushed (length c.args.source.constants.now)) (sym read) pushed);
+    }
 
 pub bounds-deref-at-3 : goal.bounds-deref-at-3
 bounds-deref-at-3 c =
@@ -44,14 +49,23 @@ put_front-requires-2 c =
     let b = c.args.source.body.now in
     let at = c.args.at in
     let ids = outs_seen b plan.0 c.args.source.plan.now plan.1 _ at c.index-deref-at-2.result c.as_slice.result.now c.requires.at c.deref-3.ensures c.index-deref-at-2.is c.as_slice.ensures in
-    subst IsPushed (sym c.early_id-early.ensures)
-    (early_pushed c.flow.result c.as_slice.result.now
-    (λ k. subst (λ (l : List (Option ℕ)). IsPushed (get_or l k None)) (sym ids) (outs_pushed b plan.0 c.args.source.plan.now plan.1 c.requires.given.next at (insn_at b.code at) k)))
+    let n = length c.args.source.constants.now in
+    let pushed = early_pushed n c.flow.result c.as_slice.result.now
+    (λ k.
+    subst (λ (l : List (Option ℕ)). IsPushed n (get_or l k None)) (sym ids)
+    (outs_pushed b plan.0 c.args.source.plan.now plan.1 c.requires.given.made.code n c.requires.given.enough at k c.requires.at)) in
+    record {
+      pushed =
+          subst (λ (l : List ℕ). IsPushed (length l) c.early_id-early.result) (sym c.probes-2.ensures.constants)
+          (subst (IsPushed n) (sym c.early_id-early.ensures) pushed);
+    }
 
 pub returns-clause-code : goal.returns-clause-code
 returns-clause-code c = λ first plan.
     let b = c.args.source.body.now in
     let at = c.args.at in
+    let fetch = c.args.source.fetch in
+    let integer = integer_in c.args.source.constants.now in
     let v = b.arg_slots in
     let old = c.args.written.now in
     let led = c.put_front.new.self in
@@ -67,8 +81,13 @@ returns-clause-code c = λ first plan.
     ∙ early_read b first at in
     let leads = lead_part (lead_probe b first at) at in
     let earlies = early_part (early_probe b first at) at in
-    let rest = image_part b first narrow at (insn_at b.code at) (flow_of (insn_at b.code at)) in
-    grows_append v old led new leads (earlies ++ rest)
-    (subst (λ (o : Option ℕ). Grows v old led (lead_part o at)) lead c.in_ok-put_front.ensures.lead)
-    (grows_append v led front new earlies rest (subst (λ (o : Option ℕ). Grows v led front (early_part o at)) early c.in_ok-put_front-2.ensures.early)
+    let rest = image_part b first (narrow fetch) at (insn_at b.code at) (flow_of (insn_at b.code at)) in
+    grows_append integer v old led new leads (earlies ++ rest)
+    (subst (λ (o : Option ℕ). Grows integer v old led (lead_part o at)) lead
+    (grows_alike c.args.source.constants.now c.probes.result.constants.now v c.probes.result.slot old led _ c.probes.ensures.constants c.probes.ensures.slot
+    c.in_ok-put_front.ensures.lead))
+    (grows_append integer v led front new earlies rest
+    (subst (λ (o : Option ℕ). Grows integer v led front (early_part o at)) early
+    (grows_alike c.args.source.constants.now c.probes-2.result.constants.now v c.probes-2.result.slot led front _ c.probes-2.ensures.constants c.probes-2.ensures.slot
+    c.in_ok-put_front-2.ensures.early))
     (c.in_ok-put_main.ensures.code first plan))

@@ -7,11 +7,11 @@ use Rattle.jc_emit.proofs.TableLaws.{rows_moved, lines_moved, vars_moved}
 use Rattle.jc_emit.proofs.tables.moved_tables.Goals as goal
 
 pub returns : goal.returns
-returns c = λ first are.
+returns c = λ first fetch are.
     let b = c.args.body.now in
     let made = c.requires.body in
-    let lead = lead_of b first narrow in
-    let land = land_of b first narrow in
+    let lead = lead_of b first (narrow fetch) in
+    let land = land_of b first (narrow fetch) in
     let n = length b.code in
     let leads = c.args.places.now.leads.items in
     let lands = c.args.places.now.lands.items in

@@ -1,10 +1,12 @@
 use Rattle.std.proofs.Common.{◌≡◌, ℕ}
 use Rattle.jc_bytes.specs.PlainLists.{pieces}
+use Rattle.jc_emit.specs.Emission.{Emitting}
 use Rattle.jc_emit.specs.Framing.{IsFraming}
+use Rattle.jc_methods.specs.Widened.{listed}
 use Rattle.jc_emit.specs.Stages.{layout_frames_at}
 use Rattle.jc_emit.proofs.frames.Framing.layout_frames.Given as goal
 
 -- the frames of the instructions so far are there
 abbrev pub invariant-framing : goal.invariant-framing
 invariant-framing l =
-    (first : ℕ) → IsFraming first l.self → l.frames.items ≡ pieces (layout_frames_at l.self.body.now first l.self.states.now l.self.array l.wide) l.at
+    (first : ℕ) (given : Emitting) → IsFraming first given l.self → l.frames.items ≡ pieces (layout_frames_at l.self.body.now first l.self.states.now given (listed l.wide)) l.at

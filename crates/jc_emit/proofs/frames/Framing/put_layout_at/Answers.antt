@@ -1,15 +1,16 @@
-use Rattle.std.proofs.Common.{List, ◌++◌, Bool, sym, ap, ◌∙◌, append_assoc, if◌then◌else◌}
+use Rattle.std.proofs.Common.{◌≡◌, List, ◌++◌, ap, ◌∙◌, subst, append_assoc}
+use Rattle.std.specs.Prelude.{OnOk}
+use Rattle.jc_methods.specs.Widened.{listed}
 use Rattle.jc_methods.specs.declared.body.FrameAt.{FrameAt}
-use Rattle.jc_emit.specs.Emission.{frames_at, wide_frames_at}
+use Rattle.jc_emit.specs.Emission.{frames_at}
+use Rattle.jc_emit.specs.Stages.{further_frames_at}
 use Rattle.jc_emit.proofs.frames.Framing.put_layout_at.Goals as goal
 
-pub returns-in_ok-put_wide_at : goal.returns-in_ok-put_wide_at
-returns-in_ok-put_wide_at c = λ first is.
+pub returns : goal.returns
+returns c = λ first given is.
     let f = c.args.self.now in
-    let old = c.args.frames.now.items in
-    let narrow = frames_at f.body.now first f.states.now f.array c.args.at in
-    let further = wide_frames_at f.body.now first f.states.now f.array c.args.at in
-    c.in_ok-put_wide_at.ensures first is
-    ∙ ap (λ (l : List FrameAt). l ++ further) (c.in_ok-put_at.ensures first is)
-    ∙ append_assoc old narrow further
-    ∙ ap (λ (t : Bool). old ++ (if t then narrow ++ further else narrow)) (sym c.if-wide.true)
+    let further = further_frames_at f.body.now first f.states.now given (listed c.args.wide.now) c.args.at in
+    subst (λ (l : List FrameAt). OnOk c.put_further_at.result (c.put_further_at.new.frames.items ≡ l))
+    (ap (λ (l : List FrameAt). l ++ further) (c.in_ok-put_at.ensures first given is)
+    ∙ append_assoc c.args.frames.now.items (frames_at f.body.now first f.states.now given c.args.at) further)
+    (c.put_further_at.ensures first given is)

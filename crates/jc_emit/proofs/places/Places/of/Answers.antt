@@ -29,7 +29,7 @@ overflow_add-land c =
     let plan = c.requires.plan in
     let so_far = c.placing.invariant plan.0 plan.1 in
     let le : c.placing.at ≤ length c.args.body.now.code = omega (arith, ap length c.deref-insn-items.ensures) in
-    omega (arith, so_far.here_is, lead_small c.args.body.now plan.0 c.requires.made.code c.placing.at le, c.probe_size.ensures.small)
+    omega (arith, so_far.here_is, lead_small c.args.body.now plan.0 c.args.fetch c.requires.made.code c.placing.at le, c.probe_size.ensures.small)
 
 pub overflow_add-image : goal.overflow_add-image
 overflow_add-image c =
@@ -39,7 +39,7 @@ overflow_add-image c =
     omega (
       arith,
       so_far.here_is,
-      lead_small c.args.body.now plan.0 c.requires.made.code c.placing.at le,
+      lead_small c.args.body.now plan.0 c.args.fetch c.requires.made.code c.placing.at le,
       c.probe_size.ensures.small,
       c.probe_size-in-placing.ensures.small,
     )
@@ -52,7 +52,7 @@ overflow_add-here c =
     omega (
       arith,
       so_far.here_is,
-      lead_small c.args.body.now plan.0 c.requires.made.code c.placing.at le,
+      lead_small c.args.body.now plan.0 c.args.fetch c.requires.made.code c.placing.at le,
       c.probe_size.ensures.small,
       c.probe_size-in-placing.ensures.small,
     )
@@ -77,7 +77,7 @@ overflow_add-here-in-placing c =
     omega (
       arith,
       so_far.here_is,
-      lead_small b plan.0 c.requires.made.code at (omega (arith, lt)),
+      lead_small b plan.0 c.args.fetch c.requires.made.code at (omega (arith, lt)),
       c.probe_size.ensures.small,
       c.probe_size-in-placing.ensures.small,
       c.behind_size.ensures.small,
@@ -97,9 +97,9 @@ placing-preserved c = λ first plan.
     ap (λ (l : List (Option ℕ)). get_or l at None) c.deref-in-placing.ensures ∙ lead_here b first c.args.plan.now plan at None lt in
     let early : c.early_id.result ≡ early_probe b first at =
     c.early_id.ensures ∙ ap₂ (λ (f : Flow) (o : List (Option ℕ)). early_in f o) flow ids ∙ early_read b first at in
-    let behind : c.behind_size.result ≡ behind_size b first narrow at =
-    c.behind_size.ensures.value ∙ ap₂ (λ (f : Flow) (o : List (Option ℕ)). behind_in f o) flow ids ∙ behind_read b first at in
-    placed_more b first at c.placing.here c.probe_size.result c.probe_size-in-placing.result c.behind_size.result
+    let behind : c.behind_size.result ≡ behind_size b first (narrow c.args.fetch) at =
+    c.behind_size.ensures.value ∙ ap₂ (λ (f : Flow) (o : List (Option ℕ)). behind_in f o) flow ids ∙ behind_read b first at c.args.fetch in
+    placed_more b first c.args.fetch at c.placing.here c.probe_size.result c.probe_size-in-placing.result c.behind_size.result
     c.placing.places.leads.items c.placing.places.lands.items c.placing.places.images.items c.put.new.self.leads.items c.put.new.self.lands.items c.put.new.self.images.items
     (c.placing.invariant first plan) (c.probe_size.ensures.value ∙ ap probe_size lead) (c.probe_size-in-placing.ensures.value ∙ ap probe_size early) behind
     c.in_ok-put.ensures.leads c.in_ok-put.ensures.lands c.in_ok-put.ensures.images
@@ -107,7 +107,7 @@ placing-preserved c = λ first plan.
 pub returns-clause-places : goal.returns-clause-places
 returns-clause-places c = λ first plan.
     let all : c.placing.at ≡ length c.args.body.now.code = omega (arith, ap length c.deref-insn-items.ensures) in
-    placed_all c.args.body.now first c.requires.made.code c.put-2.new.self c.placing.at c.placing.here
+    placed_all c.args.body.now first c.args.fetch c.requires.made.code c.put-2.new.self c.placing.at c.placing.here
     c.placing.places.leads.items c.placing.places.lands.items c.placing.places.images.items all (c.placing.invariant first plan)
     c.in_ok-put-2.ensures.leads c.in_ok-put-2.ensures.lands c.in_ok-put-2.ensures.images
 
@@ -115,7 +115,7 @@ pub returns-clause-small : goal.returns-clause-small
 returns-clause-small c =
     let plan = c.requires.plan in
     let all : c.placing.at ≡ length c.args.body.now.code = omega (arith, ap length c.deref-insn-items.ensures) in
-    small_places c.args.body.now plan.0 c.requires.made.code c.put-2.new.self
-    (placed_all c.args.body.now plan.0 c.requires.made.code c.put-2.new.self c.placing.at c.placing.here
+    small_places c.args.body.now plan.0 c.args.fetch c.requires.made.code c.put-2.new.self
+    (placed_all c.args.body.now plan.0 c.args.fetch c.requires.made.code c.put-2.new.self c.placing.at c.placing.here
     c.placing.places.leads.items c.placing.places.lands.items c.placing.places.images.items all (c.placing.invariant plan.0 plan.1)
     c.in_ok-put-2.ensures.leads c.in_ok-put-2.ensures.lands c.in_ok-put-2.ensures.images)

@@ -6,4 +6,4 @@ use Rattle.jc_emit.proofs.places.Places.of.Given as goal
 -- the instructions so far have their places
 abbrev pub invariant-placing : goal.invariant-placing
 invariant-placing l = (first : ℕ) → l.plan ≡ plan_of l.body first
-    → ArePlaced l.body first l.at l.here l.places.leads.items l.places.lands.items l.places.images.items
+    → ArePlaced l.body first l.fn.fetch l.at l.here l.places.leads.items l.places.lands.items l.places.images.items
