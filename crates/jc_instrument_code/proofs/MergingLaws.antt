@@ -1,16 +1,16 @@
 -- Frames of two lists, one after the other.
-use Rattle.std.proofs.Common.{◌≡◌, ◌⊎◌, inl, inr, ℕ, zero, suc, ◌+◌, ◌<◌, ◌≤◌, Bool, true, false, List, [], ◌∷◌, ◌++◌, length, drop, get_or, nat_lt, if◌then◌else◌, refl, sym, ◌∙◌, ap, subst, arith, append_assoc, length-drop, true≢false}
+use Rattle.std.proofs.Common.{◌≡◌, ◌⊎◌, inl, inr, ℕ, zero, suc, ◌+◌, ◌<◌, ◌≤◌, Bool, true, false, List, [], ◌∷◌, ◌++◌, length, drop, get_or, nat_lt, nat_eq, if◌then◌else◌, refl, sym, ◌∙◌, ap, subst, arith, append_assoc, length-drop, true≢false}
 use Rattle.std.specs.Prelude.{⊤}
 use Rattle.std.specs.List.{slice_range}
-use Rattle.std.proofs.lemmas.Bool.{cases_lt, ltb-true, lt-ltb}
+use Rattle.std.proofs.lemmas.Bool.{cases_lt, ltb-true, eqb-true}
 use Rattle.std.proofs.lemmas.Bool.Decides.{nat_tests}
-use Rattle.std.proofs.lemmas.List.{drop_all, take_rest}
+use Rattle.std.proofs.lemmas.List.{drop_all, get_or_default, take_rest}
 use Rattle.jc_bytes.proofs.AppendingLaws.{drop_is}
 use Rattle.jc_methods.specs.FrameOrder.{RiseFrom}
 use Rattle.jc_methods.specs.declared.body.FrameAt.{FrameAt}
 use Rattle.jc_layout.specs.Merged.{with_frame, merged}
-use Rattle.jc_layout.proofs.LayoutFramesLaws.{is_not_below}
-use Rattle.jc_instrument_code.specs.Merging.{other_first}
+use Rattle.jc_layout.proofs.MergedLaws.{with_before, with_behind, with_same}
+use Rattle.jc_instrument_code.specs.Merging.{other_first, same_first}
 
 -- ---- frames in rising order
 
@@ -38,27 +38,34 @@ begins n frames (o ∷ others) r s =
   where
     with_begins : (all : List FrameAt) → BeginsFrom n all → BeginsFrom n (with_frame o all)
     with_begins [] b = s.0
-    with_begins (g ∷ all) b = by (nat_lt o.at g.at)
+    with_begins (g ∷ all) b = by (nat_lt o.at g.at) (nat_eq o.at g.at)
       where
-        by : (t : Bool) → BeginsFrom n (if t then o ∷ g ∷ all else g ∷ with_frame o all)
-        by true = s.0
-        by false = b
+        by : (t u : Bool) → BeginsFrom n (if t then o ∷ g ∷ all else if u then g ∷ all else g ∷ with_frame o all)
+        by true u = s.0
+        by false true = b
+        by false false = b
 
 with_front : (o : FrameAt) (all : List FrameAt) → BeginsFrom (o.at + 1) all → with_frame o all ≡ o ∷ all
 with_front o [] b = refl
-with_front o (g ∷ all) b =
-    ap (λ (t : Bool). if t then o ∷ g ∷ all else g ∷ with_frame o all) (lt-ltb o.at g.at (omega (arith, b)))
+with_front o (g ∷ all) b = with_before o g all (omega (arith, b))
 
 other_before : (o : FrameAt) (frames others : List FrameAt) → RiseFrom (o.at + 1) frames → RiseFrom (o.at + 1) others
     → merged frames (o ∷ others) ≡ o ∷ merged frames others
 other_before o frames others r s = with_front o (merged frames others) (begins (o.at + 1) frames others r s)
 
-frame_before : (f : FrameAt) (frames others : List FrameAt) → RiseFrom f.at others → merged (f ∷ frames) others ≡ f ∷ merged frames others
+frame_before : (f : FrameAt) (frames others : List FrameAt) → RiseFrom (f.at + 1) others → merged (f ∷ frames) others ≡ f ∷ merged frames others
 frame_before f frames [] s = refl
 frame_before f frames (o ∷ others) s =
     let above = s.0 in
-    ap (λ (l : List FrameAt). with_frame o l) (frame_before f frames others (rising_weaker (o.at + 1) f.at others (omega (arith, above)) s.1))
-    ∙ ap (λ (t : Bool). if t then o ∷ f ∷ merged frames others else f ∷ with_frame o (merged frames others)) (is_not_below o.at f.at above)
+    ap (λ (l : List FrameAt). with_frame o l) (frame_before f frames others (rising_weaker (o.at + 1) (f.at + 1) others (omega (arith, above)) s.1))
+    ∙ with_behind o f (merged frames others) (omega (arith, above))
+
+-- the other frame is left out where the first of these stands at its place
+other_left : (f o : FrameAt) (frames others : List FrameAt) → RiseFrom (o.at + 1) others → o.at ≡ f.at
+    → merged (f ∷ frames) (o ∷ others) ≡ merged (f ∷ frames) others
+other_left f o frames others s e =
+    let front = frame_before f frames others (subst (λ n. RiseFrom (n + 1) others) e s) in
+    ap (λ (l : List FrameAt). with_frame o l) front ∙ with_same o f (merged frames others) (sym e) ∙ sym front
 
 -- ---- the test
 
@@ -71,19 +78,42 @@ first_before : (o : FrameAt) (frames others : List FrameAt) → RiseFrom 0 frame
 first_before o [] others r e = tt
 first_before o (f ∷ frames) others r e = let less = ltb-true o.at f.at (sym e) in (omega (arith, less), r.1)
 
--- where none of the others comes first, all of them stand at the first frame or behind it
-none_before : (f : FrameAt) (frames others : List FrameAt) → RiseFrom 0 others → false ≡ other_first (f ∷ frames) others → RiseFrom f.at others
-none_before f frames [] r e = tt
-none_before f frames (o ∷ others) r e = (not_above o.at f.at (sym e), r.1)
+-- where the first of the others stands neither in front of the first frame nor at its place, all of them stand behind it
+none_before : (f : FrameAt) (frames others : List FrameAt) → RiseFrom 0 others → false ≡ other_first (f ∷ frames) others
+    → false ≡ same_first (f ∷ frames) others → RiseFrom (f.at + 1) others
+none_before f frames [] r e d = tt
+none_before f frames (o ∷ others) r e d = (above_of o.at f.at (sym e) (sym d), r.1)
   where
-    not_above : (a b : ℕ) → nat_lt a b ≡ false → b ≤ a
-    not_above a b above = grind (arith, nat_tests)
+    above_of : (a b : ℕ) → nat_lt a b ≡ false → nat_eq a b ≡ false → b + 1 ≤ a
+    above_of a b above apart = grind (arith, nat_tests)
+
+none_same : (frames : List FrameAt) → same_first frames ([]) ≡ false
+none_same [] = refl
+none_same (f ∷ frames) = refl
+
+-- a frame of a list that has one
+some_frame : (frames : List FrameAt) → 0 < length frames → FrameAt
+some_frame [] lt = absurd (omega (arith, lt))
+some_frame (f ∷ frames) lt = f
+
+other_out : (o : FrameAt) (others frames : List FrameAt) → RiseFrom (o.at + 1) others → true ≡ same_first frames (o ∷ others)
+    → merged frames (o ∷ others) ≡ merged frames others
+other_out o others [] s e = absurd (true≢false e)
+other_out o others (f ∷ frames) s e = other_left f o frames others s (eqb-true o.at f.at (sym e))
 
 -- ---- in a loop
 
 module _ (frames others : List FrameAt) (at other : ℕ) where
   abbrev First : Bool → Type 0
   First t = t ≡ other_first (slice_range frames at (length frames)) (slice_range others other (length others))
+
+  abbrev Same : Bool → Type 0
+  Same t = t ≡ same_first (slice_range frames at (length frames)) (slice_range others other (length others))
+
+  same_is : (t : Bool) → Same t → t ≡ same_first (drop at frames) (drop other others)
+  same_is t e =
+      e ∙ ap (λ (l : List FrameAt). same_first l (slice_range others other (length others))) (take_rest frames at)
+      ∙ ap (λ (l : List FrameAt). same_first (drop at frames) l) (take_rest others other)
 
   first_is : (t : Bool) → First t → t ≡ other_first (drop at frames) (drop other others)
   first_is t e =
@@ -127,14 +157,38 @@ module _ (frames others : List FrameAt) (at other : ℕ) where
       ∙ ap (λ (l : List FrameAt). all ++ merged (drop at frames) l) (sym split)
       ∙ before
 
+  -- an other frame that stands at the place of a frame is one of those that are left, and is left out
+  pub same_there : Same true → other < length others
+  same_there e = elim (cases_lt other (length others)) [
+    | inl less ↦ less
+    | inr done ↦
+        let is = same_is true e ∙ ap (λ (l : List FrameAt). same_first (drop at frames) l) (drop_all other others done) in
+        absurd (true≢false (is ∙ none_same (drop at frames)))
+  ]
+
+  pub leaves_other : RiseFrom 0 others → (all whole : List FrameAt) → Same true
+      → all ++ merged (drop at frames) (drop other others) ≡ whole → all ++ merged (drop at frames) (drop (other + 1) others) ≡ whole
+  leaves_other s all whole same before =
+      let lt = same_there same in
+      let any = some_frame others (omega (arith, lt)) in
+      let o = get_or others other any in
+      let rest = drop (other + 1) others in
+      let split = drop_is others other o lt (get_or_default others other any o lt) in
+      let left = subst (λ (l : List FrameAt). RiseFrom 0 l) split (rising_left others other 0 s) in
+      let at_first = same_is true same ∙ ap (λ (l : List FrameAt). same_first (drop at frames) l) split in
+      ap (λ (l : List FrameAt). all ++ l) (sym (other_out o rest (drop at frames) left.1 at_first))
+      ∙ ap (λ (l : List FrameAt). all ++ merged (drop at frames) l) (sym split)
+      ∙ before
+
   pub takes_frame : RiseFrom 0 others → (f copy : FrameAt) (all next whole : List FrameAt) → at < length frames
-      → f ≡ get_or frames at f → First false → copy ≡ f → next ≡ all ++ copy ∷ []
+      → f ≡ get_or frames at f → First false → Same false → copy ≡ f → next ≡ all ++ copy ∷ []
       → all ++ merged (drop at frames) (drop other others) ≡ whole → next ++ merged (drop (at + 1) frames) (drop other others) ≡ whole
-  takes_frame s f copy all next whole lt is first same grown before =
+  takes_frame s f copy all next whole lt is first apart same grown before =
       let rest = drop (at + 1) frames in
       let split = drop_is frames at f lt is in
       let behind = none_before f rest (drop other others) (rising_left others other 0 s)
-      (first_is false first ∙ ap (λ (l : List FrameAt). other_first l (drop other others)) split) in
+      (first_is false first ∙ ap (λ (l : List FrameAt). other_first l (drop other others)) split)
+      (same_is false apart ∙ ap (λ (l : List FrameAt). same_first l (drop other others)) split) in
       ap (λ (l : List FrameAt). l ++ merged rest (drop other others)) (grown ∙ ap (λ (x : FrameAt). all ++ x ∷ []) same)
       ∙ append_assoc all (f ∷ []) (merged rest (drop other others))
       ∙ ap (λ (l : List FrameAt). all ++ l) (sym (frame_before f rest (drop other others) behind))

@@ -46,6 +46,6 @@ abbrev pub init_text : InitPlaces → (frames array count : ℕ) → List ℕ
 init_text p frames array count =
     code_text init_stack 0 (init_bytes p (push_count count)) (short 0) (init_frames frames array (push_count count) ∷ [])
 
--- the places of what the code names
+-- the places of what the code names, which has no Integer: sipush pushes the number of probes
 abbrev pub named_places : AddedPlaces → InitPlaces
-named_places p = record { field = p.field; id = p.id; name = p.name; fetch = p.fetch }
+named_places p = record { field = p.field; id = p.id; name = p.name; count = 0; fetch = p.fetch }

@@ -3,7 +3,7 @@ ghost use Rattle.std.specs.Prelude.{◌≡◌, IfOk, IsTrue};
 ghost use Rattle.jc_methods.specs.FrameOrder.{RiseFrom};
 ghost use Rattle.jc_layout.specs.Layout.{is_wide};
 ghost use Rattle.jc_layout.specs.Merged.{merged as merged_list};
-ghost use Rattle.jc_instrument_code.specs.Merging.{other_first};
+ghost use Rattle.jc_instrument_code.specs.Merging.{other_first, same_first};
 ghost use Rattle.jc_instrument_code.specs.TwinCode.{chosen_frames};
 
 use jc_bytes::{List, Memory, TryClone};
@@ -23,9 +23,16 @@ fn is_other_next(frames: &[FrameAt], others: &[FrameAt]) -> bool
     others[0].at < frames[0].at
 }
 
-/// The frames of both lists in the order of their places (JVM Specification 4.7.4), as for the wide
-/// layout of instrumented code: the first list has the frames of the narrow one, and the second the
-/// further ones.
+/// Whether the first of the other frames stands where the first of these does.
+fn is_other_there(frames: &[FrameAt], others: &[FrameAt]) -> bool
+    ensures { result ≡ same_first frames.now others.now }
+{
+    !frames.is_empty() && !others.is_empty() && others[0].at == frames[0].at
+}
+
+/// The frames of both lists in the order of their places (JVM Specification 4.7.4), one at each place, as for the wide
+/// layout of instrumented code: the first list has the frames of the narrow one, and the second those behind its
+/// conditional jumps. Where both have a frame at a place, that of the first list stays.
 ///
 /// # Errors
 ///
@@ -46,6 +53,8 @@ pub fn merged_frames(
         if is_other_next(&frames[at..], &others[other..]) {
             let next = others[other].try_clone(alloc)?;
             all.push(next)?;
+            other += 1;
+        } else if is_other_there(&frames[at..], &others[other..]) {
             other += 1;
         } else {
             let next = frames[at].try_clone(alloc)?;

@@ -12,6 +12,7 @@ use Rattle.jc_methods.specs.WellMade.{IsWellMadeOfAnySize}
 use Rattle.jc_methods.specs.declared.insn.Insn.{Insn}
 use Rattle.jc_methods.specs.declared.insn.Insn.TheVariants as insns
 use Rattle.jc_methods.specs.declared.kind.State.{State}
+use Rattle.jc_methods.specs.declared.probe_members.Fetch.TheVariants as fetches
 use Rattle.jc_methods.specs.declared.body.Body.{Body}
 use Rattle.jc_methods.specs.declared.body.Use.{Use}
 use Rattle.jc_insn.specs.declared.item.CodeItem.TheVariants as items
@@ -23,12 +24,12 @@ use Rattle.jc_insn.specs.Writing.{insn_text, code_text}
 use Rattle.jc_insn.proofs.ItemReadingLaws.{same_item}
 use Rattle.jc_insn.proofs.OperandsSpelledLaws.{item_of, one_number}
 use Rattle.jc_insn.proofs.ReadBackLaws.{short_size, big_short}
-use Rattle.jc_emit.specs.Sizes.{narrow, layout_form}
-use Rattle.jc_emit.specs.Emission.{emission}
+use Rattle.jc_emit.specs.Sizes.{narrow}
+use Rattle.jc_emit.specs.Emission.{Emitting, emission}
 use Rattle.jc_emit.specs.Items.{insn_of, twin_items}
-use Rattle.jc_emit.specs.Marks.{unplaced, invokestatic}
+use Rattle.jc_emit.specs.Marks.{TwinPlaces, unplaced, invokestatic}
 use Rattle.jc_layout.specs.Layout.{layout_set, laid_starts, is_wide, chosen_starts, chosen_text}
-use Rattle.jc_layout.specs.LaidBody.{with_call, with_place, laid_body, SpellsLaid}
+use Rattle.jc_layout.specs.LaidBody.{with_prelude, with_place, laid_body, laid_form, SpellsLaid}
 use Rattle.jc_layout.proofs.ChoiceLaws.{chosen_stand}
 use Rattle.jc_layout.proofs.LaidCodeLaws.{begins_so, laid_is}
 
@@ -130,12 +131,14 @@ with_called call bytes starts whole code lt are s =
     subst (λ l. Spells l (invokestatic call ∷ code) starts) (sym (ap (with_place call) bytes_are ∙ placed_text call begins.0))
     (called_text call begins.0 starts code lt (subst (λ l. Spells l (invokestatic 0 ∷ code) starts) bytes_are s))
 
-pub laid_spells : (b : Body) (first : ℕ) (states : List State) (array : ℕ) (wide : Bool) (call : ℕ) (uses : List Use) (bytes starts : List ℕ)
-    → IsWellMadeOfAnySize b → call < 65536 → SpellsLaid b (emission b first states array) wide call uses bytes starts
-unfolding laid_body emission
-laid_spells b first states array wide call uses bytes starts well lt are s =
-    let begins = begins_so b first narrow 0 in
-    let laid = laid_is b first wide well.code ∙ begins_so b first (layout_form wide) 0 in
-    let ends = laid_starts wide (map (insn_of unplaced b.arg_slots) (twin_items b first narrow)) starts in
-    subst (λ code. Spells (with_place call bytes) (with_call call code) ends) (sym laid)
-    (with_called call bytes ends _ _ lt (are ∙ ap chosen_text begins) (subst (λ code. Spells bytes code ends) laid s))
+module _ (b : Body) (first : ℕ) (states : List State) (given : Emitting) (member : given.fetch ≡ fetches.Member) where
+  pub laid_spells : (wide : Bool) (p : TwinPlaces) (uses : List Use) (bytes starts : List ℕ) → IsWellMadeOfAnySize b → p.giver < 65536
+      → SpellsLaid b (emission b first states given) wide p uses bytes starts
+  unfolding laid_body emission
+  laid_spells wide p uses bytes starts well lt are s =
+      let named = unplaced given.integer in
+      let begins = begins_so b first (narrow given.fetch) member named in
+      let laid = laid_is b first given.fetch named wide well.code ∙ begins_so b first (laid_form b first given.fetch wide) member named in
+      let ends = laid_starts wide (map (insn_of named b.arg_slots) (twin_items b first (narrow given.fetch))) starts in
+      subst (λ code. Spells (with_place p.giver bytes) (with_prelude fetches.Member p code) ends) (sym laid)
+      (with_called p.giver bytes ends _ _ lt (are ∙ ap chosen_text begins) (subst (λ code. Spells bytes code ends) laid s))

@@ -1,8 +1,8 @@
 -- The instructions of instrumented code are well formed.
-use Rattle.std.proofs.Common.{◌≡◌, ⊎_elim, inl, inr, ℕ, ◌+◌, ◌<◌, ◌≤◌, Bool, true, false, cond, nat_le, refl, sym, ap, ◌∙◌, arith}
+use Rattle.std.proofs.Common.{◌≡◌, ⊎_elim, inl, inr, ℕ, zero, suc, ◌+◌, ◌<◌, ◌≤◌, Bool, true, false, cond, nat_le, refl, sym, ap, ◌∙◌, arith}
 use Rattle.std.specs.Prelude.{pos, negsuc, ◌≤ℤ◌, if◌then◌else◌}
 use Rattle.std.proofs.lemmas.Int.{ints}
-use Rattle.std.proofs.lemmas.Bool.{cases_lt, agree_below_at, cond-true, leb-true, le-leb}
+use Rattle.std.proofs.lemmas.Bool.{cases_lt, agree_below_at, cond-true, cond_both, leb-true, le-leb}
 use Rattle.jc_methods.specs.InsnForm.{form_of}
 use Rattle.jc_methods.proofs.InsnFormLaws.{unknown_beyond}
 use Rattle.jc_methods.specs.Opcode as opcode
@@ -14,7 +14,10 @@ use Rattle.jc_methods.specs.Flow.{inverse_of}
 use Rattle.jc_methods.specs.Insn.{IsWellFormed}
 use Rattle.jc_methods.specs.Widened.{inverted}
 use Rattle.jc_kinds_after.specs.Shift.{with_slot}
-use Rattle.jc_emit.specs.Marks.{aload, astore, invokestatic, iconst_1, bastore, push}
+use Rattle.jc_methods.specs.ProbeMembers.{most_short}
+use Rattle.jc_methods.specs.declared.probe_members.Fetch.{Fetch}
+use Rattle.jc_methods.specs.declared.probe_members.Fetch.TheVariants as fetches
+use Rattle.jc_emit.specs.Marks.{TwinPlaces, aload, astore, invokestatic, iconst_1, bastore, push, push_by, prelude_insn}
 use Rattle.jc_emit.proofs.ConditionalBranchLaws.{unknown_no_jump}
 
 -- ---- inverses
@@ -104,3 +107,25 @@ push_formed n = by (nat_le n 5) refl (nat_le n 127) refl
     by true e u f = low_form n (leb-true n 5 e)
     by false e true f = inl (byte_form, byte_low n, byte_high n (leb-true n 127 f))
     by false e false f = inr short_form
+
+-- the same for each number
+pub push_by_formed : (integer : ℕ → ℕ) (n : ℕ) → IsWellFormed (push_by integer n)
+push_by_formed integer n =
+    cond_both (nat_le n most_short) (push n) (insns.Constant (integer n)) (λ x. IsWellFormed x) (λ few. push_formed n) (λ many. tt)
+
+none_formed : IsWellFormed (insns.Simple opcode.nop)
+unfolding form_of
+none_formed = refl
+
+cast_formed : (place : ℕ) → IsWellFormed (insns.OfClass opcode.checkcast place)
+unfolding form_of
+cast_formed place = refl
+
+pub prelude_formed : (fetch : Fetch) (p : TwinPlaces) (v k : ℕ) → IsWellFormed (prelude_insn fetch p v k)
+prelude_formed fetches.Member p v zero = call_formed p.giver
+prelude_formed fetches.Member p v (suc zero) = store_formed v
+prelude_formed fetches.Member p v (suc (suc k)) = none_formed
+prelude_formed fetches.Constant p v zero = tt
+prelude_formed fetches.Constant p v (suc zero) = cast_formed p.array
+prelude_formed fetches.Constant p v (suc (suc zero)) = store_formed v
+prelude_formed fetches.Constant p v (suc (suc (suc k))) = none_formed

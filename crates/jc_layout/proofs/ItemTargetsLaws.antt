@@ -14,16 +14,18 @@ use Rattle.jc_methods.specs.declared.insn.Insn.{Insn}
 use Rattle.jc_methods.specs.declared.insn.Flow.{Flow}
 use Rattle.jc_methods.specs.declared.insn.Flow.TheVariants as flows
 use Rattle.jc_methods.specs.declared.body.Body.{Body}
+use Rattle.jc_methods.specs.declared.probe_members.Fetch.{Fetch}
+use Rattle.jc_methods.specs.declared.probe_members.Fetch.TheVariants as fetches
 use Rattle.jc_plan.specs.declared.branch.Branch.{Branch}
 use Rattle.jc_plan.specs.Edges.{arm, branches_by}
 use Rattle.jc_plan.specs.Probed.{probe_of}
 use Rattle.jc_kinds_after.specs.Shift.{with_slot}
-use Rattle.jc_emit.specs.Marks.{TwinPlaces, push}
+use Rattle.jc_emit.specs.Marks.{TwinPlaces, push_by, prelude_insn}
 use Rattle.jc_emit.specs.Sizes.{TwinForm, insn_at}
 use Rattle.jc_emit.specs.TwinCode.{to_of}
 use Rattle.jc_emit.specs.Items.{Item, start, image, probe_array, probe_id, probe_one, probe_store, hop, insn_of, twin_items}
 use Rattle.jc_emit.specs.Local.{Stands, Lands, Ok, OkImage}
-use Rattle.jc_emit.proofs.PlacedLaws.{flow_push, flow_shifted, no_targets, inverse_targets, placed_targets}
+use Rattle.jc_emit.proofs.PlacedLaws.{flow_push_by, flow_shifted, no_targets, inverse_targets, placed_targets}
 use Rattle.jc_methods.proofs.PlacedInsnLaws.{targets_placed}
 use Rattle.jc_emit.proofs.OthersLaws.{jumps_target}
 
@@ -105,12 +107,20 @@ module _ (b : Body) (first : ℕ) (form : TwinForm) (named : TwinPlaces) where
   image_within q i insn flows.Throws e h =
       subst (λ x. Within (targets_of x)) (sym h) (subst Within (sym (no_targets (old i) (inr (inr e)))) tt)
 
+  prelude_within : (fetch : Fetch) (v k : ℕ) → LeadsWithin count (prelude_insn fetch named v k)
+  prelude_within fetches.Member v zero = tt
+  prelude_within fetches.Member v (suc zero) = tt
+  prelude_within fetches.Member v (suc (suc k)) = tt
+  prelude_within fetches.Constant v zero = tt
+  prelude_within fetches.Constant v (suc zero) = tt
+  prelude_within fetches.Constant v (suc (suc zero)) = tt
+  prelude_within fetches.Constant v (suc (suc (suc k))) = tt
+
   pub item_within : (q : ℕ) (x : Item) → Fine q x → LeadsWithin count (new x)
-  item_within q (start zero) h = tt
-  item_within q (start (suc k)) h = tt
+  item_within q (start fetch k) h = prelude_within fetch b.arg_slots k
   item_within q (image insn i early) h = image_within q i insn (flow_of (old i)) refl h.2
   item_within q (probe_array id at late) h = tt
-  item_within q (probe_id id at late) h = subst Within (sym (no_targets (push id) (inl (flow_push id)))) tt
+  item_within q (probe_id id at late) h = subst Within (sym (no_targets (push_by named.integer id) (inl (flow_push_by named.integer id)))) tt
   item_within q (probe_one id at late) h = tt
   item_within q (probe_store id at late) h = tt
-  item_within q (hop to at due) h = (lands_within to at due h, tt)
+  item_within q (hop to at due) h = (lands_within to at due h.0, tt)

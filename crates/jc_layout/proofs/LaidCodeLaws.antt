@@ -1,5 +1,5 @@
 -- The code of a layout is that of the twin.
-use Rattle.std.proofs.Common.{◌≡◌, ℕ, zero, suc, ◌+◌, Bool, true, false, List, [], ◌∷◌, ◌++◌, map, length, Option, Some, None, refl, sym, ap, ap₂, ◌∙◌}
+use Rattle.std.proofs.Common.{◌≡◌, ℕ, zero, suc, ◌+◌, Bool, true, false, List, [], ◌∷◌, ◌++◌, map, length, Option, Some, None, refl, sym, ap, ap₂}
 use Rattle.std.specs.List.{AllByRecursion}
 use Rattle.jc_bytes.specs.PlainLists.{pieces}
 use Rattle.jc_bytes.proofs.EachLaws.{all_both}
@@ -10,28 +10,34 @@ use Rattle.jc_methods.specs.declared.insn.Insn.{Insn}
 use Rattle.jc_methods.specs.declared.insn.Flow.{Flow}
 use Rattle.jc_methods.specs.declared.insn.Flow.TheVariants as flows
 use Rattle.jc_methods.specs.declared.body.Body.{Body}
-use Rattle.jc_methods.specs.Widened.{inverted}
+use Rattle.jc_methods.specs.declared.insn.Insn.TheVariants as insns
+use Rattle.jc_methods.specs.declared.probe_members.Fetch.{Fetch}
+use Rattle.jc_methods.specs.declared.probe_members.Fetch.TheVariants as fetches
+use Rattle.jc_methods.specs.Opcode as opcode
+use Rattle.jc_methods.specs.Widened.{all_wide, inverted}
 use Rattle.jc_plan.specs.declared.branch.Branch.{Branch}
 use Rattle.jc_plan.specs.Probed.{probe_of}
 use Rattle.jc_plan.specs.Plan.{lead_probe}
-use Rattle.jc_emit.specs.Marks.{TwinPlaces, unplaced, giver_at, invokestatic, astore}
-use Rattle.jc_emit.specs.Sizes.{TwinForm, narrow, layout_form, is_wide, insn_at, early_probe, late_probe, arms_at}
+use Rattle.jc_emit.specs.Marks.{TwinPlaces, invokestatic, astore, push_by}
+use Rattle.jc_emit.specs.Sizes.{TwinForm, narrow, is_wide, insn_at, early_probe, late_probe, arms_at}
 use Rattle.jc_emit.specs.TwinCode.{to_of}
-use Rattle.jc_emit.specs.Items.{Item, start, insn_of, lead_part, early_part, hop_part, arm_parts, test_part, lead_of, land_of, image_of, tests_part, image_part, segment, twin_items}
+use Rattle.jc_emit.specs.Items.{Item, start, probe_id, insn_of, prelude, lead_part, early_part, hop_part, arm_parts, test_part, lead_of, land_of, image_of, tests_part, image_part, segment, twin_items}
 use Rattle.jc_emit.specs.Local.{IsBehind}
 use Rattle.jc_emit.proofs.WidenedLaws.{widened_is}
-use Rattle.jc_layout.specs.LaidBody.{with_call}
+use Rattle.jc_layout.specs.LaidBody.{with_prelude, laid_form}
 use Rattle.jc_layout.specs.Layout.{laid_code}
 
--- ---- behind the prelude no instruction names the method
+-- ---- behind the prelude no instruction names what the prelude does
 
-same_insn : (c d : TwinPlaces) (v : ℕ) (x : Item) → IsBehind x → insn_of c v x ≡ insn_of d v x
-same_insn c d v (start k) h = absurd h
-same_insn c d v x h = refl
+same_insn : (c d : TwinPlaces) → c.integer ≡ d.integer → (v : ℕ) (x : Item) → IsBehind x → insn_of c v x ≡ insn_of d v x
+same_insn c d e v (start fetch k) h = absurd h
+same_insn c d e v (probe_id id at late) h = ap (λ (integer : ℕ → ℕ). push_by integer id) e
+same_insn c d e v x h = refl
 
-same_insns : (c d : TwinPlaces) (v : ℕ) (items : List Item) → AllByRecursion IsBehind items → map (insn_of c v) items ≡ map (insn_of d v) items
-same_insns c d v [] h = refl
-same_insns c d v (x ∷ items) h = ap₂ (λ y l. y ∷ l) (same_insn c d v x h.0) (same_insns c d v items h.1)
+same_insns : (c d : TwinPlaces) → c.integer ≡ d.integer → (v : ℕ) (items : List Item) → AllByRecursion IsBehind items
+    → map (insn_of c v) items ≡ map (insn_of d v) items
+same_insns c d e v [] h = refl
+same_insns c d e v (x ∷ items) h = ap₂ (λ y l. y ∷ l) (same_insn c d e v x h.0) (same_insns c d e v items h.1)
 
 abbrev AllBehind : List Item → Type 0
 AllBehind items = AllByRecursion IsBehind items
@@ -93,25 +99,36 @@ module _ (b : Body) (first : ℕ) (form : TwinForm) where
 
   -- ---- the code
 
+  abbrev behind : List Item
+  behind = pieces (segment b first form) (length b.code)
+
+  -- the code behind the prelude
+  abbrev body_of : TwinPlaces → List Insn
+  body_of p = map (insn_of p b.arg_slots) behind
+
   -- the code behind the call
-  abbrev rest_of : ℕ → List Insn
-  rest_of call = astore b.arg_slots ∷ map (insn_of (giver_at call) b.arg_slots) (pieces (segment b first form) (length b.code))
+  abbrev pub rest_of : TwinPlaces → List Insn
+  rest_of p = astore b.arg_slots ∷ map (insn_of p b.arg_slots) (pieces (segment b first form) (length b.code))
 
-  pub begins_so : (call : ℕ) → map (insn_of (giver_at call) b.arg_slots) (twin_items b first form) ≡ invokestatic call ∷ rest_of call
+  pub begins_so : form.fetch ≡ fetches.Member → (p : TwinPlaces) → map (insn_of p b.arg_slots) (twin_items b first form) ≡ invokestatic p.giver ∷ rest_of p
   unfolding twin_items
-  begins_so call = refl
+  begins_so is p = ap (λ (fetch : Fetch). map (insn_of p b.arg_slots) (prelude fetch ++ behind)) is
 
-  same_rest : (c d : ℕ) → rest_of c ≡ rest_of d
-  same_rest c d =
-      ap (λ (l : List Insn). astore b.arg_slots ∷ l)
-      (same_insns (giver_at c) (giver_at d) b.arg_slots (pieces (segment b first form) (length b.code)) (pieces_behind (length b.code)))
+  same_body : (p q : TwinPlaces) → p.integer ≡ q.integer → body_of q ≡ body_of p
+  same_body p q e = same_insns q p (sym e) b.arg_slots behind (pieces_behind (length b.code))
 
-  pub called : (call : ℕ) → with_call call (map (insn_of unplaced b.arg_slots) (twin_items b first form)) ≡ map (insn_of (giver_at call) b.arg_slots) (twin_items b first form)
-  called call =
-      ap (with_call call) (begins_so 0) ∙ ap (λ (l : List Insn). invokestatic call ∷ l) (same_rest 0 call) ∙ sym (begins_so call)
+  pub called : (p q : TwinPlaces) → p.integer ≡ q.integer
+      → with_prelude form.fetch p (map (insn_of q b.arg_slots) (twin_items b first form)) ≡ map (insn_of p b.arg_slots) (twin_items b first form)
+  unfolding twin_items
+  called p q e = by form.fetch
+    where
+      by : (fetch : Fetch) → with_prelude fetch p (map (insn_of q b.arg_slots) (prelude fetch ++ behind)) ≡ map (insn_of p b.arg_slots) (prelude fetch ++ behind)
+      by fetches.Member = ap (λ (l : List Insn). invokestatic p.giver ∷ astore b.arg_slots ∷ l) (same_body p q e)
+      by fetches.Constant =
+          ap (λ (l : List Insn). insns.Constant p.giver ∷ insns.OfClass opcode.checkcast p.array ∷ astore b.arg_slots ∷ l) (same_body p q e)
 
 -- the code of the narrow layout, or its wide form
-pub laid_is : (b : Body) (first : ℕ) (wide : Bool) → IsCode b.code
-    → laid_code wide (map (insn_of unplaced b.arg_slots) (twin_items b first narrow)) ≡ map (insn_of unplaced b.arg_slots) (twin_items b first (layout_form wide))
-laid_is b first false is_code = refl
-laid_is b first true is_code = widened_is b first unplaced is_code
+pub laid_is : (b : Body) (first : ℕ) (fetch : Fetch) (p : TwinPlaces) (wide : Bool) → IsCode b.code
+    → laid_code wide (map (insn_of p b.arg_slots) (twin_items b first (narrow fetch))) ≡ map (insn_of p b.arg_slots) (twin_items b first (laid_form b first fetch wide))
+laid_is b first fetch p false is_code = refl
+laid_is b first fetch p true is_code = widened_is b first fetch all_wide p is_code

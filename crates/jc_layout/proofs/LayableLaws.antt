@@ -1,5 +1,5 @@
 -- Instrumented code can be laid out.
-use Rattle.std.proofs.Common.{◌≡◌, ⊎_elim, ℕ, zero, suc, ◌+◌, ◌<◌, List, [], ◌∷◌, map, length, get_or, Some, refl, sym, subst, arith, ◌≤◌, All}
+use Rattle.std.proofs.Common.{◌≡◌, ⊎_elim, ℕ, ◌+◌, ◌<◌, List, [], ◌∷◌, map, length, get_or, Some, refl, sym, subst, arith, ◌≤◌, All}
 use Rattle.std.specs.List.{sum_by}
 use Rattle.std.proofs.lemmas.List.{length-map}
 use Rattle.std.proofs.lemmas.List.Elements.{All-map}
@@ -15,30 +15,31 @@ use Rattle.jc_methods.specs.declared.insn.Flow.{Flow}
 use Rattle.jc_methods.specs.declared.insn.Flow.TheVariants as flows
 use Rattle.jc_methods.specs.declared.body.Body.{Body}
 use Rattle.jc_methods.specs.declared.kind.State.{State}
+use Rattle.jc_methods.specs.declared.probe_members.Fetch.{Fetch}
 use Rattle.jc_insn.proofs.PlacesLaws.{well_formed_with}
 use Rattle.jc_plan.specs.Probed.{probe_of}
 use Rattle.jc_emit.specs.Marks.{unplaced}
-use Rattle.jc_emit.specs.Emission.{emission}
+use Rattle.jc_emit.specs.Emission.{Emitting, emission}
 use Rattle.jc_emit.specs.Sizes.{narrow, insn_at}
 use Rattle.jc_emit.specs.Items.{Item, start, image, probe_array, probe_id, probe_one, probe_store, hop, insn_of, twin_items}
 use Rattle.jc_emit.specs.Local.{Ok, OkImage}
 use Rattle.jc_emit.proofs.FewLaws.{few_emitted}
 use Rattle.jc_emit.proofs.LocalLaws.{twin_ok}
 use Rattle.jc_layout.proofs.ItemTargetsLaws.{item_within}
-use Rattle.jc_layout.proofs.FormedLaws.{inverted_formed, slot_formed, call_formed, store_formed, load_formed, one_formed, put_formed, goto_formed, push_formed}
+use Rattle.jc_layout.proofs.FormedLaws.{inverted_formed, slot_formed, load_formed, one_formed, put_formed, goto_formed, push_by_formed, prelude_formed}
 
-module _ (b : Body) (first : ℕ) (is_code : IsCode b.code) where
+module _ (b : Body) (first : ℕ) (fetch : Fetch) (integer : ℕ → ℕ) (is_code : IsCode b.code) where
   abbrev items : List Item
-  items = twin_items b first narrow
+  items = twin_items b first (narrow fetch)
 
   abbrev new : Item → Insn
-  new x = insn_of unplaced b.arg_slots x
+  new x = insn_of (unplaced integer) b.arg_slots x
 
   abbrev old : ℕ → Insn
   old i = insn_at b.code i
 
   abbrev count : ℕ
-  count = length (twin_items b first narrow)
+  count = length (twin_items b first (narrow fetch))
 
   abbrev Image : ℕ → ℕ → Insn → Flow → Type 0
   Image q i insn flow = OkImage b.code (Some b.arg_slots) (probe_of b first) items q i (old i) insn flow
@@ -62,11 +63,10 @@ module _ (b : Body) (first : ℕ) (is_code : IsCode b.code) where
   image_formed q i insn flows.Throws lt h = subst IsWellFormed (sym h) (formed i lt)
 
   item_formed : (q : ℕ) (x : Item) → Fine q x → IsWellFormed (new x)
-  item_formed q (start zero) h = call_formed 0
-  item_formed q (start (suc k)) h = store_formed b.arg_slots
+  item_formed q (start f k) h = prelude_formed f (unplaced integer) b.arg_slots k
   item_formed q (image insn i early) h = image_formed q i insn (flow_of (old i)) h.0 h.2
   item_formed q (probe_array id at late) h = load_formed b.arg_slots
-  item_formed q (probe_id id at late) h = push_formed id
+  item_formed q (probe_id id at late) h = push_by_formed integer id
   item_formed q (probe_one id at late) h = one_formed
   item_formed q (probe_store id at late) h = put_formed
   item_formed q (hop to at due) h = goto_formed to
@@ -74,15 +74,16 @@ module _ (b : Body) (first : ℕ) (is_code : IsCode b.code) where
   -- ---- the whole
 
   fine : (q : ℕ) (d : Item) → q < length items → Fine q (get_or items q d)
-  fine q d lt = (twin_ok b first narrow is_code).ok q (get_or items q d) (slice_get-get_or items q d lt)
+  fine q d lt = (twin_ok b first (narrow fetch) is_code).ok q (get_or items q d) (slice_get-get_or items q d lt)
 
-  pub all_formed : All IsWellFormed (map (insn_of unplaced b.arg_slots) (twin_items b first narrow))
-  all_formed = All-map IsWellFormed (insn_of unplaced b.arg_slots) items (λ q d lt. item_formed q (get_or items q d) (fine q d lt))
+  pub all_formed : All IsWellFormed (map (insn_of (unplaced integer) b.arg_slots) (twin_items b first (narrow fetch)))
+  all_formed = All-map IsWellFormed (insn_of (unplaced integer) b.arg_slots) items (λ q d lt. item_formed q (get_or items q d) (fine q d lt))
 
-  pub all_within : All (LeadsWithin (length (map (insn_of unplaced b.arg_slots) (twin_items b first narrow)))) (map (insn_of unplaced b.arg_slots) (twin_items b first narrow))
+  pub all_within : All (LeadsWithin (length (map (insn_of (unplaced integer) b.arg_slots) (twin_items b first (narrow fetch)))))
+      (map (insn_of (unplaced integer) b.arg_slots) (twin_items b first (narrow fetch)))
   all_within =
-      subst (λ n. All (LeadsWithin n) (map (insn_of unplaced b.arg_slots) items)) (sym (length-map items (insn_of unplaced b.arg_slots)))
-      (All-map (LeadsWithin count) (insn_of unplaced b.arg_slots) items (λ q d lt. item_within b first narrow unplaced q (get_or items q d) (fine q d lt)))
+      subst (λ n. All (LeadsWithin n) (map (insn_of (unplaced integer) b.arg_slots) items)) (sym (length-map items (insn_of (unplaced integer) b.arg_slots)))
+      (All-map (LeadsWithin count) (insn_of (unplaced integer) b.arg_slots) items (λ q d lt. item_within b first (narrow fetch) (unplaced integer) q (get_or items q d) (fine q d lt)))
 
 -- ---- how many there are
 
@@ -93,9 +94,9 @@ together (insn ∷ code) =
     let arms = sum_by-cons arm_count insn code in
     omega (arith, both, arms, together code)
 
-pub few_in : (b : Body) (first : ℕ) (states : List State) (array : ℕ) → IsCode b.code
-    → insns_and_arms (emission b first states array).code ≤ 1000000
-few_in b first states array is_code =
-    let few = few_emitted b first states array is_code in
-    let both = together (emission b first states array).code in
+pub few_in : (b : Body) (first : ℕ) (states : List State) (given : Emitting) → IsCode b.code
+    → insns_and_arms (emission b first states given).code ≤ 1000000
+few_in b first states given is_code =
+    let few = few_emitted b first states given is_code in
+    let both = together (emission b first states given).code in
     omega (arith, few, both)

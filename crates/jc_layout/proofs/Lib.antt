@@ -7,6 +7,6 @@ pub mod ItemTargetsLaws
 pub mod LayableLaws
 pub mod MergedLaws
 pub mod LaidCodeLaws
+pub mod LayoutFramesLaws
 pub mod LaidBodyLaws
 pub mod CallLaws
-pub mod LayoutFramesLaws

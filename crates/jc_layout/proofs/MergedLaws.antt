@@ -1,7 +1,7 @@
--- The frames of the wide layout are in rising order.
-use Rattle.std.proofs.Common.{◌≡◌, ◌⊎◌, inl, inr, ⊎_elim, ℕ, zero, suc, ◌+◌, ◌<◌, ◌≤◌, Bool, true, false, List, [], ◌∷◌, map, refl, subst, arith, nat_lt, if◌then◌else◌}
+-- The frames of the wide layout: which they are, and that they are in rising order.
+use Rattle.std.proofs.Common.{◌≡◌, ◌⊎◌, inl, inr, ⊎_elim, ℕ, zero, suc, ◌+◌, ◌<◌, ◌≤◌, Bool, true, false, List, [], ◌∷◌, map, refl, sym, ap, ap₂, ◌∙◌, subst, arith, nat_lt, nat_eq, if◌then◌else◌}
 use Rattle.std.specs.Prelude.{Contains}
-use Rattle.std.proofs.lemmas.Bool.{ltb-true}
+use Rattle.std.proofs.lemmas.Bool.{ltb-true, eqb-true}
 use Rattle.std.proofs.lemmas.Bool.Decides.{nat_tests}
 use Rattle.jc_methods.specs.Flow.{flow_of}
 use Rattle.jc_methods.specs.Widened.{WideSet, widths_by, wide_place_from, wide_place}
@@ -16,36 +16,86 @@ use Rattle.jc_emit.specs.Emission.{widened_frame}
 use Rattle.jc_emit.proofs.TwinPremisesLaws.{risen}
 use Rattle.jc_layout.specs.Merged.{with_frame, merged}
 
+-- ---- places
+
+pub is_below : (a b : ℕ) → a < b → nat_lt a b ≡ true
+is_below a b lt = grind (arith, nat_tests)
+
+pub is_not_below : (a b : ℕ) → b ≤ a → nat_lt a b ≡ false
+is_not_below a b le = grind (arith, nat_tests)
+
+is_apart : (a b : ℕ) → b < a → nat_eq a b ≡ false
+is_apart a b lt = grind (arith, nat_tests)
+
+is_same : (a b : ℕ) → a ≡ b → nat_eq a b ≡ true
+is_same a b e = grind (arith, nat_tests)
+
+above_of : (a b : ℕ) → nat_lt a b ≡ false → nat_eq a b ≡ false → b < a
+above_of a b e d = grind (arith, nat_tests)
+
+-- ---- a frame with those of a list
+
+-- the first of a list and the rest of it, with a frame, by how their places compare
+abbrev with_by : (below same : Bool) → (f g : FrameAt) → (frames rest : List FrameAt) → List FrameAt
+with_by below same f g frames rest = if below then f ∷ g ∷ frames else if same then g ∷ frames else g ∷ rest
+
+-- behind the first
+pub with_behind : (f g : FrameAt) (frames : List FrameAt) → g.at < f.at → with_frame f (g ∷ frames) ≡ g ∷ with_frame f frames
+with_behind f g frames lt =
+    ap₂ (λ (t u : Bool). with_by t u f g frames (with_frame f frames)) (is_not_below f.at g.at (omega (arith, lt))) (is_apart f.at g.at lt)
+
+-- at the first
+pub with_same : (f g : FrameAt) (frames : List FrameAt) → g.at ≡ f.at → with_frame f (g ∷ frames) ≡ g ∷ frames
+with_same f g frames e =
+    ap₂ (λ (t u : Bool). with_by t u f g frames (with_frame f frames)) (is_not_below f.at g.at (omega (arith, e))) (is_same f.at g.at (sym e))
+
+-- in front of the first
+pub with_before : (f g : FrameAt) (frames : List FrameAt) → f.at < g.at → with_frame f (g ∷ frames) ≡ f ∷ g ∷ frames
+with_before f g frames lt = ap (λ (t : Bool). with_by t (nat_eq f.at g.at) f g frames (with_frame f frames)) (is_below f.at g.at lt)
+
 -- ---- what is listed
 
 with_cases : (f : FrameAt) (frames : List FrameAt) (g : FrameAt) → Contains (with_frame f frames) g → (f ≡ g) ⊎ Contains frames g
 with_cases f [] g c = inl (contains_one f g c)
-with_cases f (h ∷ frames) g c = by (λ later. with_cases f frames g later) (nat_lt f.at h.at) c
+with_cases f (h ∷ frames) g c = by (λ later. with_cases f frames g later) (nat_lt f.at h.at) (nat_eq f.at h.at) c
   where
-    by : (Contains (with_frame f frames) g → (f ≡ g) ⊎ Contains frames g) → (t : Bool)
-        → Contains (if t then f ∷ h ∷ frames else h ∷ with_frame f frames) g → (f ≡ g) ⊎ Contains (h ∷ frames) g
-    by rest true c = which_in f (h ∷ frames) g c
-    by rest false c =
+    by : (Contains (with_frame f frames) g → (f ≡ g) ⊎ Contains frames g) → (t u : Bool)
+        → Contains (with_by t u f h frames (with_frame f frames)) g → (f ≡ g) ⊎ Contains (h ∷ frames) g
+    by rest true u c = which_in f (h ∷ frames) g c
+    by rest false true c = inr c
+    by rest false false c =
         ⊎_elim (λ same. inr (subst (λ x. Contains (h ∷ frames) x) same (first_in h frames)))
         (λ later. ⊎_elim (λ same. inl same) (λ more. inr (later_in h frames g more)) (rest later))
         (which_in h (with_frame f frames) g c)
 
-with_here : (f : FrameAt) (frames : List FrameAt) → Contains (with_frame f frames) f
-with_here f [] = first_in f []
-with_here f (h ∷ frames) = by (nat_lt f.at h.at) (with_here f frames)
+-- a frame of these stands at the place
+abbrev pub IsThere : List FrameAt → (place : ℕ) → Type 0
+IsThere frames place = (g : FrameAt) × Contains frames g × (g.at ≡ place)
+
+there_later : (h : FrameAt) (frames : List FrameAt) (place : ℕ) → IsThere frames place → IsThere (h ∷ frames) place
+there_later h frames place (g, c, e) = (g, later_in h frames g c, e)
+
+-- the frame is one of them then, or another stands at its place
+with_here : (f : FrameAt) (frames : List FrameAt) → Contains (with_frame f frames) f ⊎ IsThere frames f.at
+with_here f [] = inl (first_in f [])
+with_here f (h ∷ frames) = by (nat_lt f.at h.at) (nat_eq f.at h.at) refl (with_here f frames)
   where
-    by : (t : Bool) → Contains (with_frame f frames) f → Contains (if t then f ∷ h ∷ frames else h ∷ with_frame f frames) f
-    by true more = first_in f (h ∷ frames)
-    by false more = later_in h (with_frame f frames) f more
+    by : (t u : Bool) → nat_eq f.at h.at ≡ u → Contains (with_frame f frames) f ⊎ IsThere frames f.at
+        → Contains (with_by t u f h frames (with_frame f frames)) f ⊎ IsThere (h ∷ frames) f.at
+    by true u e more = inl (first_in f (h ∷ frames))
+    by false true e more = inr (h, first_in h frames, sym (eqb-true f.at h.at e))
+    by false false e more =
+        ⊎_elim (λ here. inl (later_in h (with_frame f frames) f here)) (λ there. inr (there_later h frames f.at there)) more
 
 with_others : (f : FrameAt) (frames : List FrameAt) (g : FrameAt) → Contains frames g → Contains (with_frame f frames) g
 with_others f [] g c = absurd (none_in g c)
-with_others f (h ∷ frames) g c = by (λ later. with_others f frames g later) (nat_lt f.at h.at)
+with_others f (h ∷ frames) g c = by (λ later. with_others f frames g later) (nat_lt f.at h.at) (nat_eq f.at h.at)
   where
-    by : (Contains frames g → Contains (with_frame f frames) g) → (t : Bool)
-        → Contains (if t then f ∷ h ∷ frames else h ∷ with_frame f frames) g
-    by rest true = later_in f (h ∷ frames) g c
-    by rest false =
+    by : (Contains frames g → Contains (with_frame f frames) g) → (t u : Bool)
+        → Contains (with_by t u f h frames (with_frame f frames)) g
+    by rest true u = later_in f (h ∷ frames) g c
+    by rest false true = c
+    by rest false false =
         ⊎_elim (λ same. subst (λ x. Contains (h ∷ with_frame f frames) x) same (first_in h (with_frame f frames)))
         (λ later. later_in h (with_frame f frames) g (rest later)) (which_in h frames g c)
 
@@ -60,43 +110,49 @@ pub merged_left : (frames others : List FrameAt) (g : FrameAt) → Contains fram
 merged_left frames [] g c = c
 merged_left frames (f ∷ others) g c = with_others f (merged frames others) g (merged_left frames others g c)
 
-pub merged_right : (frames others : List FrameAt) (g : FrameAt) → Contains others g → Contains (merged frames others) g
-merged_right frames [] g c = absurd (none_in g c)
-merged_right frames (f ∷ others) g c =
-    ⊎_elim (λ same. subst (λ x. Contains (with_frame f (merged frames others)) x) same (with_here f (merged frames others)))
-    (λ later. with_others f (merged frames others) g (merged_right frames others g later))
+-- of the others each is one of them, or one of the frames stands at its place
+pub merged_right : (frames others : List FrameAt) (from : ℕ) → RiseFrom from others → (g : FrameAt) → Contains others g
+    → Contains (merged frames others) g ⊎ IsThere frames g.at
+merged_right frames [] from r g c = absurd (none_in g c)
+merged_right frames (f ∷ others) from r g c =
+    ⊎_elim
+    (λ same. subst (λ x. Contains (with_frame f (merged frames others)) x ⊎ IsThere frames x.at) same
+    (⊎_elim (λ here. inl here) (λ there. inr (in_first there)) (with_here f (merged frames others))))
+    (λ later. ⊎_elim (λ here. inl (with_others f (merged frames others) g here)) (λ there. inr there) (merged_right frames others (f.at + 1) r.1 g later))
     (which_in f others g c)
+  where
+    in_first : IsThere (merged frames others) f.at → IsThere frames f.at
+    in_first (h, d, e) =
+        ⊎_elim (λ old. (h, old, e))
+        (λ later. let above = risen (f.at + 1) others h r.1 later in absurd (omega (arith, above, e)))
+        (merged_cases frames others h d)
+
+-- a frame at whose place one of them stands changes nothing
+pub with_there : (from : ℕ) (f : FrameAt) (frames : List FrameAt) → RiseFrom from frames → IsThere frames f.at → with_frame f frames ≡ frames
+with_there from f [] r (g, c, e) = absurd (none_in g c)
+with_there from f (h ∷ frames) r (g, c, e) =
+    ⊎_elim (λ same. with_same f h frames (ap (λ (x : FrameAt). x.at) same ∙ e))
+    (λ later.
+    let above = risen (h.at + 1) frames g r.1 later in
+    with_behind f h frames (omega (arith, above, e)) ∙ ap (λ (l : List FrameAt). h ∷ l) (with_there (h.at + 1) f frames r.1 (g, later, e)))
+    (which_in h frames g c)
 
 -- ---- their order
 
-not_below : (a b : ℕ) → nat_lt a b ≡ false → b ≤ a
-not_below a b e = grind (arith, nat_tests)
-
-with_rises : (from : ℕ) (f : FrameAt) (frames : List FrameAt) → RiseFrom from frames → from ≤ f.at
-    → ((g : FrameAt) → Contains frames g → g.at ≡ f.at → ⊥) → RiseFrom from (with_frame f frames)
-with_rises from f [] r le apart = (le, tt)
-with_rises from f (h ∷ frames) r le apart =
-    by (λ above. with_rises (h.at + 1) f frames r.1 above (λ g c. apart g (later_in h frames g c))) (nat_lt f.at h.at) refl
+with_rises : (from : ℕ) (f : FrameAt) (frames : List FrameAt) → RiseFrom from frames → from ≤ f.at → RiseFrom from (with_frame f frames)
+with_rises from f [] r le = (le, tt)
+with_rises from f (h ∷ frames) r le =
+    by (λ above. with_rises (h.at + 1) f frames r.1 above) (nat_lt f.at h.at) refl (nat_eq f.at h.at) refl
   where
-    by : (h.at + 1 ≤ f.at → RiseFrom (h.at + 1) (with_frame f frames)) → (t : Bool) → nat_lt f.at h.at ≡ t
-        → RiseFrom from (if t then f ∷ h ∷ frames else h ∷ with_frame f frames)
-    by rest true e = let below = ltb-true f.at h.at e in (le, (omega (arith, below), r.1))
-    by rest false e =
-        let above = not_below f.at h.at e in
-        let other : h.at ≡ f.at → ⊥ = apart h (first_in h frames) in
-        (r.0, rest (omega (arith, above, other)))
+    by : (h.at + 1 ≤ f.at → RiseFrom (h.at + 1) (with_frame f frames)) → (t : Bool) → nat_lt f.at h.at ≡ t → (u : Bool) → nat_eq f.at h.at ≡ u
+        → RiseFrom from (with_by t u f h frames (with_frame f frames))
+    by rest true e u d = let below = ltb-true f.at h.at e in (le, (omega (arith, below), r.1))
+    by rest false e true d = r
+    by rest false e false d = let above = above_of f.at h.at e d in (r.0, rest (omega (arith, above)))
 
-pub merged_rises : (frames others : List FrameAt) (from : ℕ) → RiseFrom 0 frames → RiseFrom from others
-    → ((f : FrameAt) → Contains others f → (g : FrameAt) → Contains frames g → g.at ≡ f.at → ⊥)
-    → RiseFrom 0 (merged frames others)
-merged_rises frames [] from r s apart = r
-merged_rises frames (f ∷ others) from r s apart =
-    with_rises 0 f (merged frames others)
-    (merged_rises frames others (f.at + 1) r s.1 (λ h c. apart h (later_in f others h c))) (omega arith)
-    (λ g c e.
-    ⊎_elim (λ old. apart f (first_in f others) g old e)
-    (λ later. let above = risen (f.at + 1) others g s.1 later in absurd (omega (arith, above, e)))
-    (merged_cases frames others g c))
+pub merged_rises : (frames others : List FrameAt) → RiseFrom 0 frames → RiseFrom 0 (merged frames others)
+merged_rises frames [] r = r
+merged_rises frames (f ∷ others) r = with_rises 0 f (merged frames others) (merged_rises frames others r) (omega arith)
 
 -- ---- in the wide form of code
 

@@ -1,5 +1,5 @@
 -- The body that the bytes of a layout stand for.
-use Rattle.std.specs.Prelude.{◌≡◌, ℕ, ◌<◌, ◌^◌, Bool, true, false, List, [], ◌∷◌, ◌++◌, map, Some}
+use Rattle.std.specs.Prelude.{◌≡◌, ℕ, ◌<◌, ◌^◌, Bool, true, false, List, ◌∷◌, ◌++◌, map, Some}
 use Rattle.jc_bytes.specs.BigNumbers.{short}
 use Rattle.jc_methods.specs.VerificationTypes.{Names}
 use Rattle.jc_methods.specs.WellMade.{what_used}
@@ -10,25 +10,32 @@ use Rattle.jc_methods.specs.declared.body.FrameAt.{FrameAt}
 use Rattle.jc_methods.specs.declared.body.Use.{Use}
 use Rattle.jc_methods.specs.declared.body.VarAt.{VarAt}
 use Rattle.jc_methods.specs.declared.body.What.{What}
+use Rattle.jc_methods.specs.declared.insn.Insn.TheVariants as insns
 use Rattle.jc_methods.specs.declared.kind.State.{State}
+use Rattle.jc_methods.specs.declared.probe_members.Fetch.{Fetch}
+use Rattle.jc_methods.specs.declared.probe_members.Fetch.TheVariants as fetches
+use Rattle.jc_methods.specs.Opcode as opcode
+use Rattle.jc_plan.specs.Probed.{probe_count}
 use Rattle.jc_methods.specs.declared.emitted.Emitted.{Emitted}
 use Rattle.jc_insn.specs.Spells.{Spells}
-use Rattle.jc_emit.specs.Emission.{emission, widened_frame}
-use Rattle.jc_emit.specs.Marks.{invokestatic}
-use Rattle.jc_emit.specs.Twin.{probe_init, Twin}
+use Rattle.jc_emit.specs.Emission.{Emitting, emission, form_by, widened_frame}
+use Rattle.jc_emit.specs.Marks.{TwinPlaces, invokestatic}
+use Rattle.jc_emit.specs.Sizes.{TwinForm}
+use Rattle.jc_emit.specs.Twin.{NamesProbes, Twin}
 use Rattle.jc_emit.specs.TwinTables.{moved_row, moved_line}
-use Rattle.jc_layout.specs.Layout.{laid_code, laid_starts, chosen_text}
+use Rattle.jc_layout.specs.Layout.{layout_set, laid_code, laid_starts, chosen_text}
 use Rattle.jc_layout.specs.Merged.{merged}
 
--- ---- the method that the prelude calls
+-- ---- what the prelude names
 
--- the code, where the method stands at this place of the pool
-abbrev pub with_call : (call : ℕ) → List Insn → List Insn
-with_call call [] = []
-with_call call (insn ∷ code) = invokestatic call ∷ code
+-- The code, where the pool has at these places what the prelude names.
+abbrev pub with_prelude : Fetch → TwinPlaces → List Insn → List Insn
+with_prelude fetches.Member p (insn ∷ code) = invokestatic p.giver ∷ code
+with_prelude fetches.Constant p (load ∷ cast ∷ code) = insns.Constant p.giver ∷ insns.OfClass opcode.checkcast p.array ∷ code
+with_prelude fetch p code = code
 
--- the bytes of the code, where the method stands at this place of the pool: the place is the operand of the first
--- instruction (JVM Specification 6.5, invokestatic)
+-- the bytes of code that calls a method for its array of probes, where the method stands at this place of the pool: the place is the
+-- operand of the first instruction (JVM Specification 6.5, invokestatic)
 abbrev pub with_place : (call : ℕ) → List ℕ → List ℕ
 with_place call (op ∷ high ∷ low ∷ bytes) = op ∷ short call ++ bytes
 with_place call bytes = bytes
@@ -51,13 +58,13 @@ laid_frames true e = map (widened_frame (wide_place all_wide e.code)) (merged e.
 
 -- ---- the whole
 
--- The body for which emitted code and its tables stand in a layout, where the method that the prelude calls stands at the
--- place `call` of the pool, and these are the uses.
-unfoldable pub laid_body : Body → Emitted → (wide : Bool) → (call : ℕ) → List Use → Body
-laid_body b e wide call uses = record b {
+-- The body for which emitted code and its tables stand in a layout, where the pool has at these places what the prelude names, and
+-- these are the uses.
+unfoldable pub laid_body : Body → Emitted → (wide : Bool) → Fetch → TwinPlaces → List Use → Body
+laid_body b e wide fetch p uses = record b {
   max_stack = e.max_stack;
   max_locals = e.max_locals;
-  code = with_call call (laid_code wide e.code);
+  code = with_prelude fetch p (laid_code wide e.code);
   handlers = map (moved_row (laid_place wide e.code) (laid_place wide e.code)) e.handlers;
   lines = map (moved_line (laid_place wide e.code)) e.lines;
   vars = map (placed_var (laid_place wide e.code)) e.vars;
@@ -66,25 +73,29 @@ laid_body b e wide call uses = record b {
   uses = uses;
 }
 
+-- the form of the twin that stands there
+abbrev pub laid_form : Body → (first : ℕ) → Fetch → (wide : Bool) → TwinForm
+laid_form b first fetch wide = form_by b first fetch (layout_set wide)
+
 -- ---- what is said of it
 
--- In either layout the body is a twin, where the method that the prelude calls has its place among the uses, and those of
--- the body stay.
-abbrev pub LaidBodiesAreTwins : Names → Body → (first : ℕ) → List State → (array : ℕ) → Type 0
-LaidBodiesAreTwins names b first states array =
-    (wide : Bool) (call : ℕ) (uses : List Use) → what_used uses call ≡ Some (probe_init b.owner)
+-- In either layout the body is a twin, where what the twin names has its places among the uses, and those of the body stay.
+abbrev pub LaidBodiesAreTwins : Names → Body → (first : ℕ) → List State → Emitting → Type 0
+LaidBodiesAreTwins names b first states given =
+    (wide : Bool) (p : TwinPlaces) (giver : What) (uses : List Use) → p.integer ≡ given.integer
+    → NamesProbes given.fetch giver first (probe_count b) uses p
     → ((place : ℕ) (what : What) → what_used b.uses place ≡ Some what → what_used uses place ≡ Some what)
-    → Twin names names states b.owner first b (laid_body b (emission b first states array) wide call uses)
+    → Twin names names states given.fetch giver first b (laid_body b (emission b first states given) wide given.fetch p uses)
 
 -- If these are the bytes of the chosen layout, and spell the emitted code in a layout, then with the place in the pool of
 -- the method that the prelude calls they spell the code of the body that stands there.
-abbrev pub SpellsLaid : Body → Emitted → (wide : Bool) → (call : ℕ) → List Use → (bytes starts : List ℕ) → Type 0
-SpellsLaid b e wide call uses bytes starts =
+abbrev pub SpellsLaid : Body → Emitted → (wide : Bool) → TwinPlaces → List Use → (bytes starts : List ℕ) → Type 0
+SpellsLaid b e wide p uses bytes starts =
     bytes ≡ chosen_text e.code → Spells bytes (laid_code wide e.code) (laid_starts wide e.code starts)
-    → Spells (with_place call bytes) (laid_body b e wide call uses).code (laid_starts wide e.code starts)
+    → Spells (with_place p.giver bytes) (laid_body b e wide fetches.Member p uses).code (laid_starts wide e.code starts)
 
--- The bytes of the layout that spell the code before the method has its place in the pool spell the code of the body,
--- once that place stands in the first instruction.
+-- Of code that calls a method for its array of probes, the bytes of the layout that spell it before the method has its place in the
+-- pool spell the code of the body, once that place stands in the first instruction.
 abbrev pub LaidBodiesAreSpelled : Body → Emitted → Type 0
 LaidBodiesAreSpelled b e =
-    (wide : Bool) (call : ℕ) (uses : List Use) (bytes starts : List ℕ) → call < 2 ^ 16 → SpellsLaid b e wide call uses bytes starts
+    (wide : Bool) (p : TwinPlaces) (uses : List Use) (bytes starts : List ℕ) → p.giver < 2 ^ 16 → SpellsLaid b e wide p uses bytes starts

@@ -8,18 +8,18 @@ ghost use Rattle.jc_methods.specs.declared.body.Body.{Body};
 ghost use Rattle.jc_methods.specs.declared.emitted.Emitted.{Emitted as Emission};
 ghost use Rattle.jc_methods.specs.declared.insn.Insn.{Insn};
 ghost use Rattle.jc_methods.specs.declared.kind.State.{State};
+ghost use Rattle.jc_methods.specs.declared.probe_members.Fetch.TheVariants as fetches;
 ghost use Rattle.jc_insn.specs.Sizes.{StartAt};
-ghost use Rattle.jc_emit.specs.Emission.{emission, HasFrameStates, IsArrayNumber};
+ghost use Rattle.jc_emit.specs.Emission.{Emitting, emission, HasFrameStates, IsArrayNumber};
 ghost use Rattle.jc_layout.specs.LaidBody.{LaidBodiesAreSpelled, LaidBodiesAreTwins};
 ghost use Rattle.jc_layout.specs.Layable.{IsLayable};
 ghost use Rattle.jc_layout.specs.Layout.{layout_set, starts_of, IsChosen, is_wide};
 
 /// The body that stands in a layout of the instrumented code is a twin of the body, in either
-/// layout, where the method that the prelude calls has its place in the pool and what the body uses
-/// stays.
+/// layout, where what the twin names has its places in the pool and what the body uses stays.
 pub fn each_laid_body_has_a_twin()
-    ensures { (b : Body) (first : ℕ) (states : List State) (array : ℕ) (names : Names) → IsWellMadeOfAnySize b
-        → HasFrameStates b states → IsArrayNumber names array → LaidBodiesAreTwins names b first states array }
+    ensures { (b : Body) (first : ℕ) (states : List State) (given : Emitting) (names : Names) → IsWellMadeOfAnySize b
+        → HasFrameStates b states → IsArrayNumber names given.array → LaidBodiesAreTwins names b first states given }
 {}
 
 /// In each layout there is one list of offsets at which the instructions begin, whatever padding
@@ -33,13 +33,13 @@ pub fn each_layout_is_chosen()
 
 /// The instrumented code of a well made body can be laid out.
 pub fn each_emission_can_be_laid()
-    ensures { (b : Body) (first : ℕ) (states : List State) (array : ℕ) → IsWellMadeOfAnySize b
-        → IsLayable (emission b first states array).code }
+    ensures { (b : Body) (first : ℕ) (states : List State) (given : Emitting) → IsWellMadeOfAnySize b
+        → IsLayable (emission b first states given).code }
 {}
 
-/// The bytes of a layout of the instrumented code, with the place in the pool of the method that the
-/// prelude calls, spell the code of that body.
+/// The bytes of a layout of instrumented code that calls a method for its array of probes, with the place in the
+/// pool of that method, spell the code of that body.
 pub fn each_laid_body_is_spelled()
-    ensures { (b : Body) (first : ℕ) (states : List State) (array : ℕ) (e : Emission) → e ≡ emission b first states array
-        → IsWellMadeOfAnySize b → LaidBodiesAreSpelled b e }
+    ensures { (b : Body) (first : ℕ) (states : List State) (given : Emitting) (e : Emission) → given.fetch ≡ fetches.Member
+        → e ≡ emission b first states given → IsWellMadeOfAnySize b → LaidBodiesAreSpelled b e }
 {}

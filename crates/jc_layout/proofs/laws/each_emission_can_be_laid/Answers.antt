@@ -4,8 +4,8 @@ use Rattle.jc_layout.proofs.laws.each_emission_can_be_laid.Goals as goal
 
 pub returns : goal.returns
 unfolding emission
-returns c = λ b first states array well. record {
-  well_formed = all_formed b first well.code;
-  places = all_within b first well.code;
-  few = few_in b first states array well.code;
+returns c = λ b first states given well. record {
+  well_formed = all_formed b first given.fetch given.integer well.code;
+  places = all_within b first given.fetch given.integer well.code;
+  few = few_in b first states given well.code;
 }

@@ -4,5 +4,5 @@ use Rattle.jc_layout.proofs.CallLaws.{laid_spells}
 use Rattle.jc_layout.proofs.laws.each_laid_body_is_spelled.Goals as goal
 
 pub returns : goal.returns
-returns c = λ b first states array e is well wide call uses bytes starts lt.
-    subst (λ x. SpellsLaid b x wide call uses bytes starts) (sym is) (laid_spells b first states array wide call uses bytes starts well lt)
+returns c = λ b first states given e member is well wide p uses bytes starts lt.
+    subst (λ x. SpellsLaid b x wide p uses bytes starts) (sym is) (laid_spells b first states given member wide p uses bytes starts well lt)
