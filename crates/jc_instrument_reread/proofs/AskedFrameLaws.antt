@@ -23,10 +23,10 @@ use Rattle.jc_plan.specs.Probed.{probe_of}
 use Rattle.jc_emit.specs.Marks.{unplaced, prelude_size}
 use Rattle.jc_emit.specs.Emission.{HasFrameStates}
 use Rattle.jc_emit.specs.Items.{segment_size, lead_of, land_of, image_of, twin_items}
-use Rattle.jc_emit.specs.Sizes.{widest, layout_form, insn_at, late_by, late_probe, arms_by, arms_at, hop_size, arm_sizes, wide_by, behind_size}
+use Rattle.jc_emit.specs.Sizes.{TwinForm, is_wide, insn_at, late_by, late_probe, arms_by, arms_at, hop_size, arm_sizes, wide_by, behind_size}
 use Rattle.jc_emit.specs.Straddling.{NoneStraddles}
 use Rattle.jc_emit.specs.TwinCode.{to_of, here_or, arm_place}
-use Rattle.jc_emit.specs.TwinFrames.{no_state, operands_of, state_at, left_by, state_behind, IsOldFrame, IsInverseFrame, IsArmFrame, IsFrameBehind, IsNarrowFrame, IsFrame}
+use Rattle.jc_emit.specs.TwinFrames.{no_state, operands_of, state_at, left_by, state_behind, IsOldFrame, IsInverseFrame, IsArmFrame, IsWideFrame, IsNarrowFrame, IsFrame}
 use Rattle.jc_emit.proofs.BuiltLaws.{length_twin}
 use Rattle.jc_emit.proofs.LocalLaws.{land_lands, lead_lands, next_within, listed_within}
 use Rattle.jc_emit.proofs.RowLaws.{total_grows}
@@ -104,36 +104,36 @@ module _ (names : Names) (b : Body) (first : ℕ) (states : List State) (well : 
   behind_there i None lt = state_there (i + 1) lt
   behind_there i (Some id) lt = left_state names b (insn_at b.code i) (state_at states i) (state_there i (omega (arith, lt)))
 
-  module _ (wide : Bool) where
+  module _ (form : TwinForm) where
     abbrev count : ℕ
-    count = length (twin_items b first (layout_form wide))
+    count = length (twin_items b first form)
 
     abbrev image : ℕ → ℕ
-    image i = image_of b first (layout_form wide) i
+    image i = image_of b first form i
 
     abbrev land : ℕ → ℕ
-    land i = land_of b first (layout_form wide) i
+    land i = land_of b first form i
 
     abbrev lead : ℕ → ℕ
-    lead i = lead_of b first (layout_form wide) i
+    lead i = lead_of b first form i
 
     -- a frame there says a state of the body
     abbrev pub IsGood : ℕ → State → Type 0
     IsGood q s = (q < count) × IsStateOf names b s
 
     land_below : (i : ℕ) → i < length b.code → land i < count
-    land_below i lt = lands_within b first (layout_form wide) unplaced (land i) i None (land_lands b first (layout_form wide) well.code i lt)
+    land_below i lt = lands_within b first form (unplaced (λ n. 0)) (land i) i None (land_lands b first form well.code i lt)
 
     lead_below : (i : ℕ) → i < length b.code → lead i < count
-    lead_below i lt = lands_within b first (layout_form wide) unplaced (lead i) i _ (lead_lands b first (layout_form wide) well.code i lt)
+    lead_below i lt = lands_within b first form (unplaced (λ n. 0)) (lead i) i _ (lead_lands b first form well.code i lt)
 
-    next_lead : (i : ℕ) → lead (i + 1) ≡ image i + 1 + behind_size b first (layout_form wide) i
-    next_lead i = let e : i + 1 ≡ suc i = omega arith in ap (λ (k : ℕ). prelude_size + total (segment_size b first (layout_form wide)) k) e ∙ omega arith
+    next_lead : (i : ℕ) → lead (i + 1) ≡ image i + 1 + behind_size b first form i
+    next_lead i = let e : i + 1 ≡ suc i = omega arith in ap (λ (k : ℕ). prelude_size form.fetch + total (segment_size b first form) k) e ∙ omega arith
 
     lead_most : (i : ℕ) → i < length b.code → lead (i + 1) ≤ count
     lead_most i lt =
-        let grows = total_grows (segment_size b first (layout_form wide)) (i + 1) (length b.code) (omega (arith, lt)) in
-        let size = length_twin b first (layout_form wide) in
+        let grows = total_grows (segment_size b first form) (i + 1) (length b.code) (omega (arith, lt)) in
+        let size = length_twin b first form in
         omega (arith, grows, size)
 
     old_good : (q : ℕ) (s : State) → IsOldFrame b first states image land lead q s → IsGood q s
@@ -146,7 +146,7 @@ module _ (names : Names) (b : Body) (first : ℕ) (states : List State) (well : 
     inverse_good : (q : ℕ) (s : State) → IsInverseFrame b first states image land lead q s → IsGood q s
     inverse_good q s h =
         let tests = late_tests (probe_of b first) h.test h.id (insn_at b.code h.test) (flow_of (insn_at b.code h.test)) h.probed in
-        let lt = next_within b first (layout_form wide) well.code h.test h.within (inr tests) in (
+        let lt = next_within b first form well.code h.test h.within (inr tests) in (
           subst (λ (k : ℕ). k < count) (sym h.place) (lead_below (h.test + 1) lt),
           subst (IsStateOf names b) (sym h.state_is) (state_there (h.test + 1) lt),
         )
@@ -158,7 +158,7 @@ module _ (names : Names) (b : Body) (first : ℕ) (states : List State) (well : 
         let switches = arm_switches i insn (flow_of insn) h.branch h.listed in
         let among = subst (λ (f : Flow). Contains (arms_by i insn f) h.branch) switches h.listed in
         let listed = subst (λ (f : Flow). Contains (branches_by f i (targets_of insn)) h.branch) switches among in
-        let to = listed_within b first (layout_form wide) well.code i h.within h.branch listed in
+        let to = listed_within b first form well.code i h.within h.branch listed in
         let next = next_lead i in
         let most = lead_most i h.within in
         let room : image i + 1 + arm_sizes (probe_of b first) (arms_at b.code i) ≤ count = omega (arith, next, most) in (
@@ -172,23 +172,19 @@ module _ (names : Names) (b : Body) (first : ℕ) (states : List State) (well : 
     narrow_good q s (inr (inl h)) = inverse_good q s h
     narrow_good q s (inr (inr h)) = arm_good q s h
 
-  behind_good : (q : ℕ) (s : State) → IsFrameBehind b first states (image true) (land true) (lead true) 2 q s → IsGood true q s
-  behind_good q s h =
-      let i = h.test in
-      let lt = next_within b first widest well.code i h.within (inr h.tests) in
-      let wide : wide_by (flow_of (insn_at b.code i)) true ≡ 1 = ap (λ (f : Flow). wide_by f true) h.tests in
-      let next = next_lead true i in
-      let below = lead_below true (i + 1) lt in
-      let place = h.place in (
-        omega (arith, wide, next, below, place),
-        subst (IsStateOf names b) (sym h.state_is) (behind_there i (late_probe b first i) lt),
-      )
+    behind_good : (q : ℕ) (s : State) → IsWideFrame b first states image land lead form q s → IsGood q s
+    behind_good q s h =
+        let i = h.behind.test in
+        let lt = next_within b first form well.code i h.behind.within (inr h.behind.tests) in
+        let wide : wide_by (flow_of (insn_at b.code i)) (is_wide form i) ≡ 1 =
+        ap (λ (f : Flow). wide_by f (is_wide form i)) h.behind.tests ∙ ap (wide_by flows.Branches) h.layout in
+        let next = next_lead i in
+        let below = lead_below (i + 1) lt in
+        let place = h.behind.place in (
+          omega (arith, wide, next, below, place),
+          subst (IsStateOf names b) (sym h.behind.state_is) (behind_there i (late_probe b first i) lt),
+        )
 
-  pub asked_good : (wide : Bool) (q : ℕ) (s : State)
-      → IsFrame b first states (image_of b first (layout_form wide)) (land_of b first (layout_form wide)) (lead_of b first (layout_form wide)) (layout_form wide) q s → IsGood wide q s
-  asked_good wide q s (inl h) = narrow_good wide q s h
-  asked_good true q s (inr h) = behind_good q s h.behind
-  asked_good false q s (inr h) = absurd (false_true h.layout)
-    where
-      false_true : false ≡ true → ⊥
-      false_true e = cc
+    pub asked_good : (q : ℕ) (s : State) → IsFrame b first states (image_of b first form) (land_of b first form) (lead_of b first form) form q s → IsGood q s
+    asked_good q s (inl h) = narrow_good q s h
+    asked_good q s (inr h) = behind_good q s h

@@ -31,7 +31,7 @@ use Rattle.jc_instrument_code.proofs.FirstPlaceLaws.{text_within}
 use Rattle.jc_instrument_code.proofs.NamedLaws.{are_named}
 use Rattle.jc_instrument_code.proofs.TwinCodeLaws.{placed_size}
 use Rattle.jc_instrument_reread.specs.ReadCode.{row_at, written_coded, written_insns, written_items, written_starts}
-use Rattle.jc_instrument_reread.specs.WrittenCode.{IsWrittenCode, frames_name}
+use Rattle.jc_instrument_reread.specs.WrittenCode.{by_method, calling, IsWrittenCode, frames_name}
 use Rattle.jc_instrument_reread.proofs.CodeSizeLaws.{attributes_few, attributes_in, bodies_short}
 use Rattle.jc_instrument_reread.proofs.EntryTextLaws.{IsReadable, attributes_are, counted_is, rows_are}
 use Rattle.jc_instrument_reread.proofs.LandLaws.{code_length}
@@ -204,17 +204,17 @@ module _ (pool : PoolValue) (places : CodePlaces) (names : Names) (e : Emitted) 
 -- ---- of a body
 
 module _ (b : Body) (first : ℕ) (states : List State) (array : ℕ) (well : IsWellMadeOfAnySize b) (pool : PoolValue) (places : CodePlaces) (names : Names)
-    (w : IsWrittenCode pool places names (emission b first states array)) where
+    (w : IsWrittenCode pool places names (emission b first states (by_method array))) where
   abbrev e : Emitted
-  e = emission b first states array
+  e = emission b first states (by_method array)
 
   insns_spelled : Spells (with_place places.method (chosen_text e.code)) (written_insns places.method e) (written_starts e)
   unfolding laid_body
   insns_spelled =
-      laid_spells b first states array (is_wide e.code) places.method [] (chosen_text e.code) (chosen_starts e.code) well w.call refl w.spelled
+      laid_spells b first states (by_method array) refl (is_wide e.code) (calling places.method) [] (chosen_text e.code) (chosen_starts e.code) well w.call refl w.spelled
 
   some_insns : 1 ≤ length e.code
-  some_insns = let size = code_length b first states array well in omega (arith, size)
+  some_insns = let size = code_length b first states (by_method array) well in omega (arith, size)
 
   -- the method that has this code is read so
   pub coded_back : (method : Member) → HasCode pool method (twin_code pool places.method places.frames names e)

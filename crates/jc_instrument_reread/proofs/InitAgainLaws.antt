@@ -1,10 +1,10 @@
 -- The method that is added to a class is read as the one that gives its probe array.
-use Rattle.std.proofs.Common.{◌≡◌, ◌⊎◌, inl, inr, ℕ, ℤ, zero, suc, ◌+◌, ◌<◌, ◌≤◌, List, [], ◌∷◌, length, get_or, Some, refl, sym, ◌∙◌, ap, subst, arith}
+use Rattle.std.proofs.Common.{◌≡◌, ◌⊎◌, inl, inr, ℕ, ℤ, zero, suc, ◌+◌, ◌<◌, ◌≤◌, Bool, List, [], ◌∷◌, length, get_or, Some, refl, sym, ◌∙◌, ap, subst, arith}
 use Rattle.std.specs.Prelude.{◌≢◌, slice_get}
 use Rattle.std.specs.Int.Bits.{bit_and}
 use Rattle.std.specs.List.{AllByRecursion}
 use Rattle.std.specs.Option.{option_and_then}
-use Rattle.std.proofs.lemmas.Bool.{cases_lt}
+use Rattle.std.proofs.lemmas.Bool.{cases_lt, le-leb}
 use Rattle.std.proofs.lemmas.Option.{none-some, same_Some, slice_get_within}
 use Rattle.jc_bytes.proofs.DecidingLaws.{method_text_decided}
 use Rattle.jc_methods.proofs.StartsLaws.{number_at, rising}
@@ -25,6 +25,7 @@ use Rattle.jc_methods.specs.declared.body.What.TheVariants as whats
 use Rattle.jc_methods.specs.declared.insn.Insn.{Insn}
 use Rattle.jc_methods.specs.declared.insn.Insn.TheVariants as insns
 use Rattle.jc_methods.specs.declared.kind.Kind.TheVariants as kinds
+use Rattle.jc_methods.specs.declared.probe_members.Fetch.TheVariants as fetches
 use Rattle.jc_methods.specs.Opcode as opcode
 use Rattle.jc_insn.proofs.DecodedInsnLaws.{are_starts}
 use Rattle.jc_pool.specs.declared.constant.ConstText.TheVariants as constants
@@ -44,11 +45,11 @@ use Rattle.jc_body.specs.declared.items.Tables.{Tables}
 use Rattle.jc_body.proofs.ArgumentLaws.{static_take}
 use Rattle.jc_body.proofs.UsesLaws.{some_uses, insn_place_used}
 use Rattle.jc_kinds.specs.Checked.{Checked}
-use Rattle.jc_methods.specs.ProbeMembers.{data_name, data_type, fetch_name, fetch_type, init_flags, init_name, init_type, runtime_class}
-use Rattle.jc_emit.specs.Added.{end_place, init_code, init_frame, init_stack, IsInitBody}
-use Rattle.jc_emit.specs.Marks.{push}
+use Rattle.jc_methods.specs.ProbeMembers.{data_name, data_type, fetch_name, fetch_type, init_flags, init_name, init_type, most_short, runtime_class}
+use Rattle.jc_emit.specs.Added.{end_place, init_code, init_frame, init_stack, HasCount, IsInitBody}
+use Rattle.jc_emit.specs.Marks.{push_by}
 use Rattle.jc_emit.proofs.InitLaws.{verified}
-use Rattle.jc_emit.proofs.PlacedLaws.{flow_push, no_targets}
+use Rattle.jc_emit.proofs.PlacedLaws.{flow_push_by, no_targets}
 use Rattle.jc_instrument_code.specs.InitText.{end_offset, init_frame_places, init_text, named_places, push_count}
 use Rattle.jc_instrument_code.specs.declared.init.AddedPlaces.{AddedPlaces}
 use Rattle.jc_instrument_reread.specs.InitRead.{init_coded, init_starts}
@@ -56,8 +57,9 @@ use Rattle.jc_instrument_reread.specs.Written.{data_field, fetch_method, IsAdded
 use Rattle.jc_instrument_reread.proofs.FreeLaws.{AreSound, HasSoundParts, no_subroutine, no_faults}
 use Rattle.jc_instrument_reread.proofs.InitTextLaws.{init_coded_back, init_tables_back, init_stack_maps}
 use Rattle.jc_instrument_reread.proofs.KeptEntryLaws.{member_found_at, long_found_at, string_found_at}
+use Rattle.jc_instrument_reread.proofs.PushLaws.{pushed_so}
 use Rattle.jc_instrument_reread.proofs.RightEntryLaws.{push_right}
-use Rattle.jc_instrument_reread.proofs.TwinItemLaws.{push_locals}
+use Rattle.jc_instrument_reread.proofs.TwinItemLaws.{push_by_locals}
 use Rattle.jc_instrument_reread.proofs.UsedPlaceLaws.{stands_used}
 
 -- ---- descriptors
@@ -127,22 +129,29 @@ module _ (twin : ClassFile) (owner : List ℕ) (id : ℤ) (count : ℕ) (p : Add
   name_right : Right (insns.Constant p.name)
   name_right = right_where (insns.Constant p.name) p.name (of_constant constants.Text) (string_found_at twin.pool p.name owner w.name_is) (record { kind = tt; tag = tt })
 
+  count_right : Right (push_by (λ n. 0) count)
+  count_right = subst Right (sym (pushed_so (λ n. 0) count w.code.few)) (push_right twin.major twin.pool count)
+
   all_right : AllByRecursion Right coded.insns
   all_right = (
     field_right opcode.getstatic (omega arith),
-    (tt, (tt, (tt, (id_right, (name_right, (push_right twin.major twin.pool count, (fetch_right, (tt, (field_right opcode.putstatic (omega arith), (tt, tt)))))))))),
+    (tt, (tt, (tt, (id_right, (name_right, (count_right, (fetch_right, (tt, (field_right opcode.putstatic (omega arith), (tt, tt)))))))))),
   )
+
+  count_leads : LeadsWithin 11 (push_by (λ n. 0) count)
+  count_leads =
+      subst (AllByRecursion (λ (to : ℕ). to < 11)) (sym (no_targets (push_by (λ n. 0) count) (inl (flow_push_by (λ n. 0) count)))) tt
 
   all_lead : AllByRecursion (LeadsWithin 11) coded.insns
   all_lead = (
     tt,
-    (tt, ((omega arith, tt), (tt, (tt, (tt, (subst (AllByRecursion (λ (to : ℕ). to < 11)) (sym (no_targets (push count) (inl (flow_push count)))) tt, (tt, (tt, (tt, (tt, tt)))))))))),
+    (tt, ((omega arith, tt), (tt, (tt, (tt, (count_leads, (tt, (tt, (tt, (tt, tt)))))))))),
   )
 
   all_locals : AllByRecursion (LocalsWithin 0) coded.insns
   all_locals = (
     tt,
-    (tt, (tt, (tt, (tt, (tt, (subst (AllByRecursion (λ (slot : ℕ). slot < 0)) (sym (push_locals count)) tt, (tt, (tt, (tt, (tt, tt)))))))))),
+    (tt, (tt, (tt, (tt, (tt, (subst (AllByRecursion (λ (slot : ℕ). slot < 0)) (sym (push_by_locals (λ n. 0) count)) tt, (tt, (tt, (tt, (tt, tt)))))))))),
   )
 
   goes_on_within : (i : ℕ) (insn : Insn) → slice_get coded.insns i ≡ Some insn → FallsThrough insn → i + 1 < length coded.insns
@@ -317,26 +326,31 @@ module _ (twin : ClassFile) (owner : List ℕ) (id : ℤ) (count : ℕ) (p : Add
   pub init_is : (number : ℕ) → IsInitBody init_names owner id count (init_body number)
   init_is number = record {
     places = named_places p;
-    owner = refl;
-    name = refl;
-    desc = refl;
-    flags = refl;
-    arg_slots = refl;
-    max_stack = refl;
-    max_locals = refl;
-    code = refl;
-    handlers = refl;
-    lines = refl;
-    vars = refl;
-    kind_vars = refl;
+    method = record {
+      owner = refl;
+      name = refl;
+      desc_is = refl;
+      flags = refl;
+      arguments = refl;
+      max_stack = refl;
+      max_locals_is = refl;
+      code_is = refl;
+      handlers = refl;
+      lines = refl;
+      vars = refl;
+      kind_vars = refl;
+    };
     frames = record { frame = _; single = refl; at = refl; state = refl };
     field_is = use_there 0 p.field (insns.Member opcode.getstatic p.field) (of_member (data_field owner)) (whats.Field owner data_name data_type) refl refl
         (member_found_at twin.pool p.field (data_field owner) w.field_is (λ e. omega (arith, e))) refl;
-    id_is = use_there 4 p.id (insns.Constant2 p.id) (of_constant (constants.Long id)) (whats.Long id) refl refl (long_found_at twin.pool p.id id w.id_is) refl;
-    name_is = use_there 5 p.name (insns.Constant p.name) (of_constant constants.Text) whats.Text refl refl (string_found_at twin.pool p.name owner w.name_is) refl;
-    fetch_is = use_there 7 p.fetch (insns.Member opcode.invokestatic p.fetch) (of_member fetch_method) (whats.Method runtime_class fetch_name fetch_type) refl refl
-        (member_found_at twin.pool p.fetch fetch_method w.fetch_is (λ e. omega (arith, e))) refl;
+    names_count = record {
+      id_is = use_there 4 p.id (insns.Constant2 p.id) (of_constant (constants.Long id)) (whats.Long id) refl refl (long_found_at twin.pool p.id id w.id_is) refl;
+      name_is = use_there 5 p.name (insns.Constant p.name) (of_constant constants.Text) whats.Text refl refl (string_found_at twin.pool p.name owner w.name_is) refl;
+      count_is = subst (λ (t : Bool). HasCount t uses count 0) (sym (le-leb count most_short w.code.few)) tt;
+      fetch_is = use_there 7 p.fetch (insns.Member opcode.invokestatic p.fetch) (of_member fetch_method) (whats.Method runtime_class fetch_name fetch_type) refl refl
+          (member_found_at twin.pool p.fetch fetch_method w.fetch_is (λ e. omega (arith, e))) refl;
+    };
   }
 
   pub init_checked : (number : ℕ) → Checked init_names (init_body number)
-  init_checked number = verified init_names owner id count (init_body number) (init_is number)
+  init_checked number = verified fetches.Member init_names owner id count (init_body number) (init_is number)

@@ -29,14 +29,15 @@ use Rattle.jc_layout.proofs.CallLaws.{call_form}
 use Rattle.jc_instrument_code.specs.InitText.{init_bytes, push_count}
 use Rattle.jc_instrument_code.proofs.InitLaws.{push_byte, push_short, push_small}
 use Rattle.jc_instrument_reread.specs.InitRead.{init_starts}
+use Rattle.jc_instrument_reread.proofs.PushLaws.{pushed_so}
 
 -- ---- the number of probes
 
 -- the instruction that pushes a number, by what tells how long it is
-abbrev push_by : ℕ → Bool → Bool → Insn
-push_by n small byte = if small then insns.Simple (opcode.iconst_0 + n) else if byte then insns.Push opcode.bipush (pos n) else insns.Push opcode.sipush (pos n)
+abbrev short_push : ℕ → Bool → Bool → Insn
+short_push n small byte = if small then insns.Simple (opcode.iconst_0 + n) else if byte then insns.Push opcode.bipush (pos n) else insns.Push opcode.sipush (pos n)
 
-same_text_by : (at n : ℕ) (s t : Bool) → insn_text at false (push_by n s t) ≡ insn_text 0 false (push_by n s t)
+same_text_by : (at n : ℕ) (s t : Bool) → insn_text at false (short_push n s t) ≡ insn_text 0 false (short_push n s t)
 unfolding insn_text
 same_text_by at n true t = refl
 same_text_by at n false true = refl
@@ -45,12 +46,12 @@ same_text_by at n false false = refl
 fits_short : (n : ℕ) → n ≤ most_short → FitsSigned w16 (pos n)
 fits_short n le = fits_signed_from_abs w16 (pos n) (omega (arith, le))
 
-fits_by : (at n : ℕ) (s t : Bool) → at < 4294967296 → n ≤ most_short → IsWellFormed (push_by n s t) → Fits at (push_by n s t)
+fits_by : (at n : ℕ) (s t : Bool) → at < 4294967296 → n ≤ most_short → IsWellFormed (short_push n s t) → Fits at (short_push n s t)
 fits_by at n true t lt le well = record { at_fits = lt; well_formed = well; in_range = tt; places = All-nil (λ to. to < 4294967296) }
 fits_by at n false true lt le well = record { at_fits = lt; well_formed = well; in_range = fits_short n le; places = All-nil (λ to. to < 4294967296) }
 fits_by at n false false lt le well = record { at_fits = lt; well_formed = well; in_range = fits_short n le; places = All-nil (λ to. to < 4294967296) }
 
-near_by : (at n : ℕ) (s t : Bool) → IsNearJump at (push_by n s t)
+near_by : (at n : ℕ) (s t : Bool) → IsNearJump at (short_push n s t)
 near_by at n true t = tt
 near_by at n false true = tt
 near_by at n false false = tt
@@ -236,7 +237,7 @@ module _ (p : InitPlaces) (count : ℕ) (few : count ≤ most_probes) (field : p
   code_named =
       let target : end_place ≡ number (4 + (17 + k)) =
       sym (end_number k (pushed_length count)) ∙ ap number (let e : 21 + k ≡ 4 + (17 + k) = omega arith in e) in
-      let same = sym (places_push number count) in λ i.
+      let same = pushed_so (λ n. p.count) count few ∙ sym (places_push number count) in λ i.
       insns.Member opcode.getstatic p.field
       ∷ insns.Simple opcode.dup
       ∷ insns.Jump opcode.ifnonnull (target i)

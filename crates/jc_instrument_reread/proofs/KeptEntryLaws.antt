@@ -8,6 +8,7 @@ use Rattle.jc_bytes.specs.Descriptor.{Array, Boolean, IsMethodDescriptor}
 use Rattle.jc_methods.specs.InsnUse.{pool_place}
 use Rattle.jc_methods.specs.declared.body.What.{What}
 use Rattle.jc_methods.specs.declared.insn.Insn.{Insn}
+use Rattle.jc_methods.specs.declared.probe_members.Fetch.TheVariants as fetches
 use Rattle.jc_pool.specs.declared.constant.ConstText.{ConstText}
 use Rattle.jc_pool.specs.declared.constant.ConstText.TheVariants as constants
 use Rattle.jc_pool.specs.declared.entry.Entry.{Entry}
@@ -23,7 +24,7 @@ use Rattle.jc_body.proofs.ComputedLaws.{linked_by, computed_by, not_computed}
 use Rattle.jc_body.specs.Standing.{Found, of_member, of_constant, found_in, found_at, what_of, what_at, EntrySuits, PlaceSuits, HasRightEntry}
 use Rattle.jc_methods.specs.ProbeMembers.{init_type}
 use Rattle.jc_emit.specs.Marks.{invokestatic}
-use Rattle.jc_emit.specs.Twin.{probe_init}
+use Rattle.jc_emit.specs.Added.{giver_of}
 use Rattle.jc_instrument_reread.specs.Written.{init_method}
 
 -- ---- by entries
@@ -213,7 +214,7 @@ module _ (pool : PoolValue) (owner : List ℕ) (call : ℕ) (is : member_of pool
   call_found : found_at pool call ≡ Some (of_member (init_method owner))
   call_found = member_found_at pool call (init_method owner) is (λ e. omega (arith, e))
 
-  pub call_what : what_at pool call ≡ Some (probe_init owner)
+  pub call_what : what_at pool call ≡ Some (giver_of fetches.Member owner 0)
   call_what = ap (option_and_then what_of) call_found
 
   pub call_right : (major : ℕ) → HasRightEntry major pool (invokestatic call)

@@ -24,14 +24,13 @@ use Rattle.jc_frames.specs.FullFrames.{Places, AreWritable}
 use Rattle.jc_frames.specs.FullTable.{HasPlace, named_by_all, FitsFull}
 use Rattle.jc_kinds.specs.Answers.{AreStates}
 use Rattle.jc_kinds_after.specs.Shift.{shifted}
-use Rattle.jc_emit.specs.Marks.{giver_at}
-use Rattle.jc_emit.specs.Sizes.{layout_form}
-use Rattle.jc_emit.specs.Emission.{emission, widened_frame, HasFrameStates, IsArrayNumber}
+use Rattle.jc_emit.specs.Marks.{TwinPlaces, unplaced}
+use Rattle.jc_emit.specs.Emission.{Emitting, emission, widened_frame, HasFrameStates, IsArrayNumber}
 use Rattle.jc_emit.specs.Items.{insn_of, image_of, twin_items}
 use Rattle.jc_emit.specs.Shift.{image_kind}
 use Rattle.jc_emit.specs.Straddling.{NoneStraddles}
 use Rattle.jc_layout.specs.Layout.{laid_code}
-use Rattle.jc_layout.specs.LaidBody.{laid_frames, laid_place, with_call}
+use Rattle.jc_layout.specs.LaidBody.{laid_form, laid_frames, laid_place, with_prelude}
 use Rattle.jc_layout.specs.Merged.{merged}
 use Rattle.jc_layout.proofs.LaidBodyLaws.{laid_told}
 use Rattle.jc_layout.proofs.LaidCodeLaws.{called, laid_is}
@@ -107,42 +106,45 @@ all_listed : (names : Names) (Fact : TypeStateAt → Type 0) (frames : List Fram
 all_listed names Fact [] each = tt
 all_listed names Fact (f ∷ frames) each = (each f (first_in f frames), all_listed names Fact frames (λ g c. each g (later_in f frames g c)))
 
-module _ (names : Names) (b : Body) (first : ℕ) (states : List State) (array : ℕ) (well : IsWellMadeOfAnySize b) (are : AreStates names b states)
-    (fit : HasFrameStates b states) (free : NoneStraddles b) (array_is : IsArrayNumber names array) where
+module _ (names : Names) (b : Body) (first : ℕ) (states : List State) (given : Emitting) (well : IsWellMadeOfAnySize b) (are : AreStates names b states)
+    (fit : HasFrameStates b states) (free : NoneStraddles b) (array_is : IsArrayNumber names given.array) where
   abbrev e : Emitted
-  e = emission b first states array
+  e = emission b first states given
 
   -- the code of the layout
-  pub insns_are : (wide : Bool) (call : ℕ)
-      → with_call call (laid_code wide (emission b first states array).code) ≡ map (insn_of (giver_at call) b.arg_slots) (twin_items b first (layout_form wide))
+  pub insns_are : (wide : Bool) (named : TwinPlaces) → named.integer ≡ given.integer
+      → with_prelude given.fetch named (laid_code wide (emission b first states given).code) ≡ map (insn_of named b.arg_slots) (twin_items b first (laid_form b first given.fetch wide))
   unfolding emission
-  insns_are wide call = ap (with_call call) (laid_is b first wide well.code) ∙ called b first (layout_form wide) call
+  insns_are wide named same =
+      ap (with_prelude given.fetch named) (laid_is b first given.fetch (unplaced given.integer) wide well.code)
+      ∙ called b first (laid_form b first given.fetch wide) named (unplaced given.integer) same
 
-  module _ (wide : Bool) (call : ℕ) (g : Ground) (code_is : g.code ≡ map (insn_of (giver_at call) b.arg_slots) (twin_items b first (layout_form wide)))
+  module _ (wide : Bool) (named : TwinPlaces) (g : Ground) (code_is : g.code ≡ map (insn_of named b.arg_slots) (twin_items b first (laid_form b first given.fetch wide)))
       (locals_are : g.max_locals ≡ b.max_locals + 1) (stack_is : g.max_stack ≡ b.max_stack + 3) where
-    count_is : length g.code ≡ length (twin_items b first (layout_form wide))
-    count_is = ap (λ (l : List Insn). length l) code_is ∙ length-map (twin_items b first (layout_form wide)) (insn_of (giver_at call) b.arg_slots)
+    count_is : length g.code ≡ length (twin_items b first (laid_form b first given.fetch wide))
+    count_is = ap (λ (l : List Insn). length l) code_is ∙ length-map (twin_items b first (laid_form b first given.fetch wide)) (insn_of named b.arg_slots)
 
-    new_there : (at place : ℕ) → slice_get b.code at ≡ Some (insns.OfClass opcode.new place) → HasNewAt g (image_of b first (layout_form wide) at)
+    new_there : (at place : ℕ) → slice_get b.code at ≡ Some (insns.OfClass opcode.new place) → HasNewAt g (image_of b first (laid_form b first given.fetch wide) at)
     new_there at place is =
         let there =
-        ap (λ (l : List Insn). slice_get l (image_of b first (layout_form wide) at)) code_is
-        ∙ same_there b first (layout_form wide) (giver_at call) well.code at place (insns.OfClass opcode.new place) is refl in
-        (slice_get_within g.code (image_of b first (layout_form wide) at) (insns.OfClass opcode.new place) there, ap is_new there)
+        ap (λ (l : List Insn). slice_get l (image_of b first (laid_form b first given.fetch wide) at)) code_is
+        ∙ same_there b first (laid_form b first given.fetch wide) named well.code at place (insns.OfClass opcode.new place) is refl in
+        (slice_get_within g.code (image_of b first (laid_form b first given.fetch wide) at) (insns.OfClass opcode.new place) there, ap is_new there)
 
-    one_fine : (f : FrameAt) → Contains (laid_frames wide (emission b first states array)) f → IsFine g (type_state_at names f)
+    one_fine : (f : FrameAt) → Contains (laid_frames wide (emission b first states given)) f → IsFine g (type_state_at names f)
     one_fine f c =
-        let asked = (laid_told b first states array names well fit array_is wide).each f c in
-        let good = asked_good names b first states well are fit free wide f.at asked.0 asked.1 in
-        let said = shifted_sayable names b (image_of b first (layout_form wide)) (HasNewAt g) asked.0 well.arguments_fit new_there good.1 in
+        let asked = (laid_told b first states given names well fit array_is wide).each f c in
+        let good = asked_good names b first states well are fit free (laid_form b first given.fetch wide) f.at asked.0 asked.1 in
+        let said = shifted_sayable names b (image_of b first (laid_form b first given.fetch wide)) (HasNewAt g) asked.0 well.arguments_fit new_there good.1 in
         let count = count_is in
         let below = good.0 in
+        let shifted_there = shifted (image_of b first (laid_form b first given.fetch wide)) b.arg_slots (type_state names asked.0) in
         record {
           at = omega (arith, count, below);
           state =
               subst (λ (t : TypeState). IsSayable g.max_locals g.max_stack (HasNewAt g) t) (sym asked.2)
-              (subst (λ (n : ℕ). IsSayable n g.max_stack (HasNewAt g) (shifted (image_of b first (layout_form wide)) b.arg_slots (type_state names asked.0))) (sym locals_are)
-              (subst (λ (n : ℕ). IsSayable (b.max_locals + 1) n (HasNewAt g) (shifted (image_of b first (layout_form wide)) b.arg_slots (type_state names asked.0))) (sym stack_is) said));
+              (subst (λ (n : ℕ). IsSayable n g.max_stack (HasNewAt g) shifted_there) (sym locals_are)
+              (subst (λ (n : ℕ). IsSayable (b.max_locals + 1) n (HasNewAt g) shifted_there) (sym stack_is) said));
         }
 
     -- they can be said by full frames, where the classes that they name stand in the pool
@@ -150,9 +152,9 @@ module _ (names : Names) (b : Body) (first : ℕ) (states : List State) (array :
         → ((at : ℕ) → p.start at ≡ slice_index g.starts at)
         → ((name : List ℕ) (place : ℕ) → IsFirst (class_name_of g.pool) name place → p.class name ≡ place)
         → g.max_locals ≤ 65535 → g.max_stack ≤ 65535
-        → AllByRecursion (HasPlace g.pool) (named_by_all (map (type_state_at names) (frames_of wide (emission b first states array))))
-        → AreWritable g p (map (type_state_at names) (laid_frames wide (emission b first states array)))
+        → AllByRecursion (HasPlace g.pool) (named_by_all (map (type_state_at names) (frames_of wide (emission b first states given))))
+        → AreWritable g p (map (type_state_at names) (laid_frames wide (emission b first states given)))
     laid_writable p size starts few start class few_locals few_stack stand =
-        are_writable g p size starts few start class few_locals few_stack names (laid_frames wide e) ((laid_told b first states array names well fit array_is wide).rising)
+        are_writable g p size starts few start class few_locals few_stack names (laid_frames wide e) ((laid_told b first states given names well fit array_is wide).rising)
         (all_listed names (IsFine g) (laid_frames wide e) one_fine)
         (subst (AllByRecursion (HasPlace g.pool)) (sym (laid_named wide names e)) stand)

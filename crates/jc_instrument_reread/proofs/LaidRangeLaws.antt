@@ -20,6 +20,8 @@ use Rattle.jc_methods.specs.declared.insn.Flow.TheVariants as flows
 use Rattle.jc_methods.specs.declared.insn.Insn.{Insn}
 use Rattle.jc_methods.specs.declared.insn.Insn.TheVariants as insns
 use Rattle.jc_methods.specs.declared.kind.State.{State}
+use Rattle.jc_methods.specs.declared.probe_members.Fetch.{Fetch}
+use Rattle.jc_methods.specs.declared.probe_members.Fetch.TheVariants as fetches
 use Rattle.jc_methods.specs.Opcode as opcode
 use Rattle.jc_kinds_after.specs.Shift.{slot_of, with_slot}
 use Rattle.jc_plan.specs.declared.branch.Branch.{Branch}
@@ -33,15 +35,16 @@ use Rattle.jc_insn.specs.Writing.{AllNear, IsInRange, code_text}
 use Rattle.jc_insn.proofs.LaidOutLaws.{IsLaidOut}
 use Rattle.jc_insn.proofs.PlacesLaws.{in_range_with}
 use Rattle.jc_insn.proofs.WideCodeLaws.{spells_wide}
-use Rattle.jc_emit.specs.Emission.{emission}
-use Rattle.jc_emit.specs.Items.{Item, arm_parts, early_part, hop_part, image_part, insn_of, lead_part, probe, segment, test_part, tests_part, twin_items, image_of, land_of, lead_of}
-use Rattle.jc_emit.specs.Marks.{unplaced, push}
+use Rattle.jc_emit.specs.Emission.{Emitting, emission}
+use Rattle.jc_emit.specs.Items.{Item, arm_parts, prelude, early_part, hop_part, image_part, insn_of, lead_part, probe, segment, test_part, tests_part, twin_items, image_of, land_of, lead_of}
+use Rattle.jc_emit.specs.Marks.{unplaced, push, push_by}
 use Rattle.jc_emit.specs.Sizes.{narrow, arms_at, early_by, early_probe, insn_at, late_by, late_probe}
 use Rattle.jc_emit.specs.TwinCode.{arm_place, to_of}
 use Rattle.jc_layout.specs.Layout.{layout_set, laid_code, laid_starts, chosen_length, chosen_starts, chosen_text, is_wide}
 use Rattle.jc_layout.proofs.AllOrNoneLaws.{near_so, layout_says, spells_laid}
 use Rattle.jc_layout.proofs.ChoiceLaws.{chosen_stand, near}
 use Rattle.jc_layout.proofs.LayableLaws.{all_formed, all_within}
+use Rattle.jc_instrument_reread.proofs.PushLaws.{pushed_so}
 
 -- ---- numbers of instructions
 
@@ -84,7 +87,7 @@ few_if : (test : Bool) (id : ℕ) → id ≤ most_short → IsFewId (id_if test 
 few_if true id le = le
 few_if false id le = tt
 
-module _ (b : Body) (first : ℕ) (states : List State) (array : ℕ) (well : IsWellMadeOfAnySize b) (ranges : All IsInRange b.code)
+module _ (b : Body) (first : ℕ) (states : List State) (given : Emitting) (well : IsWellMadeOfAnySize b) (ranges : All IsInRange b.code)
     (locals : b.max_locals + 1 ≤ 65535) (ids : first + probe_count b ≤ most_probes) where
   few_before : (p : Position) → first + probes_before b p ≤ most_probes
   few_before p =
@@ -110,8 +113,11 @@ module _ (b : Body) (first : ℕ) (states : List State) (array : ℕ) (well : Is
 
   -- ---- items
 
+  id_range : (id : ℕ) → id ≤ most_short → IsInRange (push_by given.integer id)
+  id_range id le = subst IsInRange (sym (pushed_so given.integer id le)) (push_range id le)
+
   abbrev Fits : Item → Type 0
-  Fits x = IsInRange (insn_of unplaced b.arg_slots x)
+  Fits x = IsInRange (insn_of (unplaced given.integer) b.arg_slots x)
 
   abbrev All_fit : List Item → Type 0
   All_fit xs = AllByRecursion Fits xs
@@ -120,7 +126,7 @@ module _ (b : Body) (first : ℕ) (states : List State) (array : ℕ) (well : Is
   slot_fits = let le = well.arguments_fit in omega (arith, le, locals)
 
   probe_fits : (id at : ℕ) (late : Bool) → id ≤ most_short → All_fit (probe id at late)
-  probe_fits id at late le = (slot_fits, (push_range id le, (tt, (tt, tt))))
+  probe_fits id at late le = (slot_fits, (id_range id le, (tt, (tt, tt))))
 
   lead_fits : (o : Option ℕ) (i : ℕ) → IsFewId o → All_fit (lead_part o i)
   lead_fits None i few = tt
@@ -132,7 +138,7 @@ module _ (b : Body) (first : ℕ) (states : List State) (array : ℕ) (well : Is
 
   hop_fits : (land : ℕ → ℕ) (o : Option ℕ) (to : ℕ) → IsFewId o → All_fit (hop_part land o to)
   hop_fits land None to few = tt
-  hop_fits land (Some id) to few = (slot_fits, (push_range id few, (tt, (tt, (tt, tt)))))
+  hop_fits land (Some id) to few = (slot_fits, (id_range id few, (tt, (tt, (tt, tt)))))
 
   arms_fit : (land : ℕ → ℕ) (xs : List Branch) → All_fit (arm_parts land (probe_of b first) xs)
   arms_fit land [] = tt
@@ -144,27 +150,27 @@ module _ (b : Body) (first : ℕ) (states : List State) (array : ℕ) (well : Is
   test_fits false q insn i on due h = (h, tt)
   test_fits true q insn i on due h = (inverted_range (q + 2) insn h, (tt, tt))
 
-  tests_fit : (i : ℕ) (insn : Insn) (o : Option ℕ) → IsInRange insn → IsFewId o → All_fit (tests_part b first narrow i insn o)
+  tests_fit : (i : ℕ) (insn : Insn) (o : Option ℕ) → IsInRange insn → IsFewId o → All_fit (tests_part b first (narrow given.fetch) i insn o)
   tests_fit i insn None h few =
-      test_fits false (image_of b first narrow i) (with_places (land_of b first narrow) insn) i (jump_target insn) None
-      (in_range_with (land_of b first narrow) insn h)
+      test_fits false (image_of b first (narrow given.fetch) i) (with_places (land_of b first (narrow given.fetch)) insn) i (jump_target insn) None
+      (in_range_with (land_of b first (narrow given.fetch)) insn h)
   tests_fit i insn (Some id) h few =
-      all_both Fits (test_part false (image_of b first narrow i) (inverted (lead_of b first narrow (i + 1)) insn) i (i + 1) (lead_probe b first (i + 1)))
-      (hop_part (land_of b first narrow) (Some id) (jump_target insn))
-      (test_fits false (image_of b first narrow i) (inverted (lead_of b first narrow (i + 1)) insn) i (i + 1) (lead_probe b first (i + 1))
-      (inverted_range (lead_of b first narrow (i + 1)) insn h))
-      (hop_fits (land_of b first narrow) (Some id) (jump_target insn) few)
+      all_both Fits (test_part false (image_of b first (narrow given.fetch) i) (inverted (lead_of b first (narrow given.fetch) (i + 1)) insn) i (i + 1) (lead_probe b first (i + 1)))
+      (hop_part (land_of b first (narrow given.fetch)) (Some id) (jump_target insn))
+      (test_fits false (image_of b first (narrow given.fetch) i) (inverted (lead_of b first (narrow given.fetch) (i + 1)) insn) i (i + 1) (lead_probe b first (i + 1))
+      (inverted_range (lead_of b first (narrow given.fetch) (i + 1)) insn h))
+      (hop_fits (land_of b first (narrow given.fetch)) (Some id) (jump_target insn) few)
 
   abbrev old : ℕ → Insn
   old i = insn_at b.code i
 
-  image_fits : (i : ℕ) (flow : Flow) → IsInRange (old i) → LocalsWithin b.max_locals (old i) → All_fit (image_part b first narrow i (old i) flow)
+  image_fits : (i : ℕ) (flow : Flow) → IsInRange (old i) → LocalsWithin b.max_locals (old i) → All_fit (image_part b first (narrow given.fetch) i (old i) flow)
   image_fits i flows.GoesOn h within = (slot_range b.arg_slots b.max_locals (old i) locals within h, tt)
   image_fits i flows.Branches h within = tests_fit i (old i) (late_probe b first i) h (late_few i (old i) (flow_of (old i)))
-  image_fits i flows.Jumps h within = (in_range_with (land_of b first narrow) (old i) h, tt)
+  image_fits i flows.Jumps h within = (in_range_with (land_of b first (narrow given.fetch)) (old i) h, tt)
   image_fits i flows.Switches h within = (
-    in_range_with (arm_place (probe_of b first) (land_of b first narrow) (image_of b first narrow i + 1) (arms_at b.code i)) (old i) h,
-    arms_fit (land_of b first narrow) (arms_at b.code i),
+    in_range_with (arm_place (probe_of b first) (land_of b first (narrow given.fetch)) (image_of b first (narrow given.fetch) i + 1) (arms_at b.code i)) (old i) h,
+    arms_fit (land_of b first (narrow given.fetch)) (arms_at b.code i),
   )
   image_fits i flows.Returns h within = (h, tt)
   image_fits i flows.Throws h within = (h, tt)
@@ -176,36 +182,42 @@ module _ (b : Body) (first : ℕ) (states : List State) (array : ℕ) (well : Is
       by (inl lt) = all i (insns.Simple 0) lt
       by (inr past) = subst P (sym (get_or_past b.code i (insns.Simple 0) past)) none
 
-  segment_fits : (i : ℕ) → All_fit (segment b first narrow i)
+  segment_fits : (i : ℕ) → All_fit (segment b first (narrow given.fetch) i)
   segment_fits i =
-      let main = image_part b first narrow i (old i) (flow_of (old i)) in
+      let main = image_part b first (narrow given.fetch) i (old i) (flow_of (old i)) in
       all_both Fits (lead_part (lead_probe b first i) i) (early_part (early_probe b first i) i ++ main) (lead_fits (lead_probe b first i) i (lead_few i))
       (all_both Fits (early_part (early_probe b first i) i) main (early_fits (early_probe b first i) i (early_few i (old i) (flow_of (old i))))
       (image_fits i (flow_of (old i)) (old_is IsInRange tt ranges i) (old_is (LocalsWithin b.max_locals) tt well.locals i)))
 
-  pieces_fit : (n : ℕ) → All_fit (pieces (segment b first narrow) n)
+  pieces_fit : (n : ℕ) → All_fit (pieces (segment b first (narrow given.fetch)) n)
   pieces_fit zero = tt
-  pieces_fit (suc n) = all_both Fits (pieces (segment b first narrow) n) (segment b first narrow n) (pieces_fit n) (segment_fits n)
+  pieces_fit (suc n) = all_both Fits (pieces (segment b first (narrow given.fetch)) n) (segment b first (narrow given.fetch) n) (pieces_fit n) (segment_fits n)
 
-  items_fit : All_fit (twin_items b first narrow)
+  prelude_fits : (fetch : Fetch) → All_fit (prelude fetch)
+  prelude_fits fetches.Member = (omega arith, (slot_fits, tt))
+  prelude_fits fetches.Constant = (omega arith, (omega arith, (slot_fits, tt)))
+
+  items_fit : All_fit (twin_items b first (narrow given.fetch))
   unfolding twin_items
-  items_fit = (omega arith, (slot_fits, pieces_fit (length b.code)))
+  items_fit =
+      all_both Fits (prelude given.fetch) (pieces (segment b first (narrow given.fetch)) (length b.code)) (prelude_fits given.fetch)
+      (pieces_fit (length b.code))
 
-  each_mapped : (xs : List Item) → All_fit xs → AllByRecursion IsInRange (map (insn_of unplaced b.arg_slots) xs)
+  each_mapped : (xs : List Item) → All_fit xs → AllByRecursion IsInRange (map (insn_of (unplaced given.integer) b.arg_slots) xs)
   each_mapped [] all = tt
   each_mapped (x ∷ xs) all = (all.0, each_mapped xs all.1)
 
   -- ---- the code
 
   abbrev code : List Insn
-  code = map (insn_of unplaced b.arg_slots) (twin_items b first narrow)
+  code = map (insn_of (unplaced given.integer) b.arg_slots) (twin_items b first (narrow given.fetch))
 
   all_fit : All IsInRange code
-  all_fit = All-map IsInRange (insn_of unplaced b.arg_slots) (twin_items b first narrow)
-      (all_of_each IsInRange (insn_of unplaced b.arg_slots) (twin_items b first narrow) (each_mapped (twin_items b first narrow) items_fit))
+  all_fit = All-map IsInRange (insn_of (unplaced given.integer) b.arg_slots) (twin_items b first (narrow given.fetch))
+      (all_of_each IsInRange (insn_of (unplaced given.integer) b.arg_slots) (twin_items b first (narrow given.fetch)) (each_mapped (twin_items b first (narrow given.fetch)) items_fit))
 
   places_fit : All (λ insn. All (λ to. to < length code) (targets_of insn)) code
-  places_fit k d lt = each_of (λ to. to < length code) (targets_of (get_or code k d)) (all_within b first well.code k d lt)
+  places_fit k d lt = each_of (λ to. to < length code) (targets_of (get_or code k d)) (all_within b first given.fetch given.integer well.code k d lt)
 
 -- ---- layouts
 
@@ -218,21 +230,21 @@ spelled_by code starts wide out near =
     (near_so wide (layout_set wide) (slice_index starts) 0 code starts (layout_says wide 0 code) near))
 
 -- the layout that is chosen spells the instrumented code of a body whose instructions fit their types, where its ids can be pushed
-pub chosen_spelled : (b : Body) (first : ℕ) (states : List State) (array : ℕ) → IsWellMadeOfAnySize b → All IsInRange b.code → b.max_locals + 1 ≤ 65535
-    → first + probe_count b ≤ most_probes → chosen_length (emission b first states array).code ≤ 65535
-    → Spells (chosen_text (emission b first states array).code) (laid_code (is_wide (emission b first states array).code) (emission b first states array).code)
-    (laid_starts (is_wide (emission b first states array).code) (emission b first states array).code (chosen_starts (emission b first states array).code))
+pub chosen_spelled : (b : Body) (first : ℕ) (states : List State) (given : Emitting) → IsWellMadeOfAnySize b → All IsInRange b.code → b.max_locals + 1 ≤ 65535
+    → first + probe_count b ≤ most_probes → chosen_length (emission b first states given).code ≤ 65535
+    → Spells (chosen_text (emission b first states given).code) (laid_code (is_wide (emission b first states given).code) (emission b first states given).code)
+    (laid_starts (is_wide (emission b first states given).code) (emission b first states given).code (chosen_starts (emission b first states given).code))
 unfolding chosen_text emission
-chosen_spelled b first states array well ranges locals ids few =
-    let laid = code b first states array well ranges locals ids in
+chosen_spelled b first states given well ranges locals ids few =
+    let laid = code b first states given well ranges locals ids in
     let wide = is_wide laid in
     let starts = chosen_starts laid in
     spelled_by laid starts wide
     (record {
       starts_at = chosen_stand laid;
       end = omega (arith, few);
-      well_formed = all_formed b first well.code;
-      in_range = all_fit b first states array well ranges locals ids;
-      places = places_fit b first states array well ranges locals ids;
+      well_formed = all_formed b first given.fetch given.integer well.code;
+      in_range = all_fit b first states given well ranges locals ids;
+      places = places_fit b first states given well ranges locals ids;
     })
     (near laid starts wide refl refl)

@@ -12,7 +12,7 @@ use Rattle.jc_methods.specs.declared.kind.State.{State}
 use Rattle.jc_kinds_after.specs.Shift.{slot_of}
 use Rattle.jc_plan.specs.Plan.{lead_probe}
 use Rattle.jc_emit.specs.Marks.{unplaced}
-use Rattle.jc_emit.specs.Emission.{emission}
+use Rattle.jc_emit.specs.Emission.{Emitting, emission}
 use Rattle.jc_emit.specs.Items.{insn_of, lead_of, land_of, segment_size, twin_items}
 use Rattle.jc_emit.specs.Sizes.{narrow, probe_size}
 use Rattle.jc_emit.specs.TwinTables.{moved_row, moved_line, moved_var}
@@ -26,25 +26,25 @@ pub record IsRowIn (count : ℕ) (h : Handler) : Type 0 where
   pub end : h.end ≤ count
   pub target : h.target ≤ count
 
-module _ (b : Body) (first : ℕ) (states : List State) (array : ℕ) (well : IsWellMadeOfAnySize b) where
+module _ (b : Body) (first : ℕ) (states : List State) (given : Emitting) (well : IsWellMadeOfAnySize b) where
   abbrev n : ℕ
   n = length b.code
 
   abbrev lead : ℕ → ℕ
-  lead i = lead_of b first narrow i
+  lead i = lead_of b first (narrow given.fetch) i
 
   abbrev land : ℕ → ℕ
-  land i = land_of b first narrow i
+  land i = land_of b first (narrow given.fetch) i
 
   abbrev end : ℕ
   end = lead n
 
-  pub code_length : length (emission b first states array).code ≡ end
+  pub code_length : length (emission b first states given).code ≡ end
   unfolding emission
-  code_length = length-map (twin_items b first narrow) (insn_of unplaced b.arg_slots) ∙ length_twin b first narrow
+  code_length = length-map (twin_items b first (narrow given.fetch)) (insn_of (unplaced given.integer) b.arg_slots) ∙ length_twin b first (narrow given.fetch)
 
   lead_grows : (i j : ℕ) → i ≤ j → lead i ≤ lead j
-  lead_grows i j le = omega (arith, total_grows (segment_size b first narrow) i j le)
+  lead_grows i j le = omega (arith, total_grows (segment_size b first (narrow given.fetch)) i j le)
 
   lead_in : (i : ℕ) → i ≤ n → lead i ≤ end
   lead_in i le = lead_grows i n le
@@ -55,7 +55,7 @@ module _ (b : Body) (first : ℕ) (states : List State) (array : ℕ) (well : Is
   land_at_end : land n ≡ end
   land_at_end =
       let last : n ≡ n + 0 = omega arith in
-      let none = ap (λ (k : ℕ). probe_size (lead_probe b first k)) last ∙ ap probe_size (lead_none b first narrow well.code 0) in
+      let none = ap (λ (k : ℕ). probe_size (lead_probe b first k)) last ∙ ap probe_size (lead_none b first (narrow given.fetch) well.code 0) in
       omega (arith, none)
 
   land_in : (i : ℕ) → i ≤ n → land i ≤ end
@@ -99,22 +99,22 @@ module _ (b : Body) (first : ℕ) (states : List State) (array : ℕ) (well : Is
   vars_in : (vars : List VarAt) → All (IsVar n b.max_locals) vars → AllByRecursion (IsVar end (b.max_locals + 1)) (map (moved_var b.arg_slots land) vars)
   vars_in vars all = each_of_all (IsVar end (b.max_locals + 1)) (moved_var b.arg_slots land) vars (λ k d lt. var_in (get_or vars k d) (all k d lt))
 
-  pub rows_stand : AllByRecursion (IsRowIn end) (emission b first states array).handlers
+  pub rows_stand : AllByRecursion (IsRowIn end) (emission b first states given).handlers
   unfolding emission
   rows_stand = each_of_all (IsRowIn end) (moved_row lead land) b.handlers (λ k d lt. row_in (get_or b.handlers k d) (well.handlers k d lt))
 
-  pub lines_stand : AllByRecursion (IsLine end) (emission b first states array).lines
+  pub lines_stand : AllByRecursion (IsLine end) (emission b first states given).lines
   unfolding emission
   lines_stand = each_of_all (IsLine end) (moved_line land) b.lines (λ k d lt. land_below (get_or b.lines k d).at n (well.lines k d lt))
 
-  pub vars_stand : AllByRecursion (IsVar end (b.max_locals + 1)) (emission b first states array).vars
+  pub vars_stand : AllByRecursion (IsVar end (b.max_locals + 1)) (emission b first states given).vars
   unfolding emission
   vars_stand = vars_in b.vars well.vars
 
-  pub kind_vars_stand : AllByRecursion (IsVar end (b.max_locals + 1)) (emission b first states array).kind_vars
+  pub kind_vars_stand : AllByRecursion (IsVar end (b.max_locals + 1)) (emission b first states given).kind_vars
   unfolding emission
   kind_vars_stand = vars_in b.kind_vars well.kind_vars
 
-  pub locals_are : (emission b first states array).max_locals ≡ b.max_locals + 1
+  pub locals_are : (emission b first states given).max_locals ≡ b.max_locals + 1
   unfolding emission
   locals_are = refl

@@ -4,6 +4,7 @@ pub mod StartLaws
 pub mod LandLaws
 pub mod OffsetLaws
 pub mod RangeLaws
+pub mod PushLaws
 pub mod NamedLaws
 pub mod LaidRangeLaws
 pub mod ReadNumbersLaws

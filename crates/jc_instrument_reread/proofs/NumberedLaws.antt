@@ -16,19 +16,20 @@ use Rattle.jc_methods.specs.declared.body.VarAt.{VarAt}
 use Rattle.jc_methods.specs.declared.emitted.Emitted.{Emitted}
 use Rattle.jc_methods.specs.declared.insn.Insn.{Insn}
 use Rattle.jc_methods.specs.declared.kind.State.{State}
+use Rattle.jc_methods.specs.declared.probe_members.Fetch.TheVariants as fetches
 use Rattle.jc_pool.specs.Pool.{PoolValue}
 use Rattle.jc_body.specs.Attributes.{AreTables}
 use Rattle.jc_body.specs.BodyOf.{handler_of, is_start, keeps_line, keeps_var, line_of, lines_of, var_of, vars_in, vars_of}
 use Rattle.jc_emit.specs.Sizes.{narrow}
-use Rattle.jc_emit.specs.Emission.{emission}
+use Rattle.jc_emit.specs.Emission.{Emitting, emission}
 use Rattle.jc_emit.specs.Items.{lead_of}
 use Rattle.jc_emit.specs.TwinTables.{moved_line, moved_row}
-use Rattle.jc_layout.specs.LaidBody.{laid_body, laid_place, placed_var, with_call, with_place}
+use Rattle.jc_layout.specs.LaidBody.{laid_body, laid_place, placed_var, with_prelude, with_place}
 use Rattle.jc_layout.specs.Layout.{laid_code, laid_starts, chosen_length, chosen_starts, chosen_text, is_wide}
 use Rattle.jc_instrument_code.specs.TwinCode.{code_attributes, offset_in, written_frames}
 use Rattle.jc_instrument_code.specs.declared.code.CodePlaces.{CodePlaces}
 use Rattle.jc_instrument_reread.specs.ReadCode.{line_at, row_at, var_at, written_coded, written_insns, written_starts, written_tables}
-use Rattle.jc_instrument_reread.specs.WrittenCode.{IsWrittenCode}
+use Rattle.jc_instrument_reread.specs.WrittenCode.{calling, IsWrittenCode}
 use Rattle.jc_instrument_reread.proofs.CodedLaws.{code_size}
 use Rattle.jc_instrument_reread.proofs.EntriesLaws.{IsKeptAs, same_items, same_kept}
 use Rattle.jc_instrument_reread.proofs.LandLaws.{IsRowIn, code_length, kind_vars_stand, lines_stand, locals_are, rows_stand, vars_stand}
@@ -48,7 +49,7 @@ module _ (code : List Insn) (call : ℕ) where
   number = insn_number (laid_starts (is_wide code) code (chosen_starts code))
 
   abbrev count : ℕ
-  count = length (with_call call (laid_code (is_wide code) code))
+  count = length (with_prelude fetches.Member (calling call) (laid_code (is_wide code) code))
 
   row_same : (h : Handler) → IsRowIn (length code) h → handler_of number (row_at offset h) ≡ moved_row place place h
   row_same h is = λ i. record {
@@ -126,41 +127,41 @@ module _ (code : List Insn) (call : ℕ) where
 
 -- ---- of a body
 
-module _ (b : Body) (first : ℕ) (states : List State) (array : ℕ) (well : IsWellMadeOfAnySize b) (pool : PoolValue) (places : CodePlaces) (names : Names)
-    (w : IsWrittenCode pool places names (emission b first states array)) where
+module _ (b : Body) (first : ℕ) (states : List State) (given : Emitting) (well : IsWellMadeOfAnySize b) (pool : PoolValue) (places : CodePlaces) (names : Names)
+    (w : IsWrittenCode pool places names (emission b first states given)) where
   abbrev e : Emitted
-  e = emission b first states array
+  e = emission b first states given
 
   abbrev end : ℕ
   end = length e.code
 
   abbrev laid : List Use → Body
-  laid uses = laid_body b e (is_wide e.code) places.method uses
+  laid uses = laid_body b e (is_wide e.code) fetches.Member (calling places.method) uses
 
   abbrev last : ℕ
-  last = lead_of b first narrow (length b.code)
+  last = lead_of b first (narrow given.fetch) (length b.code)
 
   ends_there : end ≡ last
-  ends_there = code_length b first states array well
+  ends_there = code_length b first states given well
 
   all_rows : AllByRecursion (IsRowIn end) e.handlers
-  all_rows = subst (λ (n : ℕ). AllByRecursion (IsRowIn n) e.handlers) (sym ends_there) (rows_stand b first states array well)
+  all_rows = subst (λ (n : ℕ). AllByRecursion (IsRowIn n) e.handlers) (sym ends_there) (rows_stand b first states given well)
 
   all_lines : AllByRecursion (IsLine end) e.lines
-  all_lines = subst (λ (n : ℕ). AllByRecursion (IsLine n) e.lines) (sym ends_there) (lines_stand b first states array well)
+  all_lines = subst (λ (n : ℕ). AllByRecursion (IsLine n) e.lines) (sym ends_there) (lines_stand b first states given well)
 
   locals : e.max_locals ≡ b.max_locals + 1
-  locals = locals_are b first states array well
+  locals = locals_are b first states given well
 
   all_vars : AllByRecursion (IsVar end e.max_locals) e.vars
   all_vars =
       subst (λ (n : ℕ). AllByRecursion (IsVar n e.max_locals) e.vars) (sym ends_there)
-      (subst (λ (n : ℕ). AllByRecursion (IsVar last n) e.vars) (sym locals) (vars_stand b first states array well))
+      (subst (λ (n : ℕ). AllByRecursion (IsVar last n) e.vars) (sym locals) (vars_stand b first states given well))
 
   all_kind_vars : AllByRecursion (IsVar end e.max_locals) e.kind_vars
   all_kind_vars =
       subst (λ (n : ℕ). AllByRecursion (IsVar n e.max_locals) e.kind_vars) (sym ends_there)
-      (subst (λ (n : ℕ). AllByRecursion (IsVar last n) e.kind_vars) (sym locals) (kind_vars_stand b first states array well))
+      (subst (λ (n : ℕ). AllByRecursion (IsVar last n) e.kind_vars) (sym locals) (kind_vars_stand b first states given well))
 
   abbrev size : ℕ
   size = length (with_place places.method (chosen_text e.code))

@@ -3,15 +3,17 @@ use Rattle.std.proofs.Common.{◌≡◌, ℕ, ◌<◌, ◌≤◌, Bool, true, fa
 use Rattle.std.specs.Prelude.{slice_index}
 use Rattle.jc_methods.specs.Starts.{insn_number}
 use Rattle.jc_methods.specs.declared.insn.Insn.{Insn}
+use Rattle.jc_methods.specs.declared.probe_members.Fetch.TheVariants as fetches
 use Rattle.jc_methods.specs.Widened.{none_wide, all_wide}
 use Rattle.jc_methods.proofs.WidenedLaws.{wide_length, places_stay}
 use Rattle.jc_insn.specs.Sizes.{StartAt}
 use Rattle.jc_insn.proofs.SizeSumsLaws.{count_starts}
 use Rattle.jc_insn.proofs.WideCodeLaws.{number_of_wide_start, wide_start, starts_stay}
-use Rattle.jc_layout.specs.LaidBody.{laid_place, with_call}
+use Rattle.jc_layout.specs.LaidBody.{laid_place, with_prelude}
 use Rattle.jc_layout.specs.Layout.{layout_set, laid_code, laid_starts, chosen_length, chosen_starts, is_wide}
 use Rattle.jc_layout.proofs.ChoiceLaws.{chosen_stand}
 use Rattle.jc_layout.proofs.MergedLaws.{wide_places_rise}
+use Rattle.jc_instrument_reread.specs.WrittenCode.{calling}
 use Rattle.jc_instrument_reread.proofs.StartLaws.{most_start, some_bytes, starts_grow}
 
 -- ---- in either layout
@@ -32,7 +34,7 @@ within_by : (wide : Bool) (code : List Insn) (k : ℕ) → k < length code → l
 within_by false code k lt = lt
 within_by true code k lt = let rise = wide_places_rise all_wide code k (length code) lt in let size = wide_length all_wide code in omega (arith, rise, size)
 
-called_length : (call : ℕ) (code : List Insn) → length (with_call call code) ≡ length code
+called_length : (call : ℕ) (code : List Insn) → length (with_prelude fetches.Member (calling call) code) ≡ length code
 called_length call [] = refl
 called_length call (insn ∷ code) = refl
 
@@ -52,7 +54,7 @@ module _ (code : List Insn) where
   number_at k le = number_by (is_wide code) code (chosen_starts code) (chosen_stand code) k le
 
   -- which is that of an instruction
-  pub place_within : (call k : ℕ) → k < length code → laid_place (is_wide code) code k < length (with_call call (laid_code (is_wide code) code))
+  pub place_within : (call k : ℕ) → k < length code → laid_place (is_wide code) code k < length (with_prelude fetches.Member (calling call) (laid_code (is_wide code) code))
   place_within call k lt =
       let within = within_by (is_wide code) code k lt in
       let size = called_length call (laid_code (is_wide code) code) in

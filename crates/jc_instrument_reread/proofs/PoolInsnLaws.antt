@@ -12,7 +12,7 @@ use Rattle.jc_methods.specs.declared.insn.Insn.TheVariants as insns
 use Rattle.jc_methods.specs.declared.insn.Flow.{Flow}
 use Rattle.jc_methods.specs.declared.insn.Flow.TheVariants as flows
 use Rattle.jc_kinds_after.specs.Shift.{with_slot}
-use Rattle.jc_emit.specs.Marks.{TwinPlaces, unplaced}
+use Rattle.jc_emit.specs.Marks.{TwinPlaces}
 use Rattle.jc_emit.specs.Items.{Item, insn_of, image_part, image_of, twin_items}
 use Rattle.jc_emit.specs.Sizes.{TwinForm, insn_at}
 use Rattle.jc_emit.proofs.PiecesLaws.{HasAt}
@@ -42,5 +42,5 @@ module _ (b : Body) (first : ℕ) (form : TwinForm) (named : TwinPlaces) (is_cod
       let old : insn_at b.code i ≡ insn = get_or_from_slice_get b.code i insn (insns.Simple 0) at in
       let plain = pool_goes_on b.arg_slots place insn names in
       let flow : flow_of (insn_at b.code i) ≡ flows.GoesOn = ap flow_of old ∙ plain.0 in
-      let there = subst (λ (f : Flow). HasAt items (image_of b first form i) (image_part b first form i (insn_at b.code i) f)) flow (main_at b first form unplaced i lt) in
+      let there = subst (λ (f : Flow). HasAt items (image_of b first form i) (image_part b first form i (insn_at b.code i) f)) flow (main_at b first form named i lt) in
       slice_get-map (insn_of named b.arg_slots) items (image_of b first form i) ∙ ap (option_map (insn_of named b.arg_slots)) there.0 ∙ ap Some (ap (with_slot b.arg_slots) old ∙ plain.1)

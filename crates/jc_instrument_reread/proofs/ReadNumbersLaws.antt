@@ -35,7 +35,7 @@ use Rattle.jc_insn.specs.Spells.{Spells}
 use Rattle.jc_insn.specs.Writing.{IsInRange}
 use Rattle.jc_plan.specs.Probed.{probe_count}
 use Rattle.jc_emit.specs.Sizes.{narrow}
-use Rattle.jc_emit.specs.Emission.{emission}
+use Rattle.jc_emit.specs.Emission.{Emitting, emission}
 use Rattle.jc_emit.specs.Items.{land_of, lead_of}
 use Rattle.jc_emit.specs.TwinTables.{moved_line, moved_row, moved_var}
 use Rattle.jc_layout.specs.Layout.{laid_code, laid_starts, chosen_length, chosen_starts, chosen_text, is_wide}
@@ -228,25 +228,25 @@ module _ (Faults : List Fault) (names : Names) (c : ClassFile) (number : ℕ) (m
 
 -- ---- instrumented
 
-module _ (b : Body) (first : ℕ) (states : List State) (array : ℕ) (short : IsShortBody b) where
-  emitted_vars : (vars : List VarAt) → AllByRecursion IsShortVar vars → AllByRecursion IsShortVar (map (moved_var b.arg_slots (land_of b first narrow)) vars)
+module _ (b : Body) (first : ℕ) (states : List State) (given : Emitting) (short : IsShortBody b) where
+  emitted_vars : (vars : List VarAt) → AllByRecursion IsShortVar vars → AllByRecursion IsShortVar (map (moved_var b.arg_slots (land_of b first (narrow given.fetch))) vars)
   emitted_vars vars all =
-      each_mapped IsShortVar IsShortVar (moved_var b.arg_slots (land_of b first narrow)) (λ x is. record { name = is.name; desc = is.desc }) vars all
+      each_mapped IsShortVar IsShortVar (moved_var b.arg_slots (land_of b first (narrow given.fetch))) (λ x is. record { name = is.name; desc = is.desc }) vars all
 
-  emitted_numbers : HasShortNumbers (emission b first states array)
+  emitted_numbers : HasShortNumbers (emission b first states given)
   unfolding emission
   emitted_numbers = record {
-    classes = each_mapped (λ (h : Handler). h.class < 65536) (λ (h : Handler). h.class < 65536) (moved_row (lead_of b first narrow) (land_of b first narrow))
+    classes = each_mapped (λ (h : Handler). h.class < 65536) (λ (h : Handler). h.class < 65536) (moved_row (lead_of b first (narrow given.fetch)) (land_of b first (narrow given.fetch)))
         (λ h is. is) b.handlers short.classes;
-    lines = each_mapped (λ (l : LineAt). l.line < 65536) (λ (l : LineAt). l.line < 65536) (moved_line (land_of b first narrow)) (λ l is. is) b.lines short.lines;
+    lines = each_mapped (λ (l : LineAt). l.line < 65536) (λ (l : LineAt). l.line < 65536) (moved_line (land_of b first (narrow given.fetch))) (λ l is. is) b.lines short.lines;
     vars = emitted_vars b.vars short.vars;
     kind_vars = emitted_vars b.kind_vars short.kind_vars;
   }
 
-  emitted_rows : length (emission b first states array).handlers ≤ 65535
+  emitted_rows : length (emission b first states given).handlers ≤ 65535
   unfolding emission
   emitted_rows =
-      let same = length-map b.handlers (moved_row (lead_of b first narrow) (land_of b first narrow)) in
+      let same = length-map b.handlers (moved_row (lead_of b first (narrow given.fetch)) (land_of b first (narrow given.fetch))) in
       let few = short.rows in
       omega (arith, same, few)
 
@@ -257,13 +257,13 @@ pub record IsSpelled (e : Emitted) : Type 0 where
   pub rows : length e.handlers ≤ 65535
   pub spelled : Spells (chosen_text e.code) (laid_code (is_wide e.code) e.code) (laid_starts (is_wide e.code) e.code (chosen_starts e.code))
 
-pub is_spelled : (Faults : List Fault) (names : Names) (c : ClassFile) (number : ℕ) (method : Member) (b : Body) (first : ℕ) (states : List State) (array : ℕ)
+pub is_spelled : (Faults : List Fault) (names : Names) (c : ClassFile) (number : ℕ) (method : Member) (b : Body) (first : ℕ) (states : List State) (given : Emitting)
     → HasBody Faults names c number method b → AllByRecursion HasBytes method.attributes → IsWellMadeOfAnySize b → b.max_locals + 1 ≤ 65535
-    → first + probe_count b ≤ most_probes → chosen_length (emission b first states array).code ≤ 65535 → IsSpelled (emission b first states array)
-is_spelled Faults names c number method b first states array has are well locals ids few =
+    → first + probe_count b ≤ most_probes → chosen_length (emission b first states given).code ≤ 65535 → IsSpelled (emission b first states given)
+is_spelled Faults names c number method b first states given has are well locals ids few =
     let short = body_short Faults names c number method b has are in
     record {
-      numbers = emitted_numbers b first states array short;
-      rows = emitted_rows b first states array short;
-      spelled = chosen_spelled b first states array well short.code locals ids few;
+      numbers = emitted_numbers b first states given short;
+      rows = emitted_rows b first states given short;
+      spelled = chosen_spelled b first states given well short.code locals ids few;
     }

@@ -1,5 +1,5 @@
 -- The shifted form of a state of a body is one that a full frame says.
-use Rattle.std.proofs.Common.{◌≡◌, ℕ, zero, suc, ◌+◌, ◌≤◌, true, false, List, [], ◌∷◌, map, get_or, Some, refl, sym, ◌∙◌, arith, true≢false}
+use Rattle.std.proofs.Common.{◌≡◌, ℕ, zero, suc, ◌+◌, ◌≤◌, false, List, [], ◌∷◌, map, get_or, Some, refl, sym, ◌∙◌, arith, true≢false}
 use Rattle.std.specs.Prelude.{insert, slice_get}
 use Rattle.std.specs.List.{AllByRecursion}
 use Rattle.std.proofs.lemmas.List.{length-map}

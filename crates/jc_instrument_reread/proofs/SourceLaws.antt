@@ -23,7 +23,7 @@ use Rattle.jc_body.specs.Faults.{IsClassOrNone}
 use Rattle.jc_body.specs.Standing.{HasRightEntry}
 use Rattle.jc_body.specs.declared.coded.Coded.{Coded}
 use Rattle.jc_body.proofs.StandingLaws.{right_entry_or_not}
-use Rattle.jc_emit.specs.Emission.{emission}
+use Rattle.jc_emit.specs.Emission.{Emitting, emission}
 use Rattle.jc_emit.specs.Items.{lead_of, land_of}
 use Rattle.jc_emit.specs.Sizes.{narrow, insn_at}
 use Rattle.jc_emit.specs.TwinTables.{moved_row}
@@ -90,14 +90,16 @@ module _ (names : Names) (c : ClassFile) (method : Member) (b : Body) (states : 
         by (inr some) = stands (used some)
 
   -- the rows have the same classes
-  pub classes_kept : (first : ℕ) → KeepClasses coded.items.rows (map (row_at (offset_in (emission b first states array))) (emission b first states array).handlers)
-  classes_kept first row listed =
-      let e = emission b first states array in
+  pub classes_kept : (first : ℕ) (given : Emitting)
+      → KeepClasses coded.items.rows (map (row_at (offset_in (emission b first states given))) (emission b first states given).handlers)
+  classes_kept first given row listed =
+      let e = emission b first states given in
       let number = handler_of (insn_number coded.starts) in
+      let moves = moved_row (lead_of b first (narrow given.fetch)) (land_of b first (narrow given.fetch)) in
       let old = subst (λ (l : List Handler). Contains l (number row)) (sym s.body.parts.handlers) (in_map number coded.items.rows row listed) in
-      let moved = in_map (moved_row (lead_of b first narrow) (land_of b first narrow)) b.handlers (number row) old in
-      let now = subst (λ (l : List Handler). Contains l (moved_row (lead_of b first narrow) (land_of b first narrow) (number row))) (sym (handlers_are b first states array s.well_made)) moved in (
-        row_at (offset_in e) (moved_row (lead_of b first narrow) (land_of b first narrow) (number row)),
-        in_map (row_at (offset_in e)) e.handlers (moved_row (lead_of b first narrow) (land_of b first narrow) (number row)) now,
+      let moved = in_map moves b.handlers (number row) old in
+      let now = subst (λ (l : List Handler). Contains l (moves (number row))) (sym (handlers_are b first states given s.well_made)) moved in (
+        row_at (offset_in e) (moves (number row)),
+        in_map (row_at (offset_in e)) e.handlers (moves (number row)) now,
         refl,
       )

@@ -14,12 +14,14 @@ use Rattle.jc_methods.specs.declared.insn.Insn.TheVariants as insns
 use Rattle.jc_methods.specs.declared.insn.Flow.{Flow}
 use Rattle.jc_methods.specs.declared.insn.Flow.TheVariants as flows
 use Rattle.jc_methods.specs.declared.body.Body.{Body}
+use Rattle.jc_methods.specs.declared.probe_members.Fetch.TheVariants as fetches
+use Rattle.jc_methods.specs.ProbeMembers.{most_short}
 use Rattle.jc_methods.proofs.ByFlowLaws.{locals_inverted}
 use Rattle.jc_methods.proofs.PlacedInsnLaws.{locals_placed}
 use Rattle.jc_methods.proofs.SlotsLaws.{within_mapped}
 use Rattle.jc_plan.specs.Probed.{probe_of}
 use Rattle.jc_kinds_after.specs.Shift.{slot_of, with_slot}
-use Rattle.jc_emit.specs.Marks.{TwinPlaces, push}
+use Rattle.jc_emit.specs.Marks.{TwinPlaces, push, push_by}
 use Rattle.jc_emit.specs.Sizes.{TwinForm, insn_at}
 use Rattle.jc_emit.specs.Items.{Item, start, image, probe_array, probe_id, probe_one, probe_store, hop, insn_of, twin_items}
 use Rattle.jc_emit.specs.Local.{Ok, OkImage}
@@ -55,6 +57,10 @@ push_locals n =
     cond_both (nat_le n 5) (insns.Simple (3 + n)) (plain_push n) (λ x. locals_of x ≡ []) (λ few. refl)
     (λ many. cond_both (nat_le n 127) (insns.Push 16 (pos n)) (insns.Push 17 (pos n)) (λ x. locals_of x ≡ []) (λ h. refl) (λ h. refl))
 
+pub push_by_locals : (integer : ℕ → ℕ) (n : ℕ) → locals_of (push_by integer n) ≡ []
+push_by_locals integer n =
+    cond_both (nat_le n most_short) (push n) (insns.Constant (integer n)) (λ x. locals_of x ≡ []) (λ few. push_locals n) (λ many. refl)
+
 -- ---- where instructions lead
 
 module _ (b : Body) (first : ℕ) (form : TwinForm) (named : TwinPlaces) (is_code : IsCode b.code) where
@@ -88,9 +94,13 @@ module _ (b : Body) (first : ℕ) (form : TwinForm) (named : TwinPlaces) (is_cod
   image_falls q i insn flows.Throws e h falls = absurd (never (old i) flows.Throws e (λ x. cc) (λ x. cc) (subst FallsThrough h falls))
 
   item_falls : (q : ℕ) (x : Item) → Fine q x → FallsThrough (new x) → q + 1 < count
-  item_falls q (start zero) h falls = slice_get_within items (q + 1) (start 1) h.next
-  item_falls q (start (suc zero)) h falls = lands_within b first form named (q + 1) 0 None h.next
-  item_falls q (start (suc (suc k))) h falls = let within = h.within in absurd (omega (arith, within))
+  item_falls q (start fetches.Member zero) h falls = slice_get_within items (q + 1) (start fetches.Member 1) h.next
+  item_falls q (start fetches.Member (suc zero)) h falls = lands_within b first form named (q + 1) 0 None h.next
+  item_falls q (start fetches.Member (suc (suc k))) h falls = let within = h.within in absurd (omega (arith, within))
+  item_falls q (start fetches.Constant zero) h falls = slice_get_within items (q + 1) (start fetches.Constant 1) h.next
+  item_falls q (start fetches.Constant (suc zero)) h falls = slice_get_within items (q + 1) (start fetches.Constant 2) h.next
+  item_falls q (start fetches.Constant (suc (suc zero))) h falls = lands_within b first form named (q + 1) 0 None h.next
+  item_falls q (start fetches.Constant (suc (suc (suc k)))) h falls = let within = h.within in absurd (omega (arith, within))
   item_falls q (image insn i early) h falls = image_falls q i insn (flow_of (old i)) refl h.2 falls
   item_falls q (probe_array id at late) h falls = slice_get_within items (q + 1) (probe_id id at late) h.1
   item_falls q (probe_id id at late) h falls = slice_get_within items (q + 1) (probe_one id at late) h.1
@@ -124,11 +134,16 @@ module _ (b : Body) (first : ℕ) (form : TwinForm) (named : TwinPlaces) (is_cod
     image_locals q i insn flows.Throws lt h = subst (λ x. Among (locals_of x)) (sym h) (old_locals i lt)
 
     item_locals : (q : ℕ) (x : Item) → Fine q x → LocalsWithin (b.max_locals + 1) (new x)
-    item_locals q (start zero) h = tt
-    item_locals q (start (suc k)) h = (omega (arith, room), tt)
+    item_locals q (start fetches.Member zero) h = tt
+    item_locals q (start fetches.Member (suc zero)) h = (omega (arith, room), tt)
+    item_locals q (start fetches.Member (suc (suc k))) h = tt
+    item_locals q (start fetches.Constant zero) h = tt
+    item_locals q (start fetches.Constant (suc zero)) h = tt
+    item_locals q (start fetches.Constant (suc (suc zero))) h = (omega (arith, room), tt)
+    item_locals q (start fetches.Constant (suc (suc (suc k)))) h = tt
     item_locals q (image insn i early) h = image_locals q i insn (flow_of (old i)) h.0 h.2
     item_locals q (probe_array id at late) h = (omega (arith, room), tt)
-    item_locals q (probe_id id at late) h = subst Among (sym (push_locals id)) tt
+    item_locals q (probe_id id at late) h = subst Among (sym (push_by_locals named.integer id)) tt
     item_locals q (probe_one id at late) h = tt
     item_locals q (probe_store id at late) h = tt
     item_locals q (hop to at due) h = tt
@@ -136,18 +151,18 @@ module _ (b : Body) (first : ℕ) (form : TwinForm) (named : TwinPlaces) (is_cod
   -- ---- the whole
 
   -- what holds of the instruction of each item that is as it should be holds of each instruction of the twin
-  pub each_insn : (Fact : ℕ → Insn → Type 0) → ((q : ℕ) (x : Item) → Fine q x → Fact q (new x))
+  pub each_insn : (Fact : ℕ → Insn → Type 0) → ((q : ℕ) (x : Item) → slice_get items q ≡ Some x → Fine q x → Fact q (new x))
       → (q : ℕ) (insn : Insn) → slice_get (map new items) q ≡ Some insn → Fact q insn
   each_insn Fact each q insn at =
       let found = mapped_at new items q insn at in
-      subst (Fact q) found.2 (each q found.0 ((twin_ok b first form is_code).ok q found.0 found.1))
+      subst (Fact q) found.2 (each q found.0 found.1 ((twin_ok b first form is_code).ok q found.0 found.1))
 
   pub leads : (q : ℕ) (insn : Insn) → slice_get (map new items) q ≡ Some insn → LeadsWithin count insn
-  leads q insn at = each_insn (λ q insn. LeadsWithin count insn) (item_within b first form named) q insn at
+  leads q insn at = each_insn (λ q insn. LeadsWithin count insn) (λ q x here fine. item_within b first form named q x fine) q insn at
 
   pub falls : (q : ℕ) (insn : Insn) → slice_get (map new items) q ≡ Some insn → FallsThrough insn → q + 1 < count
-  falls q insn at = each_insn (λ q insn. FallsThrough insn → q + 1 < count) item_falls q insn at
+  falls q insn at = each_insn (λ q insn. FallsThrough insn → q + 1 < count) (λ q x here fine. item_falls q x fine) q insn at
 
   pub uses_locals : All (LocalsWithin b.max_locals) b.code → b.arg_slots ≤ b.max_locals
       → (q : ℕ) (insn : Insn) → slice_get (map new items) q ≡ Some insn → LocalsWithin (b.max_locals + 1) insn
-  uses_locals locals room q insn at = each_insn (λ q insn. LocalsWithin (b.max_locals + 1) insn) (item_locals locals room) q insn at
+  uses_locals locals room q insn at = each_insn (λ q insn. LocalsWithin (b.max_locals + 1) insn) (λ q x here fine. item_locals locals room q x fine) q insn at

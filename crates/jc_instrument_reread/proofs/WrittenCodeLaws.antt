@@ -14,7 +14,7 @@ use Rattle.jc_class.specs.declared.class_file.Member.{Member}
 use Rattle.jc_body.specs.BodyOf.{HasBody}
 use Rattle.jc_body.specs.First.{Fault}
 use Rattle.jc_plan.specs.Probed.{probe_count}
-use Rattle.jc_emit.specs.Emission.{emission}
+use Rattle.jc_emit.specs.Emission.{Emitting, emission}
 use Rattle.jc_layout.specs.Layout.{chosen_length}
 use Rattle.jc_instrument_code.specs.Given.{AreNamed}
 use Rattle.jc_instrument_code.specs.TwinCode.{twin_code}
@@ -36,13 +36,13 @@ pub record IsPlacedCode (pool : PoolValue) (places : CodePlaces) (names : Names)
   pub size : length (twin_code pool places.method places.frames names e) ≤ 4294967295
 
 -- the rest follows from the body of the method, where the bytes of its attributes are bytes and its ids can be pushed
-pub written_code : (Faults : List Fault) (names : Names) (c : ClassFile) (number : ℕ) (method : Member) (b : Body) (first : ℕ) (states : List State) (array : ℕ)
+pub written_code : (Faults : List Fault) (names : Names) (c : ClassFile) (number : ℕ) (method : Member) (b : Body) (first : ℕ) (states : List State) (given : Emitting)
     (pool : PoolValue) (places : CodePlaces) → HasBody Faults names c number method b → AllByRecursion HasBytes method.attributes
-    → IsWellMadeOfAnySize b → first + probe_count b ≤ most_probes → IsPlacedCode pool places names (emission b first states array)
-    → IsWrittenCode pool places names (emission b first states array)
-written_code Faults names c number method b first states array pool places has are well ids placed =
-    let locals = subst (λ (n : ℕ). n ≤ 65535) (locals_are b first states array well) placed.locals in
-    let spelled = is_spelled Faults names c number method b first states array has are well locals ids placed.few in
+    → IsWellMadeOfAnySize b → first + probe_count b ≤ most_probes → IsPlacedCode pool places names (emission b first states given)
+    → IsWrittenCode pool places names (emission b first states given)
+written_code Faults names c number method b first states given pool places has are well ids placed =
+    let locals = subst (λ (n : ℕ). n ≤ 65535) (locals_are b first states given well) placed.locals in
+    let spelled = is_spelled Faults names c number method b first states given has are well locals ids placed.few in
     record {
       named = placed.named;
       frames_named = placed.frames_named;

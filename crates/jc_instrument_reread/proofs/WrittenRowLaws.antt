@@ -27,7 +27,7 @@ use Rattle.jc_body.specs.Standing.{found_in, found_at, what_of_member, what_of_c
 use Rattle.jc_body.specs.declared.items.Row.{Row}
 use Rattle.jc_emit.specs.Marks.{unplaced}
 use Rattle.jc_emit.specs.Sizes.{narrow}
-use Rattle.jc_emit.specs.Emission.{emission}
+use Rattle.jc_emit.specs.Emission.{Emitting, emission}
 use Rattle.jc_emit.specs.Items.{insn_of, lead_of, land_of, segment_size, twin_items}
 use Rattle.jc_emit.specs.TwinTables.{moved_row}
 use Rattle.jc_emit.proofs.BuiltLaws.{length_twin}
@@ -78,51 +78,51 @@ class_there pool place what is class = by (computed_of pool place) (member_of po
 
 -- ---- places
 
-module _ (b : Body) (first : ℕ) (states : List State) (array : ℕ) (well : IsWellMadeOfAnySize b) where
+module _ (b : Body) (first : ℕ) (states : List State) (given : Emitting) (well : IsWellMadeOfAnySize b) where
   abbrev e : Emitted
-  e = emission b first states array
+  e = emission b first states given
 
   abbrev lead : ℕ → ℕ
-  lead i = lead_of b first narrow i
+  lead i = lead_of b first (narrow given.fetch) i
 
   abbrev land : ℕ → ℕ
-  land i = land_of b first narrow i
+  land i = land_of b first (narrow given.fetch) i
 
-  code_size : length (emission b first states array).code ≡ lead_of b first narrow (length b.code)
+  code_size : length (emission b first states given).code ≡ lead_of b first (narrow given.fetch) (length b.code)
   unfolding emission
-  code_size = length-map (twin_items b first narrow) (insn_of unplaced b.arg_slots) ∙ length_twin b first narrow
+  code_size = length-map (twin_items b first (narrow given.fetch)) (insn_of (unplaced given.integer) b.arg_slots) ∙ length_twin b first (narrow given.fetch)
 
   lead_rises : (i j : ℕ) → i < j → lead (suc i) ≤ lead j
-  lead_rises i j lt = let grows = total_grows (segment_size b first narrow) (suc i) j (omega (arith, lt)) in omega (arith, grows)
+  lead_rises i j lt = let grows = total_grows (segment_size b first (narrow given.fetch)) (suc i) j (omega (arith, lt)) in omega (arith, grows)
 
   -- a row of the instrumented code guards an instruction or more
-  row_moved : (h : Handler) → IsHandler (length b.code) h → IsHandler (length (emission b first states array).code) (moved_row lead land h)
+  row_moved : (h : Handler) → IsHandler (length b.code) h → IsHandler (length (emission b first states given).code) (moved_row lead land h)
   row_moved h is = record {
     some = let up = lead_rises h.start h.end is.some in omega (arith, up);
     end =
-        let grows = total_grows (segment_size b first narrow) h.end (length b.code) is.end in
+        let grows = total_grows (segment_size b first (narrow given.fetch)) h.end (length b.code) is.end in
         let size = code_size in
         omega (arith, grows, size);
     target = let up = lead_rises h.target (length b.code) is.target in let size = code_size in omega (arith, up, size);
   }
 
-  pub handlers_are : (emission b first states array).handlers ≡ map (moved_row (lead_of b first narrow) (land_of b first narrow)) b.handlers
+  pub handlers_are : (emission b first states given).handlers ≡ map (moved_row (lead_of b first (narrow given.fetch)) (land_of b first (narrow given.fetch))) b.handlers
   unfolding emission
   handlers_are = refl
 
-  module _ (call size : ℕ) (starts : AreStarts (length (written_insns call (emission b first states array))) size (written_starts (emission b first states array)))
-      (size_is : size ≡ chosen_length (emission b first states array).code) where
+  module _ (call size : ℕ) (starts : AreStarts (length (written_insns call (emission b first states given))) size (written_starts (emission b first states given)))
+      (size_is : size ≡ chosen_length (emission b first states given).code) where
     abbrev code : List Insn
-    code = (emission b first states array).code
+    code = (emission b first states given).code
 
     abbrev place : ℕ → ℕ
     place k = laid_place (is_wide code) code k
 
     abbrev count : ℕ
-    count = length (written_insns call (emission b first states array))
+    count = length (written_insns call (emission b first states given))
 
     abbrev offset : ℕ → ℕ
-    offset k = offset_in (emission b first states array) k
+    offset k = offset_in (emission b first states given) k
 
     place_rises : (i j : ℕ) → i < j → place i < place j
     place_rises i j lt = by (is_wide code)
@@ -135,7 +135,7 @@ module _ (b : Body) (first : ℕ) (states : List State) (array : ℕ) (well : Is
     end_place : place (length code) ≡ count
     end_place =
         sym (number_at code (length code) (omega arith))
-        ∙ ap (insn_number (written_starts (emission b first states array))) (sym size_is) ∙ number_of_end count size (written_starts (emission b first states array)) starts
+        ∙ ap (insn_number (written_starts (emission b first states given))) (sym size_is) ∙ number_of_end count size (written_starts (emission b first states given)) starts
 
     place_below : (k : ℕ) → k < length code → place k < count
     place_below k lt = let up = place_rises k (length code) lt in let end = end_place in omega (arith, up, end)
@@ -149,16 +149,16 @@ module _ (b : Body) (first : ℕ) (states : List State) (array : ℕ) (well : Is
 
     offset_rises : (i j : ℕ) → i < j → j ≤ length code → offset i < offset j
     offset_rises i j lt le =
-        let up = rising count size (written_starts (emission b first states array)) starts (place i) (place j) (place_rises i j lt) (place_most j le) in
+        let up = rising count size (written_starts (emission b first states given)) starts (place i) (place j) (place_rises i j lt) (place_most j le) in
         let low = offset_at code i in
         let high = offset_at code j in
         omega (arith, up, low, high)
 
-    start_below : (k : ℕ) → k < length code → insn_number (written_starts (emission b first states array)) (offset k) < count
+    start_below : (k : ℕ) → k < length code → insn_number (written_starts (emission b first states given)) (offset k) < count
     start_below k lt = let number = number_at code k (omega (arith, lt)) in let below = place_below k lt in omega (arith, number, below)
 
     row_fine : (pool : PoolValue) (h : Handler) → IsHandler (length code) h → IsClassOrNone pool h.class
-        → IsRow pool (insn_number (written_starts (emission b first states array))) count size (row_at (offset_in (emission b first states array)) h)
+        → IsRow pool (insn_number (written_starts (emission b first states given))) count size (row_at (offset_in (emission b first states given)) h)
     row_fine pool h is class = record {
       ordered = offset_rises h.start h.end is.some is.end;
       start = start_below h.start (let some = is.some in let end = is.end in omega (arith, some, end));
@@ -168,19 +168,20 @@ module _ (b : Body) (first : ℕ) (states : List State) (array : ℕ) (well : Is
     }
       where
         by : (h.end < length code) ⊎ (length code ≤ h.end)
-            → (insn_number (written_starts (emission b first states array)) (offset h.end) < count) ⊎ (offset h.end ≡ size)
+            → (insn_number (written_starts (emission b first states given)) (offset h.end) < count) ⊎ (offset h.end ≡ size)
         by (inl lt) = inl (start_below h.end lt)
         by (inr past) = let end = is.end in let same : h.end ≡ length code = omega (arith, end, past) in inr (ap offset same ∙ sym size_is)
 
     -- each row is of its form, where each class that a row names stands in the pool
     pub rows_fine : (pool : PoolValue) → ((i : ℕ) (h : Handler) → slice_get b.handlers i ≡ Some h → IsClassOrNone pool h.class)
-        → (i : ℕ) (row : Row) → slice_get (map (row_at (offset_in (emission b first states array))) (emission b first states array).handlers) i ≡ Some row
-        → IsRow pool (insn_number (written_starts (emission b first states array))) count size row
+        → (i : ℕ) (row : Row) → slice_get (map (row_at (offset_in (emission b first states given))) (emission b first states given).handlers) i ≡ Some row
+        → IsRow pool (insn_number (written_starts (emission b first states given))) count size row
     rows_fine pool classes i row at =
-        let new = mapped_at (row_at (offset_in (emission b first states array))) (emission b first states array).handlers i row at in
-        let old = mapped_at (moved_row (lead_of b first narrow) (land_of b first narrow)) b.handlers i new.0 (ap (λ (l : List Handler). slice_get l i) (sym handlers_are) ∙ new.1) in
+        let new = mapped_at (row_at (offset_in (emission b first states given))) (emission b first states given).handlers i row at in
+        let old = mapped_at (moved_row (lead_of b first (narrow given.fetch)) (land_of b first (narrow given.fetch))) b.handlers i new.0
+        (ap (λ (l : List Handler). slice_get l i) (sym handlers_are) ∙ new.1) in
         let h = old.0 in
         let lt = slice_get_within b.handlers i h old.1 in
         let is = subst (IsHandler (length b.code)) (get_or_from_slice_get b.handlers i h h old.1) (well.handlers i h lt) in
-        subst (IsRow pool (insn_number (written_starts (emission b first states array))) count size) (ap (row_at (offset_in (emission b first states array))) old.2 ∙ new.2)
-        (row_fine pool (moved_row (lead_of b first narrow) (land_of b first narrow) h) (row_moved h is) (classes i h old.1))
+        subst (IsRow pool (insn_number (written_starts (emission b first states given))) count size) (ap (row_at (offset_in (emission b first states given))) old.2 ∙ new.2)
+        (row_fine pool (moved_row (lead_of b first (narrow given.fetch)) (land_of b first (narrow given.fetch)) h) (row_moved h is) (classes i h old.1))

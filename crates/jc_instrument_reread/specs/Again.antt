@@ -3,12 +3,13 @@ use Rattle.std.specs.Prelude.{◌≡◌, ◌⊎◌, ℕ, ℤ, List, Some, slice_
 use Rattle.jc_methods.specs.VerificationTypes.{Names}
 use Rattle.jc_methods.specs.declared.body.Body.{Body}
 use Rattle.jc_methods.specs.declared.kind.State.{State}
+use Rattle.jc_methods.specs.declared.probe_members.Fetch.TheVariants as fetches
 use Rattle.jc_class.specs.declared.class_file.ClassFile.{ClassFile}
 use Rattle.jc_class.specs.declared.class_file.Member.{Member}
 use Rattle.jc_body.specs.BodyOf.{IsBodyOfAnySize}
 use Rattle.jc_body.specs.Coded.{HasNoCode}
 use Rattle.jc_kinds.specs.Checked.{Checked}
-use Rattle.jc_emit.specs.Added.{IsInitBody}
+use Rattle.jc_emit.specs.Added.{giver_of, IsInitBody}
 use Rattle.jc_emit.specs.Twin.{Twin}
 use Rattle.jc_instrument_code.specs.declared.code.CodePlaces.{CodePlaces}
 use Rattle.jc_instrument_code.specs.declared.init.AddedPlaces.{AddedPlaces}
@@ -28,7 +29,7 @@ pub record PassesAgain (twin : ClassFile) (number : ℕ) (method : Member) : Typ
 pub record IsReadAsTwin (names : Names) (twin : ClassFile) (method : Member) (states : List State) (first : ℕ) (b : Body) : Type 0 where
   pub body : Body
   pub is : IsBodyOfAnySize names twin b.method method body
-  pub twin_is : Twin names names states b.owner first b body
+  pub twin_is : Twin names names states fetches.Member (giver_of fetches.Member b.owner 0) first b body
 
 -- what is read gives the probe array of the class with this name and this id, which has so many probes
 pub record IsReadAsInit (twin : ClassFile) (number : ℕ) (method : Member) (owner : List ℕ) (id : ℤ) (count : ℕ) : Type 0 where

@@ -6,6 +6,7 @@ use Rattle.jc_methods.specs.declared.body.LineAt.{LineAt}
 use Rattle.jc_methods.specs.declared.body.VarAt.{VarAt}
 use Rattle.jc_methods.specs.declared.emitted.Emitted.{Emitted}
 use Rattle.jc_methods.specs.declared.insn.Insn.{Insn}
+use Rattle.jc_methods.specs.declared.probe_members.Fetch.TheVariants as fetches
 use Rattle.jc_pool.specs.Pool.{PoolValue}
 use Rattle.jc_body.specs.declared.coded.Coded.{Coded}
 use Rattle.jc_body.specs.declared.items.CodeItems.{CodeItems}
@@ -13,10 +14,11 @@ use Rattle.jc_body.specs.declared.items.Row.{Row}
 use Rattle.jc_body.specs.declared.items.LineEntry.{LineEntry}
 use Rattle.jc_body.specs.declared.items.VarEntry.{VarEntry}
 use Rattle.jc_body.specs.declared.items.Tables.{Tables}
-use Rattle.jc_layout.specs.LaidBody.{with_call, with_place}
+use Rattle.jc_layout.specs.LaidBody.{with_prelude, with_place}
 use Rattle.jc_layout.specs.Layout.{laid_code, laid_starts, is_wide, chosen_starts, chosen_text}
 use Rattle.jc_instrument_code.specs.declared.code.CodePlaces.{CodePlaces}
 use Rattle.jc_instrument_code.specs.TwinCode.{code_attributes, offset_in, written_frames}
+use Rattle.jc_instrument_reread.specs.WrittenCode.{calling}
 
 -- ---- entries by offsets
 
@@ -48,7 +50,7 @@ written_items pool places names e = record {
 
 -- the instructions of the layout that is chosen, and where they begin
 abbrev pub written_insns : (call : ℕ) → Emitted → List Insn
-written_insns call e = with_call call (laid_code (is_wide e.code) e.code)
+written_insns call e = with_prelude fetches.Member (calling call) (laid_code (is_wide e.code) e.code)
 
 abbrev pub written_starts : Emitted → List ℕ
 written_starts e = laid_starts (is_wide e.code) e.code (chosen_starts e.code)

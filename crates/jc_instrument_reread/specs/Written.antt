@@ -1,5 +1,5 @@
 -- A method whose instrumented code is written into the class: what is given where its bytes are read again.
-use Rattle.std.specs.Prelude.{◌≡◌, ℕ, ℤ, List, [], ◌∷◌, length, Some}
+use Rattle.std.specs.Prelude.{◌≡◌, ℕ, ℤ, ◌+◌, ◌≤◌, List, [], ◌∷◌, length, Some}
 use Rattle.jc_methods.specs.VerificationTypes.{Names}
 use Rattle.jc_methods.specs.WellMade.{IsWellMadeOfAnySize}
 use Rattle.jc_methods.specs.declared.body.Body.{Body}
@@ -14,7 +14,8 @@ use Rattle.jc_body.specs.BodyOf.{IsBody}
 use Rattle.jc_body.specs.Coded.{code_bodies}
 use Rattle.jc_kinds.specs.Answers.{AreStates}
 use Rattle.jc_kinds.specs.Checked.{Checked}
-use Rattle.jc_methods.specs.ProbeMembers.{data_name, data_type, fetch_name, fetch_type, init_flags, init_name, init_type, runtime_class}
+use Rattle.jc_methods.specs.ProbeMembers.{data_name, data_type, fetch_name, fetch_type, init_flags, init_name, init_type, most_probes, runtime_class}
+use Rattle.jc_plan.specs.Probed.{probe_count}
 use Rattle.jc_emit.specs.Emission.{emission, HasFrameStates, IsArrayNumber}
 use Rattle.jc_emit.specs.Straddling.{NoneStraddles}
 use Rattle.jc_instrument_code.specs.Given.{AreFrames, HaveClasses}
@@ -23,7 +24,7 @@ use Rattle.jc_instrument_code.specs.TwinCode.{chosen_frames, twin_code}
 use Rattle.jc_instrument_code.specs.declared.code.CodePlaces.{CodePlaces}
 use Rattle.jc_instrument_code.specs.declared.init.AddedPlaces.{AddedPlaces}
 use Rattle.jc_instrument_reread.specs.InitRead.{IsWrittenInit}
-use Rattle.jc_instrument_reread.specs.WrittenCode.{IsWrittenCode}
+use Rattle.jc_instrument_reread.specs.WrittenCode.{by_method, IsWrittenCode}
 
 -- ---- the pool
 
@@ -69,11 +70,13 @@ pub record IsWrittenMethod (names : Names) (c twin : ClassFile) (places : CodePl
     (states : List State) (first : ℕ) : Type 0 where
   pub major : twin.major ≡ c.major
   pub this_class : twin.this_class ≡ c.this_class
+  -- its ids are among those that a class has at most
+  pub ids : first + probe_count b ≤ most_probes
   pub pool : IsGrownPool c.pool twin.pool b.owner places
   pub source : IsSource names c method b states array
-  pub fits : IsFitting names twin.pool places (emission b first states array)
+  pub fits : IsFitting names twin.pool places (emission b first states (by_method array))
   pub written : HasOtherCode twin.pool method new
-      (twin_code twin.pool places.method places.frames names (emission b first states array))
+      (twin_code twin.pool places.method places.frames names (emission b first states (by_method array)))
 
 -- ---- the added method
 

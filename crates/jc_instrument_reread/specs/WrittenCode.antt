@@ -1,16 +1,33 @@
 -- What is given of an instrumented method's code that was written.
-use Rattle.std.specs.Prelude.{◌≡◌, ℕ, ◌<◌, ◌≤◌, List, length, Some, codes}
+use Rattle.std.specs.Prelude.{◌≡◌, ℕ, ◌<◌, ◌≤◌, List, [], length, Some, codes}
 use Rattle.std.specs.List.{AllByRecursion}
 use Rattle.jc_methods.specs.VerificationTypes.{Names}
 use Rattle.jc_methods.specs.declared.body.VarAt.{VarAt}
 use Rattle.jc_methods.specs.declared.emitted.Emitted.{Emitted}
+use Rattle.jc_methods.specs.declared.probe_members.Fetch.TheVariants as fetches
 use Rattle.jc_pool.specs.Lookup.{utf8_of}
 use Rattle.jc_pool.specs.Pool.{PoolValue}
 use Rattle.jc_insn.specs.Spells.{Spells}
+use Rattle.jc_emit.specs.Emission.{Emitting}
+use Rattle.jc_emit.specs.Marks.{TwinPlaces}
+use Rattle.jc_emit.specs.Written.{given, integer_in}
 use Rattle.jc_layout.specs.Layout.{laid_code, laid_starts, is_wide, chosen_starts, chosen_text, chosen_length}
 use Rattle.jc_instrument_code.specs.declared.code.CodePlaces.{CodePlaces}
 use Rattle.jc_instrument_code.specs.Given.{AreNamed}
 use Rattle.jc_instrument_code.specs.TwinCode.{twin_code}
+
+-- ---- how the array of probes is got
+
+-- What a class gives the emission of its bodies that gets its array by its method, where its class `[Z` has this number in the names
+-- and no id needs an Integer.
+abbrev pub by_method : (array : ℕ) → Emitting
+by_method array = given fetches.Member array []
+
+-- what the twins of its bodies name, where the method stands at this place of the pool
+abbrev pub calling : (call : ℕ) → TwinPlaces
+calling call = record { giver = call; array = 0; integer = integer_in [] }
+
+-- ---- what is given
 
 -- the places that the entry of a table of variables names are numbers of two bytes (JVM Specification 4.7.13)
 pub record IsShortVar (x : VarAt) : Type 0 where
