@@ -62,5 +62,7 @@ pub mod PassingLaws
 pub mod PassingFileLaws
 pub mod VerifiedLaws
 pub mod PlannedLaws
+pub mod GivenLaws
 pub mod LookingLaws
 pub mod LookedLaws
+pub mod VersionLaws

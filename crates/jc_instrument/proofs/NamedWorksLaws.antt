@@ -8,6 +8,7 @@ use Rattle.jc_methods.specs.Starts.{insn_number}
 use Rattle.jc_methods.specs.declared.body.Body.{Body}
 use Rattle.jc_methods.specs.declared.body.LineAt.{LineAt}
 use Rattle.jc_methods.specs.declared.body.VarAt.{VarAt}
+use Rattle.jc_methods.specs.declared.probe_members.Fetch.TheVariants as fetches
 use Rattle.jc_pool.specs.Adding.{Extends}
 use Rattle.jc_pool.specs.Lookup.{utf8_of}
 use Rattle.jc_pool.specs.Pool.{PoolValue}
@@ -100,7 +101,7 @@ module _ (names : Names) (c : ClassFile) (new : PoolValue) (extends : Extends c.
       let number = insn_number is.coded.starts in
       let count = length is.coded.insns in
       let attributes = is.coded.items.attributes in
-      let land = land_of b w.first narrow in
+      let land = land_of b w.first (narrow fetches.Member) in
       record {
         lines = subst (λ (ls : List LineAt). IsNamedAt new lines_name (map (moved_line land) ls) places.lines) (sym is.parts.lines)
             (table_named c.pool new extends lines_name places.lines (λ entries. map (moved_line land) (lines_of number count entries)) refl

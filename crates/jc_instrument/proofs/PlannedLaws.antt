@@ -10,6 +10,7 @@ use Rattle.jc_methods.specs.WellMade.{IsWellMade}
 use Rattle.jc_methods.specs.declared.body.Body.{Body}
 use Rattle.jc_methods.specs.declared.insn.Insn.{Insn}
 use Rattle.jc_methods.specs.declared.kind.State.{State}
+use Rattle.jc_methods.specs.declared.probe_members.Fetch.TheVariants as fetches
 use Rattle.jc_methods.specs.declared.plan.Plan.{Plan}
 use Rattle.jc_methods.proofs.NumberedLaws.{frames_numbered, grown_count}
 use Rattle.jc_bytes.specs.declared.fail.Fail.TheVariants as fails
@@ -26,6 +27,7 @@ use Rattle.jc_layout.specs.Layout.{chosen_length}
 use Rattle.jc_layout.specs.declared.layouts.Laid.{Laid}
 use Rattle.jc_instrument_code.proofs.LaidLaws.{laid_length}
 use Rattle.jc_instrument_reread.proofs.SameBodyLaws.{grown_same, same_check}
+use Rattle.jc_instrument_reread.specs.WrittenCode.{by_method}
 use Rattle.jc_instrument.specs.Bodies.{AreBodies}
 use Rattle.jc_instrument.specs.BodiesWithStates.{BodyWithStates}
 use Rattle.jc_instrument.specs.KeptStates.{places_kept, planned_places}
@@ -107,10 +109,10 @@ module _ (names : Names) (b : Body) (plan : Plan) (first : ℕ) (l : Laid) (plan
   -- code that is laid isn't too large
   laid_short : chosen_length (probed_code b first) ≤ 65535
   laid_short =
-      subst (λ (code : List Insn). chosen_length code ≤ 65535) (emission_code b first [] 0) (laid_length (emission b first [] 0) l (laid first [] 0 plan_is))
+      subst (λ (code : List Insn). chosen_length code ≤ 65535) (emission_code b first [] 0) (laid_length (emission b first [] (by_method 0)) l (laid first [] 0 plan_is))
 
   module _ (old new : List PlannedBody) where
-    pub puts_ready : (places : Places) (states : List State) → ArePlacesFor b plan places → IsWellMade b → plan.next ≤ most_probes → HasRoom b
+    pub puts_ready : (places : Places) (states : List State) → ArePlacesFor b plan fetches.Member places → IsWellMade b → plan.next ≤ most_probes → HasRoom b
         → length b.handlers ≤ 65535 → AreNumberedFrames (length names) b.frames → AreStates names b states
         → new ≡ old ++ Ready (record { body = b; plan = plan; laid = l; insn_places = places; states = states }) ∷ []
         → PutsPlanned names b first old new

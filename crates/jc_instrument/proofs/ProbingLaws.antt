@@ -6,33 +6,36 @@ use Rattle.std.proofs.lemmas.Option.{none-some, slice_get-get_or}
 use Rattle.jc_methods.specs.VerificationTypes.{Names, AreNumberedFrames, Grows}
 use Rattle.jc_methods.specs.declared.body.Body.{Body}
 use Rattle.jc_methods.specs.declared.kind.State.{State}
+use Rattle.jc_methods.specs.declared.probe_members.Fetch.TheVariants as fetches
 use Rattle.jc_methods.specs.WellMade.{IsWellMadeOfAnySize}
 use Rattle.jc_emit.specs.Emission.{emission, IsArrayNumber}
 use Rattle.jc_emit.specs.Shift.{probe_array_class}
 use Rattle.jc_emit.specs.Stages.{moved_tables}
+use Rattle.jc_emit.specs.Written.{integer_in}
 use Rattle.jc_layout.specs.Layable.{IsLayable}
 use Rattle.jc_layout.proofs.LayableLaws.{all_formed, all_within, few_in}
 use Rattle.jc_instrument_code.specs.TwinCode.{tables_in}
+use Rattle.jc_instrument_reread.specs.WrittenCode.{by_method}
 use Rattle.jc_instrument.specs.RoomCauses.{probed_code}
 use Rattle.jc_instrument.specs.BodiesWithStates.{BodyWithStates, IsBodyWithStates}
 use Rattle.jc_instrument.proofs.KeptStatesLaws.{states_grown}
 
 -- ---- one body
 
-pub emission_code : (b : Body) (first : ℕ) (states : List State) (array : ℕ) → (emission b first states array).code ≡ probed_code b first
+pub emission_code : (b : Body) (first : ℕ) (states : List State) (array : ℕ) → (emission b first states (by_method array)).code ≡ probed_code b first
 unfolding emission
 emission_code b first states array = refl
 
-pub emission_tables : (b : Body) (first : ℕ) (states : List State) (array : ℕ) → moved_tables b first ≡ tables_in (emission b first states array)
+pub emission_tables : (b : Body) (first : ℕ) (states : List State) (array : ℕ) → moved_tables b first fetches.Member ≡ tables_in (emission b first states (by_method array))
 unfolding emission
 emission_tables b first states array = refl
 
-pub emission_layable : (b : Body) (first : ℕ) (states : List State) (array : ℕ) → IsWellMadeOfAnySize b → IsLayable (emission b first states array).code
+pub emission_layable : (b : Body) (first : ℕ) (states : List State) (array : ℕ) → IsWellMadeOfAnySize b → IsLayable (emission b first states (by_method array)).code
 unfolding emission
 emission_layable b first states array made = record {
-  well_formed = all_formed b first made.code;
-  places = all_within b first made.code;
-  few = few_in b first states array made.code;
+  well_formed = all_formed b first fetches.Member (integer_in []) made.code;
+  places = all_within b first fetches.Member (integer_in []) made.code;
+  few = few_in b first states (by_method array) made.code;
 }
 
 -- ---- more names

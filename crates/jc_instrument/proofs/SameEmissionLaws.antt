@@ -1,5 +1,5 @@
 -- The instrumented code of a body that was read under two lists of names: its frames say the same by names, and the rest is equal.
-use Rattle.std.proofs.Common.{◌≡◌, ◌⊎◌, inl, inr, ℕ, zero, suc, ◌+◌, ◌-◌, ◌<◌, ◌≤◌, Bool, true, false, ◌&&◌, ◌||◌, not, nat_eq, List, [], ◌∷◌, ◌++◌, length, map, take, Option, Some, None, refl, sym, ◌∙◌, ap, ap₂, arith, if◌then◌else◌}
+use Rattle.std.proofs.Common.{◌≡◌, ◌⊎◌, inl, inr, ℕ, zero, suc, ◌+◌, ◌-◌, ◌<◌, ◌≤◌, Bool, true, false, ◌&&◌, ◌||◌, nat_eq, List, [], ◌∷◌, ◌++◌, length, map, take, Option, Some, None, refl, sym, ◌∙◌, ap, ap₂, arith, if◌then◌else◌}
 use Rattle.std.specs.List.{list_any, take-map}
 use Rattle.std.specs.Prelude.{is_some, is_none}
 use Rattle.std.proofs.lemmas.Bool.{cases_lt}
@@ -11,10 +11,9 @@ use Rattle.jc_bytes.specs.PlainLists.{pieces}
 use Rattle.jc_methods.specs.declared.body.Body.{Body}
 use Rattle.jc_methods.specs.declared.body.FrameAt.{FrameAt}
 use Rattle.jc_methods.specs.declared.emitted.Emitted.{Emitted}
-use Rattle.jc_methods.specs.declared.insn.Flow.{Flow}
-use Rattle.jc_methods.specs.declared.insn.Flow.TheVariants as flows
 use Rattle.jc_methods.specs.declared.insn.Insn.{Insn}
 use Rattle.jc_methods.specs.declared.kind.State.{State}
+use Rattle.jc_methods.specs.declared.probe_members.Fetch.TheVariants as fetches
 use Rattle.jc_pool.specs.Pool.{PoolValue}
 use Rattle.jc_kinds_after.specs.Shift.{shifted}
 use Rattle.jc_kinds.specs.Answers.{AreStates}
@@ -27,12 +26,14 @@ use Rattle.jc_layout.specs.Merged.{merged}
 use Rattle.jc_instrument_code.specs.CodeText.{code_text, counted_text, row_text}
 use Rattle.jc_instrument_code.specs.TwinCode.{code_attributes, offset_in, twin_code, written_frames}
 use Rattle.jc_emit.specs.Marks.{unplaced}
-use Rattle.jc_emit.specs.Emission.{IsArrayNumber, arm_frame, arm_frames, emission, frame, frame_if, frames_at, has_frame, has_inverse, is_further, moved_state, wide_frames_at}
+use Rattle.jc_emit.specs.Emission.{Emitting, IsArrayNumber, arm_frame, arm_frames, emission, frame, frame_if, frames_at, has_frame, has_inverse, moved_state, tests_by, wide_frames_at}
 use Rattle.jc_emit.specs.Items.{at_of, extra_of, image_of, insn_of, land_of, lead_of, own_of}
 use Rattle.jc_emit.specs.Sizes.{narrow, arms_at, hop_size, insn_at, late_probe}
 use Rattle.jc_emit.specs.TwinFrames.{left_by, no_state, operands_of, state_at, state_behind}
 use Rattle.jc_emit.specs.TwinTables.{moved_line, moved_row, moved_var}
+use Rattle.jc_emit.specs.Written.{integer_in}
 use Rattle.jc_emit.proofs.FrameLaws.{seen_moved}
+use Rattle.jc_instrument_reread.specs.WrittenCode.{by_method}
 use Rattle.jc_instrument.specs.SameAnalysis.{without_frames}
 use Rattle.jc_instrument.proofs.SameAnalysisLaws.{same_but_frames, same_lead}
 use Rattle.jc_instrument_reread.proofs.SameBodyLaws.{AreSame, same_state}
@@ -56,17 +57,17 @@ by_bare : {X : Type 0} (f : Body → X) → ((x : Body) → f x ≡ f (without_f
 by_bare f bare a b same = bare a ∙ ap f same ∙ sym (bare b)
 
 bare_emission : (b : Body) (first : ℕ) (states : List State) (array : ℕ)
-    → code_and_tables (emission b first states array) ≡ code_and_tables (emission (without_frames b) first [] 0)
+    → code_and_tables (emission b first states (by_method array)) ≡ code_and_tables (emission (without_frames b) first [] (by_method 0))
 unfolding emission
 bare_emission b first states array = λ k. record {
-  code = map (insn_of unplaced b.arg_slots) (same_items b first k);
-  at = map at_of (same_items b first k);
-  own = map own_of (same_items b first k);
-  extra = map extra_of (same_items b first k);
-  handlers = map (moved_row (λ i. same_lead_place b first i k) (λ i. same_land b first i k)) b.handlers;
-  lines = map (moved_line (λ i. same_land b first i k)) b.lines;
-  vars = map (moved_var b.arg_slots (λ i. same_land b first i k)) b.vars;
-  kind_vars = map (moved_var b.arg_slots (λ i. same_land b first i k)) b.kind_vars;
+  code = map (insn_of (unplaced (integer_in [])) b.arg_slots) (same_items b first fetches.Member k);
+  at = map at_of (same_items b first fetches.Member k);
+  own = map own_of (same_items b first fetches.Member k);
+  extra = map extra_of (same_items b first fetches.Member k);
+  handlers = map (moved_row (λ i. same_lead_place b first fetches.Member i k) (λ i. same_land b first fetches.Member i k)) b.handlers;
+  lines = map (moved_line (λ i. same_land b first fetches.Member i k)) b.lines;
+  vars = map (moved_var b.arg_slots (λ i. same_land b first fetches.Member i k)) b.vars;
+  kind_vars = map (moved_var b.arg_slots (λ i. same_land b first fetches.Member i k)) b.kind_vars;
   frames = [];
   wide_frames = [];
   max_stack = b.max_stack + 3;
@@ -74,10 +75,10 @@ bare_emission b first states array = λ k. record {
 }
 
 same_rest : (a b : Body) (first : ℕ) (states more : List State) (array other : ℕ) → without_frames a ≡ without_frames b
-    → code_and_tables (emission a first states array) ≡ code_and_tables (emission b first more other)
+    → code_and_tables (emission a first states (by_method array)) ≡ code_and_tables (emission b first more (by_method other))
 same_rest a b first states more array other bare =
     bare_emission a first states array
-    ∙ ap (λ (x : Body). code_and_tables (emission x first [] 0)) bare
+    ∙ ap (λ (x : Body). code_and_tables (emission x first [] (by_method 0))) bare
     ∙ sym (bare_emission b first more other)
 
 -- ---- states
@@ -129,33 +130,33 @@ frame_if_same names others t u f g tests same = ap (λ (x : Bool). map (type_sta
     by false = refl
 
 -- the frames of what belongs to i, in their three parts
-module _ (b : Body) (first : ℕ) (states : List State) (array i : ℕ) where
+module _ (b : Body) (first : ℕ) (states : List State) (given : Emitting) (i : ℕ) where
   abbrev moved : State → State
-  moved s = moved_state b first states array s
+  moved s = moved_state b first states given s
 
   abbrev leads_there : Bool
-  leads_there = has_inverse b first states array i && is_some (lead_probe b first i)
+  leads_there = has_inverse b first states given i && is_some (lead_probe b first i)
 
   abbrev lead_frame : FrameAt
-  lead_frame = frame (lead_of b first narrow i) (moved (state_at states i))
+  lead_frame = frame (lead_of b first (narrow given.fetch) i) (moved (state_at states i))
 
   abbrev lands_there : Bool
-  lands_there = has_frame b first states array i || (has_inverse b first states array i && is_none (lead_probe b first i))
+  lands_there = has_frame b first states given i || (has_inverse b first states given i && is_none (lead_probe b first i))
 
   abbrev land_frame : FrameAt
-  land_frame = frame (land_of b first narrow i) (moved (state_at states i))
+  land_frame = frame (land_of b first (narrow given.fetch) i) (moved (state_at states i))
 
   abbrev left : State
   left = left_by (insn_at b.code i) (state_at states i)
 
   abbrev frames_of_arms : List FrameAt
-  frames_of_arms = arm_frames b first states array (image_of b first narrow i + 1) (moved left) (arms_at b.code i)
+  frames_of_arms = arm_frames b first states given (image_of b first (narrow given.fetch) i + 1) (moved left) (arms_at b.code i)
 
   abbrev behind : State
   behind = state_behind b states i (late_probe b first i)
 
-  abbrev goes_further : Bool
-  goes_further = is_further b first states array i (late_probe b first i) (flow_of (insn_at b.code i))
+  abbrev tests : Bool
+  tests = tests_by b first states given (flow_of (insn_at b.code i))
 
 module _ (names others : Names) (a b : Body) (first : ℕ) (states more : List State) (array other : ℕ) (bare : without_frames a ≡ without_frames b)
     (alike : SayTheSame names others a.frames b.frames) (named : IsArrayNumber names array) (called : IsArrayNumber others other)
@@ -165,14 +166,14 @@ module _ (names others : Names) (a b : Body) (first : ℕ) (states more : List S
   codes_same : a.code ≡ b.code
   codes_same = ap (λ (x : Body). x.code) bare
 
-  leads_same : (i : ℕ) → lead_of a first narrow i ≡ lead_of b first narrow i
-  leads_same i = by_bare (λ x. lead_of x first narrow i) (λ x. same_lead_place x first i) a b bare
+  leads_same : (i : ℕ) → lead_of a first (narrow fetches.Member) i ≡ lead_of b first (narrow fetches.Member) i
+  leads_same i = by_bare (λ x. lead_of x first (narrow fetches.Member) i) (λ x. same_lead_place x first fetches.Member i) a b bare
 
-  lands_same : (i : ℕ) → land_of a first narrow i ≡ land_of b first narrow i
-  lands_same i = by_bare (λ x. land_of x first narrow i) (λ x. same_land x first i) a b bare
+  lands_same : (i : ℕ) → land_of a first (narrow fetches.Member) i ≡ land_of b first (narrow fetches.Member) i
+  lands_same i = by_bare (λ x. land_of x first (narrow fetches.Member) i) (λ x. same_land x first fetches.Member i) a b bare
 
-  images_same : (i : ℕ) → image_of a first narrow i ≡ image_of b first narrow i
-  images_same i = by_bare (λ x. image_of x first narrow i) (λ x. same_image x first i) a b bare
+  images_same : (i : ℕ) → image_of a first (narrow fetches.Member) i ≡ image_of b first (narrow fetches.Member) i
+  images_same i = by_bare (λ x. image_of x first (narrow fetches.Member) i) (λ x. same_image x first fetches.Member i) a b bare
 
   lead_probes_same : (i : ℕ) → lead_probe a first i ≡ lead_probe b first i
   lead_probes_same i = by_bare (λ x. lead_probe x first i) (λ x. same_lead x first i) a b bare
@@ -183,31 +184,31 @@ module _ (names others : Names) (a b : Body) (first : ℕ) (states more : List S
   probes_same : (x : Branch) → probe_of a first x ≡ probe_of b first x
   probes_same x = by_bare (λ y. probe_of y first x) (λ y. same_probe y first x) a b bare
 
-  has_frames_same : (i : ℕ) → has_frame a first states array i ≡ has_frame b first more other i
+  has_frames_same : (i : ℕ) → has_frame a first states (by_method array) i ≡ has_frame b first more (by_method other) i
   has_frames_same i =
       any_seen names a.frames i
       ∙ ap (list_any (λ (s : TypeStateAt). nat_eq s.at i)) alike
       ∙ sym (any_seen others b.frames i)
 
-  inverses_same : (i : ℕ) → has_inverse a first states array i ≡ has_inverse b first more other i
+  inverses_same : (i : ℕ) → has_inverse a first states (by_method array) i ≡ has_inverse b first more (by_method other) i
   inverses_same zero = refl
   inverses_same (suc i) = ap is_some (late_probes_same i)
 
   -- ---- states
 
   moved_same : (s t : State) → type_state names s ≡ type_state others t
-      → type_state names (moved_state a first states array s) ≡ type_state others (moved_state b first more other t)
+      → type_state names (moved_state a first states (by_method array) s) ≡ type_state others (moved_state b first more (by_method other) t)
   moved_same s t same =
-      seen_moved names a.arg_slots array (image_of a first narrow) s named
+      seen_moved names a.arg_slots array (image_of a first (narrow fetches.Member)) s named
       ∙ (λ k. shifted (λ i. images_same i k) ((bare k).arg_slots) (same k))
-      ∙ sym (seen_moved others b.arg_slots other (image_of b first narrow) t called)
+      ∙ sym (seen_moved others b.arg_slots other (image_of b first (narrow fetches.Member)) t called)
 
   -- a frame with such a state
   frame_same : (p q : ℕ) (s t : State) → p ≡ q → type_state names s ≡ type_state others t
-      → type_state_at names (frame p (moved_state a first states array s)) ≡ type_state_at others (frame q (moved_state b first more other t))
+      → type_state_at names (frame p (moved_state a first states (by_method array) s)) ≡ type_state_at others (frame q (moved_state b first more (by_method other) t))
   frame_same p q s t place same = λ k. record { at = place k; state = moved_same s t same k }
 
-  left_same : (i : ℕ) → type_state names (left a first states array i) ≡ type_state others (left b first more other i)
+  left_same : (i : ℕ) → type_state names (left a first states (by_method array) i) ≡ type_state others (left b first more (by_method other) i)
   left_same i =
       left_seen names (insn_at a.code i) (state_at states i)
       ∙ (λ k. seen_left (insn_at (codes_same k) i) (all i k))
@@ -216,85 +217,71 @@ module _ (names others : Names) (a b : Body) (first : ℕ) (states more : List S
   -- ---- the arms of a switch
 
   arm_same : (p q : ℕ) (s t : State) (o u : Option ℕ) → p ≡ q → type_state names s ≡ type_state others t → o ≡ u
-      → SayTheSame names others (arm_frame a first states array p s o) (arm_frame b first more other q t u)
-  arm_same p q s t o u place same e = ap (λ (x : Option ℕ). map (type_state_at names) (arm_frame a first states array p s x)) e ∙ by u
+      → SayTheSame names others (arm_frame a first states (by_method array) p s o) (arm_frame b first more (by_method other) q t u)
+  arm_same p q s t o u place same e = ap (λ (x : Option ℕ). map (type_state_at names) (arm_frame a first states (by_method array) p s x)) e ∙ by u
     where
-      by : (x : Option ℕ) → SayTheSame names others (arm_frame a first states array p s x) (arm_frame b first more other q t x)
+      by : (x : Option ℕ) → SayTheSame names others (arm_frame a first states (by_method array) p s x) (arm_frame b first more (by_method other) q t x)
       by None = refl
       by (Some id) = λ k. record { at = place k; state = same k } ∷ []
 
   arms_same : (p q : ℕ) (s t : State) → p ≡ q → type_state names s ≡ type_state others t → (xs : List Branch)
-      → SayTheSame names others (arm_frames a first states array p s xs) (arm_frames b first more other q t xs)
+      → SayTheSame names others (arm_frames a first states (by_method array) p s xs) (arm_frames b first more (by_method other) q t xs)
   arms_same p q s t place same [] = refl
   arms_same p q s t place same (x ∷ xs) =
-      both_same names others (arm_frame a first states array p s (probe_of a first x)) (arm_frame b first more other q t (probe_of b first x))
-      (arm_frames a first states array (p + hop_size (probe_of a first x)) s xs) (arm_frames b first more other (q + hop_size (probe_of b first x)) t xs)
+      both_same names others (arm_frame a first states (by_method array) p s (probe_of a first x)) (arm_frame b first more (by_method other) q t (probe_of b first x))
+      (arm_frames a first states (by_method array) (p + hop_size (probe_of a first x)) s xs) (arm_frames b first more (by_method other) (q + hop_size (probe_of b first x)) t xs)
       (arm_same p q s t (probe_of a first x) (probe_of b first x) place same (probes_same x))
       (arms_same (p + hop_size (probe_of a first x)) (q + hop_size (probe_of b first x)) s t (λ k. place k + hop_size (probes_same x k)) same xs)
 
-  all_arms_same : (i : ℕ) → SayTheSame names others (frames_of_arms a first states array i) (frames_of_arms b first more other i)
+  all_arms_same : (i : ℕ) → SayTheSame names others (frames_of_arms a first states (by_method array) i) (frames_of_arms b first more (by_method other) i)
   all_arms_same i =
-      ap (λ (code : List Insn). map (type_state_at names) (arm_frames a first states array (image_of a first narrow i + 1)
-      (moved a first states array i (left a first states array i)) (arms_at code i))) codes_same
-      ∙ arms_same (image_of a first narrow i + 1) (image_of b first narrow i + 1) (moved a first states array i (left a first states array i))
-      (moved b first more other i (left b first more other i)) (λ k. images_same i k + 1)
-      (moved_same (left a first states array i) (left b first more other i) (left_same i)) (arms_at b.code i)
+      ap (λ (code : List Insn). map (type_state_at names) (arm_frames a first states (by_method array) (image_of a first (narrow fetches.Member) i + 1)
+      (moved a first states (by_method array) i (left a first states (by_method array) i)) (arms_at code i))) codes_same
+      ∙ arms_same (image_of a first (narrow fetches.Member) i + 1) (image_of b first (narrow fetches.Member) i + 1)
+      (moved a first states (by_method array) i (left a first states (by_method array) i))
+      (moved b first more (by_method other) i (left b first more (by_method other) i)) (λ k. images_same i k + 1)
+      (moved_same (left a first states (by_method array) i) (left b first more (by_method other) i) (left_same i)) (arms_at b.code i)
 
   -- ---- each part
 
-  frames_at_same : (i : ℕ) → SayTheSame names others (frames_at a first states array i) (frames_at b first more other i)
+  frames_at_same : (i : ℕ) → SayTheSame names others (frames_at a first states (by_method array) i) (frames_at b first more (by_method other) i)
   frames_at_same i =
       both_same names others
-      (frame_if (leads_there a first states array i) (lead_frame a first states array i))
-      (frame_if (leads_there b first more other i) (lead_frame b first more other i))
-      (frame_if (lands_there a first states array i) (land_frame a first states array i) ++ frames_of_arms a first states array i)
-      (frame_if (lands_there b first more other i) (land_frame b first more other i) ++ frames_of_arms b first more other i)
-      (frame_if_same names others (leads_there a first states array i) (leads_there b first more other i)
-      (lead_frame a first states array i) (lead_frame b first more other i)
+      (frame_if (leads_there a first states (by_method array) i) (lead_frame a first states (by_method array) i))
+      (frame_if (leads_there b first more (by_method other) i) (lead_frame b first more (by_method other) i))
+      (frame_if (lands_there a first states (by_method array) i) (land_frame a first states (by_method array) i) ++ frames_of_arms a first states (by_method array) i)
+      (frame_if (lands_there b first more (by_method other) i) (land_frame b first more (by_method other) i) ++ frames_of_arms b first more (by_method other) i)
+      (frame_if_same names others (leads_there a first states (by_method array) i) (leads_there b first more (by_method other) i)
+      (lead_frame a first states (by_method array) i) (lead_frame b first more (by_method other) i)
       (λ k. inverses_same i k && is_some (lead_probes_same i k))
-      (frame_same (lead_of a first narrow i) (lead_of b first narrow i) (state_at states i) (state_at more i) (leads_same i) (all i)))
+      (frame_same (lead_of a first (narrow fetches.Member) i) (lead_of b first (narrow fetches.Member) i) (state_at states i) (state_at more i) (leads_same i) (all i)))
       (both_same names others
-      (frame_if (lands_there a first states array i) (land_frame a first states array i))
-      (frame_if (lands_there b first more other i) (land_frame b first more other i))
-      (frames_of_arms a first states array i) (frames_of_arms b first more other i)
-      (frame_if_same names others (lands_there a first states array i) (lands_there b first more other i)
-      (land_frame a first states array i) (land_frame b first more other i)
+      (frame_if (lands_there a first states (by_method array) i) (land_frame a first states (by_method array) i))
+      (frame_if (lands_there b first more (by_method other) i) (land_frame b first more (by_method other) i))
+      (frames_of_arms a first states (by_method array) i) (frames_of_arms b first more (by_method other) i)
+      (frame_if_same names others (lands_there a first states (by_method array) i) (lands_there b first more (by_method other) i)
+      (land_frame a first states (by_method array) i) (land_frame b first more (by_method other) i)
       (λ k. has_frames_same i k || (inverses_same i k && is_none (lead_probes_same i k)))
-      (frame_same (land_of a first narrow i) (land_of b first narrow i) (state_at states i) (state_at more i) (lands_same i) (all i)))
+      (frame_same (land_of a first (narrow fetches.Member) i) (land_of b first (narrow fetches.Member) i) (state_at states i) (state_at more i) (lands_same i) (all i)))
       (all_arms_same i))
 
-  further_same : (i : ℕ) (o : Option ℕ) (flow : Flow) → is_further a first states array i o flow ≡ is_further b first more other i o flow
-  further_same i None flows.Branches = λ k. not (has_frames_same (i + 1) k && is_none (lead_probes_same (i + 1) k))
-  further_same i (Some id) flows.Branches = refl
-  further_same i None flows.GoesOn = refl
-  further_same i None flows.Jumps = refl
-  further_same i None flows.Switches = refl
-  further_same i None flows.Returns = refl
-  further_same i None flows.Throws = refl
-  further_same i (Some id) flows.GoesOn = refl
-  further_same i (Some id) flows.Jumps = refl
-  further_same i (Some id) flows.Switches = refl
-  further_same i (Some id) flows.Returns = refl
-  further_same i (Some id) flows.Throws = refl
+  tests_same : (i : ℕ) → tests a first states (by_method array) i ≡ tests b first more (by_method other) i
+  tests_same i = λ k. tests_by b first more (by_method other) (flow_of (insn_at (codes_same k) i))
 
-  all_further_same : (i : ℕ) → goes_further a first states array i ≡ goes_further b first more other i
-  all_further_same i =
-      (λ k. is_further a first states array i (late_probes_same i k) (flow_of (insn_at (codes_same k) i)))
-      ∙ further_same i (late_probe b first i) (flow_of (insn_at b.code i))
-
-  behind_same : (i : ℕ) → type_state names (behind a first states array i) ≡ type_state others (behind b first more other i)
+  behind_same : (i : ℕ) → type_state names (behind a first states (by_method array) i) ≡ type_state others (behind b first more (by_method other) i)
   behind_same i = ap (λ (o : Option ℕ). type_state names (state_behind a states i o)) (late_probes_same i) ∙ by (late_probe b first i)
     where
       by : (o : Option ℕ) → type_state names (state_behind a states i o) ≡ type_state others (state_behind b more i o)
       by None = all (i + 1)
       by (Some id) = left_same i
 
-  wide_frames_at_same : (i : ℕ) → SayTheSame names others (wide_frames_at a first states array i) (wide_frames_at b first more other i)
+  wide_frames_at_same : (i : ℕ) → SayTheSame names others (wide_frames_at a first states (by_method array) i) (wide_frames_at b first more (by_method other) i)
   wide_frames_at_same i =
-      frame_if_same names others (goes_further a first states array i) (goes_further b first more other i)
-      (frame (image_of a first narrow i + 1) (moved a first states array i (behind a first states array i)))
-      (frame (image_of b first narrow i + 1) (moved b first more other i (behind b first more other i))) (all_further_same i)
-      (frame_same (image_of a first narrow i + 1) (image_of b first narrow i + 1) (behind a first states array i) (behind b first more other i)
+      frame_if_same names others (tests a first states (by_method array) i) (tests b first more (by_method other) i)
+      (frame (image_of a first (narrow fetches.Member) i + 1) (moved a first states (by_method array) i (behind a first states (by_method array) i)))
+      (frame (image_of b first (narrow fetches.Member) i + 1) (moved b first more (by_method other) i (behind b first more (by_method other) i))) (tests_same i)
+      (frame_same (image_of a first (narrow fetches.Member) i + 1) (image_of b first (narrow fetches.Member) i + 1)
+      (behind a first states (by_method array) i) (behind b first more (by_method other) i)
       (λ k. images_same i k + 1) (behind_same i))
 
   -- ---- the whole
@@ -304,17 +291,17 @@ module _ (names others : Names) (a b : Body) (first : ℕ) (states more : List S
   all_parts_same f g each =
       ap (λ (code : List Insn). map (type_state_at names) (pieces f (length code))) codes_same ∙ pieces_same names others f g each (length b.code)
 
-  emitted_same : IsSameEmission names others (emission a first states array) (emission b first more other)
+  emitted_same : IsSameEmission names others (emission a first states (by_method array)) (emission b first more (by_method other))
   unfolding emission
   emitted_same = record {
     rest = same_rest a b first states more array other bare;
-    frames = all_parts_same (frames_at a first states array) (frames_at b first more other) frames_at_same;
-    wide_frames = all_parts_same (wide_frames_at a first states array) (wide_frames_at b first more other) wide_frames_at_same;
+    frames = all_parts_same (frames_at a first states (by_method array)) (frames_at b first more (by_method other)) frames_at_same;
+    wide_frames = all_parts_same (wide_frames_at a first states (by_method array)) (wide_frames_at b first more (by_method other)) wide_frames_at_same;
   }
 
 pub same_emission : (names others : Names) (a b : Body) → AreSame names others a b → (first : ℕ) (states more : List State) (array other : ℕ)
     → IsArrayNumber names array → IsArrayNumber others other → AreStates names a states → AreStates others b more
-    → IsSameEmission names others (emission a first states array) (emission b first more other)
+    → IsSameEmission names others (emission a first states (by_method array)) (emission b first more (by_method other))
 same_emission names others a b same first states more array other named called p q =
     emitted_same names others a b first states more array other (same_but_frames names others a b same) same.seen named called
     (same_states names others a b same states more p q)

@@ -1,5 +1,5 @@
 -- Frames of two lists that say the same by the names of classes, put together.
-use Rattle.std.proofs.Common.{◌≡◌, ℕ, zero, suc, Bool, true, false, List, [], ◌∷◌, ◌++◌, map, nat_lt, refl, sym, ◌∙◌, ap, ap₂, if◌then◌else◌}
+use Rattle.std.proofs.Common.{◌≡◌, ℕ, zero, suc, Bool, true, false, List, [], ◌∷◌, ◌++◌, map, nat_eq, nat_lt, refl, sym, ◌∙◌, ap, ap₂, if◌then◌else◌}
 use Rattle.std.proofs.lemmas.List.{map-append}
 use Rattle.jc_methods.specs.VerificationTypes.{Names, TypeStateAt, type_state_at}
 use Rattle.jc_bytes.specs.PlainLists.{pieces}
@@ -28,12 +28,14 @@ module _ (names others : Names) where
   put_same f g [] (y ∷ gs) same all = absurd (no_frame (sym all))
   put_same f g (x ∷ fs) [] same all = absurd (no_frame all)
   put_same f g (x ∷ fs) (y ∷ gs) same all =
-      ap₂ (λ (m n : ℕ). map (type_state_at names) (if nat_lt m n then f ∷ x ∷ fs else x ∷ with_frame f fs)) (ap (λ (s : TypeStateAt). s.at) same)
-      (ap (λ (s : TypeStateAt). s.at) (same_head all)) ∙ by (nat_lt g.at y.at) (put_same f g fs gs same (same_tail all))
+      ap₂ (λ (m n : ℕ). map (type_state_at names) (if nat_lt m n then f ∷ x ∷ fs else if nat_eq m n then x ∷ fs else x ∷ with_frame f fs)) (ap (λ (s : TypeStateAt). s.at) same)
+      (ap (λ (s : TypeStateAt). s.at) (same_head all)) ∙ by (nat_lt g.at y.at) (nat_eq g.at y.at) (put_same f g fs gs same (same_tail all))
     where
-      by : (t : Bool) → SayTheSame (with_frame f fs) (with_frame g gs) → SayTheSame (if t then f ∷ x ∷ fs else x ∷ with_frame f fs) (if t then g ∷ y ∷ gs else y ∷ with_frame g gs)
-      by true later = λ i. same i ∷ all i
-      by false later = ap₂ (λ (s : TypeStateAt) (ss : List TypeStateAt). s ∷ ss) (same_head all) later
+      by : (t u : Bool) → SayTheSame (with_frame f fs) (with_frame g gs)
+          → SayTheSame (if t then f ∷ x ∷ fs else if u then x ∷ fs else x ∷ with_frame f fs) (if t then g ∷ y ∷ gs else if u then y ∷ gs else y ∷ with_frame g gs)
+      by true u later = λ i. same i ∷ all i
+      by false true later = all
+      by false false later = ap₂ (λ (s : TypeStateAt) (ss : List TypeStateAt). s ∷ ss) (same_head all) later
 
   pub merged_same : (fs gs more last : List FrameAt) → SayTheSame fs gs → SayTheSame more last → SayTheSame (merged fs more) (merged gs last)
   merged_same fs gs [] [] p q = p

@@ -11,6 +11,7 @@ use Rattle.jc_body.specs.BodyOf.{BodyOf}
 use Rattle.jc_plan.specs.Probed.{first_id}
 use Rattle.jc_instrument_code.specs.TwinCode.{written_frames}
 use Rattle.jc_emit.specs.Emission.{emission}
+use Rattle.jc_instrument_reread.specs.WrittenCode.{by_method}
 use Rattle.jc_instrument.specs.SameAnalysis.{without_frames}
 use Rattle.jc_instrument.specs.BodiesWithStates.{BodyWithStates, AreBodiesWithStates, all_frames, bodies_of, emitted_of}
 use Rattle.jc_instrument.proofs.ListedLaws.{body_at}
@@ -71,7 +72,7 @@ module _ (names others : Names) (array other : ℕ) (c : ClassFile) (works more 
     work_same : IsSameWork names others array other w x
     work_same = record {
       method = number_same;
-      emission = subst (λ (first : ℕ). IsSameEmission names others (emission w.body first w.states array) (emitted_of other x)) (sym first_same)
+      emission = subst (λ (first : ℕ). IsSameEmission names others (emission w.body first w.states (by_method array)) (emitted_of other x)) (sym first_same)
           (same_emission names others w.body x.body body_same x.first w.states x.states array other are.array_is too.array_is
           (are.each i w stands).states (too.each i x stands_too).states);
     }

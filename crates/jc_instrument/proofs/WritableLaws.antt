@@ -1,6 +1,6 @@
 -- The frames of instrumented code can be written.
 use Rattle.std.proofs.Common.{◌≡◌, ◌⊎◌, inl, inr, ⊎_elim, ℕ, zero, suc, ◌+◌, ◌-◌, ◌<◌, ◌≤◌, Bool, true, false, ◌&&◌, ◌||◌, List, [], ◌∷◌, length, map, take, drop, Option, Some, None, refl, sym, ◌∙◌, ap, subst, arith}
-use Rattle.std.specs.Prelude.{Contains, sum_by, insert, is_some, is_none, slice_index, if◌then◌else◌}
+use Rattle.std.specs.Prelude.{Contains, replicate, sum_by, insert, is_some, is_none, slice_index, if◌then◌else◌}
 use Rattle.std.specs.List.{AllByRecursion}
 use Rattle.std.proofs.lemmas.Bool.{cases_lt}
 use Rattle.std.proofs.lemmas.List.{get_or_past, length-map}
@@ -11,6 +11,7 @@ use Rattle.jc_methods.specs.Flow.{flow_of}
 use Rattle.jc_methods.specs.VerificationTypes.{Names, IsNumbered, IsNumberedState}
 use Rattle.jc_bytes.specs.PlainLists.{pieces}
 use Rattle.jc_methods.specs.WellMade.{IsKind, IsWellMadeOfAnySize, kind_slots}
+use Rattle.jc_methods.specs.Widened.{WideSet, listed}
 use Rattle.jc_methods.specs.Opcode as opcode
 use Rattle.jc_methods.specs.declared.body.Body.{Body}
 use Rattle.jc_methods.specs.declared.body.FrameAt.{FrameAt}
@@ -20,6 +21,7 @@ use Rattle.jc_methods.specs.declared.insn.Insn.TheVariants as insns
 use Rattle.jc_methods.specs.declared.kind.Kind.{Kind}
 use Rattle.jc_methods.specs.declared.kind.Kind.TheVariants as kinds
 use Rattle.jc_methods.specs.declared.kind.State.{State}
+use Rattle.jc_methods.specs.declared.probe_members.Fetch.TheVariants as fetches
 use Rattle.jc_bytes.proofs.FirstSeenLaws.{contains_one}
 use Rattle.jc_methods.specs.FrameOrder.{RiseFrom}
 use Rattle.jc_bytes.proofs.BooleanLaws.{none_in, first_in, later_in}
@@ -35,10 +37,11 @@ use Rattle.jc_emit.specs.Shift.{image_kind, probe_array_class, shifted_state}
 use Rattle.jc_emit.specs.Sizes.{narrow, insn_at, late_probe, arms_at, hop_size, arm_sizes}
 use Rattle.jc_emit.specs.TwinFrames.{no_state, operands_of, state_at, left_by, state_behind}
 use Rattle.jc_emit.specs.Items.{insn_of, lead_of, land_of, image_of, segment_size, twin_items}
-use Rattle.jc_emit.specs.Emission.{emission, IsArrayNumber, frame, frame_if, moved_state, has_frame, has_inverse, is_further, arm_frame, arm_frames, frames_at, wide_frames_at}
+use Rattle.jc_emit.specs.Emission.{emission, IsArrayNumber, frame, frame_if, moved_state, has_frame, has_inverse, tests_by, arm_frame, arm_frames, frames_at, wide_frames_at}
 use Rattle.jc_emit.specs.Refusing.{HasRoom}
 use Rattle.jc_emit.specs.Stages.{AreLayoutFrames}
 use Rattle.jc_emit.specs.Twin.{IsEmitted}
+use Rattle.jc_emit.specs.Written.{integer_in}
 use Rattle.jc_emit.proofs.BuiltLaws.{length_twin}
 use Rattle.jc_emit.proofs.FrameListsLaws.{in_piece, if_listed}
 use Rattle.jc_emit.proofs.RowLaws.{total_grows}
@@ -52,6 +55,9 @@ use Rattle.jc_layout.specs.declared.layouts.Laid.{Laid}
 use Rattle.jc_instrument_code.specs.Given.{AreFrames, IsLaid}
 use Rattle.jc_instrument_code.specs.TwinCode.{chosen_frames}
 use Rattle.jc_instrument_code.proofs.LaidLaws.{can_be_written, laid_length, laid_rise}
+use Rattle.jc_instrument_reread.specs.WrittenCode.{by_method}
+use Rattle.jc_instrument.specs.RoomCauses.{probed_code}
+use Rattle.jc_instrument.proofs.GivenLaws.{layout_same}
 use Rattle.jc_instrument.proofs.ProbingLaws.{array_stands, emission_code}
 
 -- ---- values
@@ -183,19 +189,19 @@ record IsDone (end names : ℕ) (f : FrameAt) : Type 0 where
 module _ (b : Body) (first : ℕ) (states : List State) (array : ℕ) (names : Names) (are : AreStates names b states) (array_is : IsArrayNumber names array)
     (locals : b.max_locals + 1 ≤ 65535) (stack : b.max_stack ≤ 65535) where
   abbrev lead : ℕ → ℕ
-  lead i = lead_of b first narrow i
+  lead i = lead_of b first (narrow fetches.Member) i
 
   abbrev land : ℕ → ℕ
-  land i = land_of b first narrow i
+  land i = land_of b first (narrow fetches.Member) i
 
   abbrev q_of : ℕ → ℕ
-  q_of i = image_of b first narrow i
+  q_of i = image_of b first (narrow fetches.Member) i
 
   abbrev end : ℕ
   end = lead (length b.code)
 
   abbrev moved : State → State
-  moved s = moved_state b first states array s
+  moved s = moved_state b first states (by_method array) s
 
   abbrev Done : FrameAt → Type 0
   Done f = IsDone end (length names) f
@@ -204,7 +210,7 @@ module _ (b : Body) (first : ℕ) (states : List State) (array : ℕ) (names : N
   Source s = IsSource b.code (length names) s
 
   lead_grows : (i j : ℕ) → i ≤ j → lead i ≤ lead j
-  lead_grows i j le = omega (arith, total_grows (segment_size b first narrow) i j le)
+  lead_grows i j le = omega (arith, total_grows (segment_size b first (narrow fetches.Member)) i j le)
 
   image_within : (i : ℕ) → i < length b.code → q_of i < end
   image_within i lt = let g = lead_grows (suc i) (length b.code) (omega (arith, lt)) in omega (arith, g)
@@ -241,10 +247,10 @@ module _ (b : Body) (first : ℕ) (states : List State) (array : ℕ) (names : N
   }
 
   abbrev leads_there : ℕ → Bool
-  leads_there i = has_inverse b first states array i && is_some (lead_probe b first i)
+  leads_there i = has_inverse b first states (by_method array) i && is_some (lead_probe b first i)
 
   abbrev lands_there : ℕ → Bool
-  lands_there i = has_frame b first states array i || (has_inverse b first states array i && is_none (lead_probe b first i))
+  lands_there i = has_frame b first states (by_method array) i || (has_inverse b first states (by_method array) i && is_none (lead_probe b first i))
 
   abbrev lead_frames : ℕ → List FrameAt
   lead_frames i = frame_if (leads_there i) (frame (lead i) (moved (state_at states i)))
@@ -268,38 +274,38 @@ module _ (b : Body) (first : ℕ) (states : List State) (array : ℕ) (names : N
       subst Done h.1 (moved_done (land i) (state_at states i) (omega arith) (omega (arith, w)) (source_at i))
 
   arms_done : (here : ℕ) (s : State) (xs : List Branch) → Source s → 2 ≤ here → here + arm_sizes (probe_of b first) xs ≤ end
-      → (f : FrameAt) → Contains (arm_frames b first states array here (moved s) xs) f → Done f
+      → (f : FrameAt) → Contains (arm_frames b first states (by_method array) here (moved s) xs) f → Done f
   arms_done here s [] source behind within f c = absurd (none_in f c)
   arms_done here s (x ∷ xs) source behind within f c =
       ⊎_elim (λ front. single (probe_of b first x) front)
       (λ rest. arms_done (here + hop_size (probe_of b first x)) s xs source (omega (arith, behind)) (omega (arith, within)) f rest)
-      (Contains-append_cases (arm_frame b first states array here (moved s) (probe_of b first x)) _ f c)
+      (Contains-append_cases (arm_frame b first states (by_method array) here (moved s) (probe_of b first x)) _ f c)
     where
-      single : (o : Option ℕ) → Contains (arm_frame b first states array here (moved s) o) f → Done f
+      single : (o : Option ℕ) → Contains (arm_frame b first states (by_method array) here (moved s) o) f → Done f
       single None d = absurd (none_in f d)
       single (Some id) d = subst Done (contains_one (frame here (moved s)) f d) (moved_done here s behind (omega (arith, within)) source)
 
   arms_within : (i : ℕ) → i < length b.code → q_of i + 1 + arm_sizes (probe_of b first) (arms_at b.code i) ≤ end
   arms_within i lt = let g = lead_grows (suc i) (length b.code) (omega (arith, lt)) in omega (arith, g)
 
-  each_done : (f : FrameAt) → Contains (pieces (frames_at b first states array) (length b.code)) f → Done f
+  each_done : (f : FrameAt) → Contains (pieces (frames_at b first states (by_method array)) (length b.code)) f → Done f
   each_done f c =
-      let p = in_piece (frames_at b first states array) (length b.code) f c in
+      let p = in_piece (frames_at b first states (by_method array)) (length b.code) f c in
       let i = p.piece in
       ⊎_elim (λ front. lead_done i f p.within front)
       (λ rest.
       ⊎_elim (λ middle. land_done i f p.within middle)
       (λ last. arms_done (q_of i + 1) (left i) (arms_at b.code i) (left_source b.code (length names) (insn_at b.code i) (state_at states i) (source_at i)) (omega arith)
       (arms_within i p.within) f last)
-      (Contains-append_cases (land_frames i) (arm_frames b first states array (q_of i + 1) (moved (left i)) (arms_at b.code i)) f rest))
+      (Contains-append_cases (land_frames i) (arm_frames b first states (by_method array) (q_of i + 1) (moved (left i)) (arms_at b.code i)) f rest))
       (Contains-append_cases (lead_frames i) _ f p.listed)
 
-  each_wide_done : (f : FrameAt) → Contains (pieces (wide_frames_at b first states array) (length b.code)) f → Done f
+  each_wide_done : (f : FrameAt) → Contains (pieces (wide_frames_at b first states (by_method array)) (length b.code)) f → Done f
   each_wide_done f c =
-      let p = in_piece (wide_frames_at b first states array) (length b.code) f c in
+      let p = in_piece (wide_frames_at b first states (by_method array)) (length b.code) f c in
       let i = p.piece in
       let s = state_behind b states i (late_probe b first i) in
-      let h = if_listed (is_further b first states array i (late_probe b first i) (flow_of (insn_at b.code i))) (frame (q_of i + 1) (moved s)) f p.listed in
+      let h = if_listed (tests_by b first states (by_method array) (flow_of (insn_at b.code i))) (frame (q_of i + 1) (moved s)) f p.listed in
       let w = image_within i p.within in
       subst Done h.1 (moved_done (q_of i + 1) s (omega arith) (omega (arith, w)) (behind_source i (late_probe b first i)))
 
@@ -358,10 +364,10 @@ few_insns e l laid =
 -- ---- the frames of a body
 
 module _ (names : Names) (b : Body) (first : ℕ) (states : List State) (array : ℕ) (l : Laid) (are : AreStates names b states) (array_is : IsArrayNumber names array)
-    (laid : IsLaid (emission b first states array) l) (told : IsEmitted names names states first b (emission b first states array))
-    (locals : (emission b first states array).max_locals ≤ 65535) (stack : (emission b first states array).max_stack ≤ 65535) where
+    (laid : IsLaid (emission b first states (by_method array)) l) (told : IsEmitted names names states fetches.Member (integer_in []) first b (emission b first states (by_method array)))
+    (locals : (emission b first states (by_method array)).max_locals ≤ 65535) (stack : (emission b first states (by_method array)).max_stack ≤ 65535) where
   abbrev e : Emitted
-  e = emission b first states array
+  e = emission b first states (by_method array)
 
   few_locals : b.max_locals + 1 ≤ 65535
   few_locals = let m = told.max_locals in omega (arith, m, locals)
@@ -370,7 +376,7 @@ module _ (names : Names) (b : Body) (first : ℕ) (states : List State) (array :
   few_stack = let m = told.max_stack in omega (arith, m, stack)
 
   abbrev last : ℕ
-  last = lead_of b first narrow (length b.code)
+  last = lead_of b first (narrow fetches.Member) (length b.code)
 
   abbrev IsFine : FrameAt → Type 0
   IsFine f = IsDone last (length names) f
@@ -389,14 +395,12 @@ module _ (names : Names) (b : Body) (first : ℕ) (states : List State) (array :
 
   chosen_rise : (t : Bool) → RiseFrom 0 (if t then merged e.frames e.wide_frames else e.frames)
   chosen_rise false = told.frames.rising
-  chosen_rise true =
-      merged_rises e.frames e.wide_frames 0 told.frames.rising told.wide_frames.rising
-      (λ f c g d same. (told.wide_frames.each f c).1.further (g, d, same))
+  chosen_rise true = merged_rises e.frames e.wide_frames told.frames.rising
 
   code_count : length e.code ≡ last
   code_count =
       ap (λ (c : List Insn). length c) (emission_code b first states array)
-      ∙ length-map (twin_items b first narrow) (insn_of unplaced b.arg_slots) ∙ length_twin b first narrow
+      ∙ length-map (twin_items b first (narrow fetches.Member)) (insn_of (unplaced (integer_in [])) b.arg_slots) ∙ length_twin b first (narrow fetches.Member)
 
   all_done : AllByRecursion IsFine (chosen_frames e)
   all_done = all_listed IsFine (chosen_frames e) (chosen_done (is_wide e.code))
@@ -416,14 +420,24 @@ module _ (names : Names) (b : Body) (first : ℕ) (states : List State) (array :
 
 -- ---- the frames that are made for a layout
 
+-- the set in which each of so many jumps is wide, or none is
+abbrev pub wide_in : (code : List Insn) → Laid → WideSet
+wide_in code l = listed (replicate (length code) l.wide)
+
 module _ (names : Names) (b : Body) (first : ℕ) (states : List State) (l : Laid) (frames : List FrameAt) (well : IsWellMadeOfAnySize b)
-    (framed : AreLayoutFrames names b first states l.wide frames) (laid : IsLaid (emission b first states framed.array) l) where
+    (framed : AreLayoutFrames names b first states fetches.Member (wide_in (probed_code b first) l) frames)
+    (laid : IsLaid (emission b first states (by_method framed.given.array)) l) where
+  abbrev array_of : ℕ
+  array_of = framed.given.array
+
   abbrev of : Emitted
-  of = emission b first states framed.array
+  of = emission b first states (by_method array_of)
 
   pub frames_chosen : frames ≡ chosen_frames of
   frames_chosen =
-      framed.are ∙ frames_laid b first states framed.array names well framed.fit framed.array_is l.wide
+      framed.are ∙ layout_same b first states framed.given (by_method array_of) framed.fetch_is refl (wide_in (probed_code b first) l)
+      ∙ frames_laid b first states (by_method array_of) names well framed.fit framed.array_is l.wide (replicate (length (probed_code b first)) l.wide)
+      (ap (λ (code : List Insn). replicate (length code) l.wide) (sym (emission_code b first states array_of)))
       ∙ ap (λ (t : Bool). if t then merged of.frames of.wide_frames else of.frames) laid.wide
 
   pub frames_written : AreStates names b states → HasRoom b → CanBeWritten l.starts (length names) frames
@@ -431,5 +445,5 @@ module _ (names : Names) (b : Body) (first : ℕ) (states : List State) (l : Lai
   frames_written are room =
       subst (CanBeWritten l.starts (length names)) (sym frames_chosen)
       (can_be_written of l laid (length names) (chosen_frames of)
-      (has_frames names b first states framed.array l are framed.array_is laid (emitted b first states framed.array names well framed.fit framed.array_is)
+      (has_frames names b first states array_of l are framed.array_is laid (emitted b first states (by_method array_of) names well framed.fit framed.array_is)
       (let few = room.locals in omega (arith, few)) (let few = room.stack in omega (arith, few))))

@@ -1,5 +1,6 @@
 -- What is written of one body is its work's, whatever the names with which it was read.
-use Rattle.std.proofs.Common.{◌≡◌, ℕ, ◌≤◌, List, [], ◌∷◌, length, map, sym, ◌∙◌, ap, subst, arith}
+use Rattle.std.proofs.Common.{◌≡◌, ℕ, ◌+◌, ◌-◌, ◌≤◌, Bool, List, [], ◌∷◌, length, map, sym, ◌∙◌, ap, subst, arith}
+use Rattle.std.specs.Prelude.{replicate}
 use Rattle.std.specs.List.{AllByRecursion}
 use Rattle.std.proofs.lemmas.List.{length-map}
 use Rattle.jc_methods.specs.VerificationTypes.{AreNumberedFrames, Grows, Names, TypeStateAt, type_state_at}
@@ -22,23 +23,29 @@ use Rattle.jc_emit.specs.TwinTables.{moved_row}
 use Rattle.jc_emit.specs.Stages.{AreLayoutFrames, moved_tables}
 use Rattle.jc_kinds.specs.Answers.{AreStates}
 use Rattle.jc_methods.specs.declared.kind.State.{State}
+use Rattle.jc_methods.specs.Widened.{WideSet, listed}
+use Rattle.jc_methods.specs.declared.insn.Insn.{Insn}
+use Rattle.jc_methods.specs.declared.probe_members.Fetch.TheVariants as fetches
 use Rattle.jc_emit.specs.declared.tables.MovedTables.{MovedTables}
+use Rattle.jc_layout.proofs.ChoiceLaws.{chosen_count}
 use Rattle.jc_instrument_code.specs.Given.{AreNamed, IsLaid, IsNamedAt}
 use Rattle.jc_instrument_code.specs.LaidText.{laid_text}
 use Rattle.jc_instrument_code.specs.TwinCode.{chosen_frames, kind_vars_name, lines_name, vars_name, written_frames}
 use Rattle.jc_instrument_code.specs.declared.code.CodePlaces.{CodePlaces}
 use Rattle.jc_instrument_code.proofs.TwinCodeLaws.{laid_text_is}
 use Rattle.jc_instrument_reread.proofs.SameBodyLaws.{AreSame, grown_same}
+use Rattle.jc_instrument_reread.specs.WrittenCode.{by_method}
 use Rattle.jc_instrument.specs.BodiesWithStates.{BodyWithStates, emitted_of}
 use Rattle.jc_instrument.specs.Ready.{IsReady}
+use Rattle.jc_instrument.specs.RoomCauses.{probed_code}
 use Rattle.jc_instrument.specs.Writing.{AreFramesOf, IsWorkOf, IsWrittenBody}
 use Rattle.jc_instrument.specs.declared.ready.ReadyBody.{ReadyBody}
 use Rattle.jc_instrument.proofs.KeptPoolLaws.{same_places}
 use Rattle.jc_instrument.proofs.KeptStatesLaws.{states_grown}
 use Rattle.jc_instrument.proofs.KeptTextLaws.{same_laid_text}
-use Rattle.jc_instrument.proofs.ProbingLaws.{emission_tables}
+use Rattle.jc_instrument.proofs.ProbingLaws.{emission_code, emission_tables}
 use Rattle.jc_instrument.proofs.SameEmissionLaws.{IsSameEmission, same_emission, same_twin_code, same_written}
-use Rattle.jc_instrument.proofs.WritableLaws.{frames_chosen, frames_written}
+use Rattle.jc_instrument.proofs.WritableLaws.{frames_chosen, frames_written, wide_in}
 
 -- ---- more names
 
@@ -61,27 +68,48 @@ ready_grown old new r grows ready = record {
 
 -- ---- the frames can be written
 
-pub frames_of : (old now : Names) (r : ReadyBody) (first : ℕ) (frames : List FrameAt) (states : List State) → Grows old now → IsReady old r → states ≡ r.states
-    → AreLayoutFrames now r.body first states r.laid.wide frames → AreFramesOf now r.body first r.laid.wide frames
-frames_of old now r first frames states grows ready same framed = record {
+-- which jumps of its instrumented code are wide
+abbrev pub wide_of : ReadyBody → (first : ℕ) → WideSet
+wide_of r first = wide_in (probed_code r.body first) r.laid
+
+-- one offset more than there are instructions
+pub starts_count : (names : Names) (r : ReadyBody) (first : ℕ) → IsReady names r → r.plan ≡ plan_of r.body first
+    → length r.laid.starts ≡ length (probed_code r.body first) + 1
+starts_count names r first ready is =
+    let e = emission r.body first [] (by_method 0) in
+    ap (λ (s : List ℕ). length s) (ready.laid first [] 0 is).starts
+    ∙ chosen_count e.code ∙ ap (λ (code : List Insn). length code + 1) (emission_code r.body first [] 0)
+
+-- each of so many jumps is wide, or none is
+wide_is : (names : Names) (r : ReadyBody) (first : ℕ) (jumps : List Bool) → IsReady names r → r.plan ≡ plan_of r.body first
+    → jumps ≡ replicate (length r.laid.starts - 1) r.laid.wide → listed jumps ≡ wide_of r first
+wide_is names r first jumps ready is jumps_are =
+    ap listed jumps_are
+    ∙ ap (λ (n : ℕ). listed (replicate n r.laid.wide)) (let count = starts_count names r first ready is in omega (arith, count))
+
+pub frames_of : (old now : Names) (r : ReadyBody) (first : ℕ) (frames : List FrameAt) (states : List State) (jumps : List Bool) → Grows old now → IsReady old r
+    → r.plan ≡ plan_of r.body first → states ≡ r.states → jumps ≡ replicate (length r.laid.starts - 1) r.laid.wide
+    → AreLayoutFrames now r.body first states fetches.Member (listed jumps) frames → AreFramesOf now r.body first (wide_of r first) frames
+frames_of old now r first frames states jumps grows ready is same jumps_are framed = record {
   states = states;
   are = subst (AreStates now r.body) (sym same) (states_grown old now r.body r.states grows ready.numbered ready.states);
-  framed = framed;
+  framed = subst (λ (wide : WideSet). AreLayoutFrames now r.body first states fetches.Member wide frames)
+      (wide_is old r first jumps ready is jumps_are) framed;
 }
 
 pub few_bytes : (names : Names) (r : ReadyBody) → IsReady names r → length r.laid.code ≤ 65535
 few_bytes names r ready = (ready.laid ready.plan.0 [] 0 ready.plan.1).few
 
-pub few_rows : (r : ReadyBody) (first : ℕ) (tables : MovedTables) → length r.body.handlers ≤ 65535 → tables ≡ moved_tables r.body first
+pub few_rows : (r : ReadyBody) (first : ℕ) (tables : MovedTables) → length r.body.handlers ≤ 65535 → tables ≡ moved_tables r.body first fetches.Member
     → length tables.handlers ≤ 65535
 few_rows r first tables few is =
-    let same = ap (λ (t : MovedTables). length t.handlers) is ∙ length-map r.body.handlers (moved_row (lead_of r.body first narrow) (land_of r.body first narrow)) in
+    let same = ap (λ (t : MovedTables). length t.handlers) is ∙ length-map r.body.handlers (moved_row (lead_of r.body first (narrow fetches.Member)) (land_of r.body first (narrow fetches.Member))) in
     omega (arith, same, few)
 
 pub can_be_written : (now : Names) (r : ReadyBody) → IsReady now r → (frames : List FrameAt) (first : ℕ) → r.plan ≡ plan_of r.body first
-    → AreFramesOf now r.body first r.laid.wide frames → CanBeWritten r.laid.starts (length now) frames
+    → AreFramesOf now r.body first (wide_of r first) frames → CanBeWritten r.laid.starts (length now) frames
 can_be_written now r ready frames first is are =
-    frames_written now r.body first are.states r.laid frames ready.made.of_any_size are.framed (ready.laid first are.states are.framed.array is) are.are
+    frames_written now r.body first are.states r.laid frames ready.made.of_any_size are.framed (ready.laid first are.states are.framed.given.array is) are.are
     ready.room
 
 -- so the classes that they name have numbers
@@ -95,15 +123,15 @@ numbered_of starts names frames can = all_numbered frames can.each
 -- ---- what is written
 
 module _ (old now others : Names) (array : ℕ) (r : ReadyBody) (w : BodyWithStates) (grows : Grows old now) (ready : IsReady old r)
-    (of : IsWorkOf old others array r w) (frames : List FrameAt) (are : AreFramesOf now r.body w.first r.laid.wide frames) where
+    (of : IsWorkOf old others array r w) (frames : List FrameAt) (are : AreFramesOf now r.body w.first (wide_of r w.first) frames) where
   abbrev own : Emitted
-  own = emission r.body w.first are.states are.framed.array
+  own = emission r.body w.first are.states (by_method are.framed.given.array)
 
   abbrev meant : Emitted
   meant = emitted_of array w
 
   laid_so : IsLaid own r.laid
-  laid_so = ready.laid w.first are.states are.framed.array of.plan
+  laid_so = ready.laid w.first are.states are.framed.given.array of.plan
 
   chosen : frames ≡ chosen_frames own
   chosen = frames_chosen now r.body w.first are.states r.laid frames ready.made.of_any_size are.framed laid_so
@@ -116,7 +144,7 @@ module _ (old now others : Names) (array : ℕ) (r : ReadyBody) (w : BodyWithSta
 
   emission_same : IsSameEmission now others own meant
   emission_same =
-      same_emission now others r.body w.body body_same w.first are.states w.states are.framed.array array are.framed.array_is of.array_is are.are
+      same_emission now others r.body w.body body_same w.first are.states w.states are.framed.given.array array are.framed.array_is of.array_is are.are
       of.states
 
   seen_frames : map (type_state_at now) frames ≡ written_frames others meant
@@ -137,7 +165,7 @@ module _ (old now others : Names) (array : ℕ) (r : ReadyBody) (w : BodyWithSta
       }
 
   pub body_written : (pool new : PoolValue) (places : CodePlaces) (tables : MovedTables) (text : List ℕ)
-      → TakesClasses pool (named_by_all (map (type_state_at now) frames)) new → tables ≡ moved_tables r.body w.first
+      → TakesClasses pool (named_by_all (map (type_state_at now) frames)) new → tables ≡ moved_tables r.body w.first fetches.Member
       → text ≡ laid_text new places now tables r.laid frames → IsWrittenBody pool places others meant new text
   body_written pool new places tables text takes tables_are is = record {
     takes = subst (λ (fs : List TypeStateAt). TakesClasses pool (named_by_all fs) new) seen_frames takes;
@@ -145,7 +173,7 @@ module _ (old now others : Names) (array : ℕ) (r : ReadyBody) (w : BodyWithSta
         is
         ∙ same_laid_text new grown places now tables r.laid frames
         (same_places new grown keeps (named_by_all (map (type_state_at now) frames)) (all_stand pool new _ takes))
-        ∙ laid_text_is grown now places own tables r.laid frames (tables_are ∙ emission_tables r.body w.first are.states are.framed.array) laid_so chosen
+        ∙ laid_text_is grown now places own tables r.laid frames (tables_are ∙ emission_tables r.body w.first are.states are.framed.given.array) laid_so chosen
         (own_named grown places named)
         ∙ same_twin_code now others own meant emission_same grown places.method places.frames;
   }

@@ -46,7 +46,7 @@ use Rattle.jc_instrument_code.specs.TwinCode.{chosen_frames, twin_code, written_
 use Rattle.jc_instrument_code.specs.declared.init.AddedPlaces.{AddedPlaces}
 use Rattle.jc_instrument_reread.specs.Again.{IsAddedAt, IsWrittenAt, AreWrittenMethods}
 use Rattle.jc_instrument_reread.specs.Written.{IsAddedMethod, IsWrittenMethod, data_field, fetch_method, init_method}
-use Rattle.jc_instrument_reread.specs.WrittenCode.{IsWrittenCode}
+use Rattle.jc_instrument_reread.specs.WrittenCode.{by_method, IsWrittenCode}
 use Rattle.jc_plan.specs.Analysed.{all_probes}
 use Rattle.jc_instrument.specs.Bodies.{IsListed}
 use Rattle.jc_instrument.specs.Contents.{text_entry, class_entry, string_entry, long_entry, member_entry}
@@ -62,7 +62,7 @@ use Rattle.jc_instrument.proofs.TwinLaws.{each_listed}
 use Rattle.jc_instrument.proofs.TwinMethodLaws.{same_code}
 use Rattle.jc_instrument.proofs.WritableLaws.{has_frames}
 use Rattle.jc_instrument.proofs.ListedLaws.{body_at}
-use Rattle.jc_instrument.proofs.WrittenCodeLaws.{code_places}
+use Rattle.jc_instrument.proofs.WrittenCodeLaws.{code_places, ids_among}
 
 -- ---- lists
 
@@ -176,7 +176,7 @@ frames_are : (names : Names) (array : ℕ) (x : BodyWithStates) → AreStates na
 frames_are names array x are array_is well fit short locals stack =
     has_frames names x.body x.first x.states array (laid_of array x) are array_is
     (record { wide = refl; starts = refl; text = refl; few = let size = text_length (emitted_of array x).code in omega (arith, size, short) })
-    (emitted x.body x.first x.states array names well fit array_is) locals stack
+    (emitted x.body x.first x.states (by_method array) names well fit array_is) locals stack
 
 -- ---- the class
 
@@ -264,6 +264,11 @@ module _ (id : ℕ) (names : Names) (array : ℕ) (works : List BodyWithStates) 
     written_at m there = record {
       major = refl;
       this_class = refl;
+      ids =
+          let first = (are.each i x stands).first in
+          let ids = ids_among (bodies_of works) i x.body (body_at works i x stands) in
+          let few = probes in
+          omega (arith, first, ids, few);
       pool = record {
         extends = extends;
         call_is = of_content pool places.method (member_entry (init_method (name_of c))) at.1.1.1.1.1.0 ∙ ap (λ (o : List ℕ). Some (init_method o)) (sym same_owner);

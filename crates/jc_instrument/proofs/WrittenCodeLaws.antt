@@ -27,7 +27,7 @@ use Rattle.jc_instrument_code.specs.FirstPlaces.{text_place}
 use Rattle.jc_instrument_code.specs.TwinCode.{kind_vars_name, lines_name, twin_code, vars_name}
 use Rattle.jc_instrument_code.specs.declared.code.CodePlaces.{CodePlaces}
 use Rattle.jc_instrument_code.proofs.FirstPlaceLaws.{text_found}
-use Rattle.jc_instrument_reread.specs.WrittenCode.{IsWrittenCode}
+use Rattle.jc_instrument_reread.specs.WrittenCode.{by_method, IsWrittenCode}
 use Rattle.jc_class.proofs.ReadClassLaws.{IsOfBytes}
 use Rattle.jc_instrument_reread.proofs.ReadNumbersLaws.{body_short}
 use Rattle.jc_instrument_reread.proofs.WrittenCodeLaws.{written_code as code_written}
@@ -112,7 +112,7 @@ member_within pool place m is = by (cases_lt place (length pool))
 -- ---- lists
 
 -- the ids of a body are among those of all bodies
-ids_among : (bodies : List Body) (i : ℕ) (b : Body) → slice_get bodies i ≡ Some b → first_id bodies i + probe_count b ≤ all_probes bodies
+pub ids_among : (bodies : List Body) (i : ℕ) (b : Body) → slice_get bodies i ≡ Some b → first_id bodies i + probe_count b ≤ all_probes bodies
 ids_among [] i b at = absurd cc
 ids_among (x ∷ bodies) zero b at =
     let own = ap probe_count (same_Some x b at) in
@@ -150,11 +150,11 @@ module _ (bodies : List Body) (room : HasRoom bodies) (i : ℕ) (b : Body) (at :
 
 -- ---- the sizes of instrumented code
 
-emitted_stack : (b : Body) (first : ℕ) (states : List State) (array : ℕ) → (emission b first states array).max_stack ≡ b.max_stack + 3
+emitted_stack : (b : Body) (first : ℕ) (states : List State) (array : ℕ) → (emission b first states (by_method array)).max_stack ≡ b.max_stack + 3
 unfolding emission
 emitted_stack b first states array = refl
 
-emitted_locals : (b : Body) (first : ℕ) (states : List State) (array : ℕ) → (emission b first states array).max_locals ≡ b.max_locals + 1
+emitted_locals : (b : Body) (first : ℕ) (states : List State) (array : ℕ) → (emission b first states (by_method array)).max_locals ≡ b.max_locals + 1
 unfolding emission
 emitted_locals b first states array = refl
 
@@ -203,7 +203,7 @@ module _ (id : ℕ) (names : Names) (array : ℕ) (c : ClassFile) (works : List 
       let room_is = room.short i b (slice_get_within (bodies_of works) i b there) there in
       let call = member_within w.pool w.places.method (init_method (name_of c)) call_is in
       let pool_few = w.few in
-      code_written (faults c.major c.pool b.owner body.method) names c b.method body.method b x.first x.states array w.pool places body.is only well
+      code_written (faults c.major c.pool b.owner body.method) names c b.method body.method b x.first x.states (by_method array) w.pool places body.is only well
       (omega (arith, first, ids, few))
       (record {
         named = work_named names c w.pool extends places (text_places w.pool w.places) array x body;

@@ -10,6 +10,7 @@ use Rattle.jc_kinds.specs.Answers.{AreStates}
 use Rattle.jc_plan.specs.Probed.{first_id}
 use Rattle.jc_emit.specs.Emission.{emission, IsArrayNumber}
 use Rattle.jc_instrument_code.specs.TwinCode.{written_frames}
+use Rattle.jc_instrument_reread.specs.WrittenCode.{by_method}
 use Rattle.jc_instrument.specs.Bodies.{AreBodies}
 
 -- a body, the states before its instructions, and its first id
@@ -35,7 +36,7 @@ pub record AreBodiesWithStates (names : Names) (array : ℕ) (c : ClassFile) (wo
 -- ---- what is written of a body
 
 abbrev pub emitted_of : (array : ℕ) → BodyWithStates → Emitted
-emitted_of array w = emission w.body w.first w.states array
+emitted_of array w = emission w.body w.first w.states (by_method array)
 
 -- the frames of the layouts of all bodies, in their order, with classes by their names
 abbrev pub all_frames : Names → (array : ℕ) → List BodyWithStates → List TypeStateAt

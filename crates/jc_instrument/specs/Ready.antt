@@ -8,6 +8,7 @@ use Rattle.jc_methods.specs.WellMade.{IsWellMade}
 use Rattle.jc_methods.specs.declared.body.Body.{Body}
 use Rattle.jc_methods.specs.declared.kind.State.{State}
 use Rattle.jc_methods.specs.declared.plan.Plan.{Plan}
+use Rattle.jc_methods.specs.declared.probe_members.Fetch.TheVariants as fetches
 use Rattle.jc_class.specs.Sizes.{BodiesWithin}
 use Rattle.jc_class.specs.Writable.{IsClassFile}
 use Rattle.jc_class.specs.declared.class_file.ClassFile.{ClassFile}
@@ -22,6 +23,7 @@ use Rattle.jc_emit.specs.Refusing.{HasRoom, IsTaken}
 use Rattle.jc_layout.specs.Layout.{chosen_length}
 use Rattle.jc_layout.specs.declared.layouts.Laid.{Laid}
 use Rattle.jc_instrument_code.specs.Given.{IsLaid}
+use Rattle.jc_instrument_reread.specs.WrittenCode.{by_method}
 use Rattle.jc_instrument.specs.Probing.{AreShortBelow}
 use Rattle.jc_instrument.specs.RoomCauses.{probed_code}
 use Rattle.jc_instrument.specs.declared.ready.ReadyBody.{ReadyBody}
@@ -33,7 +35,7 @@ use Rattle.jc_instrument.specs.declared.ready.UnreadBody.{UnreadBody}
 
 -- this is the layout of the instrumented code of the body with this plan, for which no states are needed
 abbrev pub IsLaidFor : Body → Plan → Laid → Type 0
-IsLaidFor b plan l = (first : ℕ) (states : List State) (array : ℕ) → plan ≡ plan_of b first → IsLaid (emission b first states array) l
+IsLaidFor b plan l = (first : ℕ) (states : List State) (array : ℕ) → plan ≡ plan_of b first → IsLaid (emission b first states (by_method array)) l
 
 -- its states and its frames have classes by their numbers in these names
 pub record IsReady (names : Names) (r : ReadyBody) : Type 0 where
@@ -44,7 +46,7 @@ pub record IsReady (names : Names) (r : ReadyBody) : Type 0 where
   pub room : HasRoom r.body
   pub rows : length r.body.handlers ≤ 65535
   pub laid : IsLaidFor r.body r.plan r.laid
-  pub placed : ArePlacesFor r.body r.plan r.insn_places
+  pub placed : ArePlacesFor r.body r.plan fetches.Member r.insn_places
   pub states : AreStates names r.body r.states
 
 -- ---- a body that is read again

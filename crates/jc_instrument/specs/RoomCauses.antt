@@ -1,18 +1,18 @@
 -- Why there is no room in a class for its probes.
-use Rattle.std.specs.Prelude.{◌≡◌, ◌⊎◌, ℕ, ◌+◌, ◌<◌, List, [], ◌∷◌, ◌++◌, length, map, Some, slice_get}
+use Rattle.std.specs.Prelude.{◌≡◌, ◌⊎◌, ℕ, ◌+◌, ◌<◌, List, [], ◌∷◌, ◌++◌, length, Some, slice_get}
 use Rattle.jc_methods.specs.ProbeMembers.{most_probes}
 use Rattle.jc_methods.specs.VerificationTypes.{Names}
 use Rattle.jc_methods.specs.declared.body.Body.{Body}
 use Rattle.jc_methods.specs.declared.insn.Insn.{Insn}
+use Rattle.jc_methods.specs.declared.probe_members.Fetch.TheVariants as fetches
 use Rattle.jc_bytes.specs.declared.refusal.Refusal.{Refusal}
 use Rattle.jc_bytes.specs.declared.refusal.RefusalKind.TheVariants as kinds
 use Rattle.jc_pool.specs.Pool.{PoolValue}
 use Rattle.jc_class.specs.declared.class_file.ClassFile.{ClassFile}
 use Rattle.jc_plan.specs.Probed.{first_id}
-use Rattle.jc_emit.specs.Marks.{unplaced}
-use Rattle.jc_emit.specs.Sizes.{narrow}
-use Rattle.jc_emit.specs.Items.{insn_of, twin_items}
+use Rattle.jc_emit.specs.Stages.{emitted_code}
 use Rattle.jc_emit.specs.Straddling.{IsFirstStraddling}
+use Rattle.jc_emit.specs.Written.{integer_in}
 use Rattle.jc_layout.specs.Layout.{chosen_length}
 use Rattle.jc_plan.specs.Analysed.{all_probes}
 use Rattle.jc_instrument.specs.Bodies.{AreBodiesOf}
@@ -67,7 +67,7 @@ HasFullStack c = InMethod kinds.StackFull (FillsStack c)
 -- The instrumented code of a body whose first id is this one. The place of the method that the prelude calls is 0 here: it takes
 -- two bytes, whatever it is.
 abbrev pub probed_code : Body → (first : ℕ) → List Insn
-probed_code body first = map (insn_of unplaced body.arg_slots) (twin_items body first narrow)
+probed_code body first = emitted_code body first fetches.Member (integer_in [])
 
 -- the layout that is chosen for the instrumented code of the method with this number has so many bytes, more than 65,535
 pub record IsTooLarge (c : ClassFile) (number place : ℕ) : Type 0 where

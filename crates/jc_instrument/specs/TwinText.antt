@@ -40,8 +40,9 @@ twin_methods old code works methods = map_from (λ number method. twin_method ol
 abbrev pub data_member : MemberPlaces → Member
 data_member p = record { flags = data_flags; name = p.data_name; desc = p.data_type; attributes = [] }
 
+-- no number is pushed from the pool
 abbrev pub init_places : MemberPlaces → InitPlaces
-init_places p = record { field = p.field; id = p.id; name = p.name; fetch = p.fetch }
+init_places p = record { field = p.field; id = p.id; name = p.name; count = 0; fetch = p.fetch }
 
 abbrev pub init_member : MemberPlaces → (count : ℕ) → Member
 init_member p count = record {

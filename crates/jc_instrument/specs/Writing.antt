@@ -1,5 +1,5 @@
 -- What is written of the bodies of a class, one after the other, while the pool takes the classes that their frames name.
-use Rattle.std.specs.Prelude.{◌≡◌, ⊤, ℕ, Bool, List, length, map, Option, IfSome}
+use Rattle.std.specs.Prelude.{◌≡◌, ⊤, ℕ, List, length, map, Option, IfSome}
 use Rattle.std.specs.List.{AllByRecursion, AllZip}
 use Rattle.jc_bytes.specs.declared.fail.Fail.{Fail}
 use Rattle.jc_bytes.specs.declared.fail.Fail.TheVariants as fails
@@ -7,7 +7,9 @@ use Rattle.jc_methods.specs.VerificationTypes.{AreNumberedFrames, Names, type_st
 use Rattle.jc_methods.specs.declared.body.Body.{Body}
 use Rattle.jc_methods.specs.declared.body.FrameAt.{FrameAt}
 use Rattle.jc_methods.specs.declared.emitted.Emitted.{Emitted}
+use Rattle.jc_methods.specs.Widened.{WideSet}
 use Rattle.jc_methods.specs.declared.kind.State.{State}
+use Rattle.jc_methods.specs.declared.probe_members.Fetch.TheVariants as fetches
 use Rattle.jc_pool.specs.Adding.{KeepsFirst}
 use Rattle.jc_pool.specs.Lookup.{class_name_of}
 use Rattle.jc_pool.specs.Pool.{PoolValue}
@@ -35,11 +37,11 @@ use Rattle.jc_instrument.specs.declared.twin.TwinPlaces.{TwinPlaces}
 
 -- ---- one body
 
--- the frames of a layout of the body's instrumented code, from its states under these names
-pub record AreFramesOf (names : Names) (b : Body) (first : ℕ) (wide : Bool) (frames : List FrameAt) : Type 0 where
+-- the frames of the body's instrumented code where these jumps are wide, from its states under these names
+pub record AreFramesOf (names : Names) (b : Body) (first : ℕ) (wide : WideSet) (frames : List FrameAt) : Type 0 where
   pub states : List State
   pub are : AreStates names b states
-  pub framed : AreLayoutFrames names b first states wide frames
+  pub framed : AreLayoutFrames names b first states fetches.Member wide frames
 
 -- The body that is ready under these names is that of the work under the others, by which its frames say the same; the class of
 -- the probe array has this number there.

@@ -5,6 +5,7 @@ ghost use Rattle.jc_bytes.specs.Reader.{most_read};
 ghost use Rattle.jc_methods.specs.VerificationTypes.{AreNumberedFrames, Grows, Names as ClassNames};
 ghost use Rattle.jc_methods.specs.WellMade.{IsWellMade};
 ghost use Rattle.jc_methods.specs.declared.body.Body.{Body as MethodBody};
+ghost use Rattle.jc_methods.specs.declared.probe_members.Fetch.TheVariants as fetches;
 ghost use Rattle.jc_class.specs.ClassText.{ClassText};
 ghost use Rattle.jc_class.specs.declared.class_file.ClassFile.{ClassFile as ClassOf};
 ghost use Rattle.jc_body.specs.BodyOf.{BodyOf};
@@ -70,7 +71,7 @@ pub fn source_of(
 fn laid_again(alloc: Global, body: &Body, plan: &Plan) -> Result<LaidCode, Memory>
     requires { (first : ℕ) × (plan.now ≡ plan_of body.now first) × TakesProbes body.now first }
     ensures laid { IfOk result (λ code. IsLaidFor body.now plan.now code.laid) }
-    ensures places { IfOk result (λ code. ArePlacesFor body.now plan.now code.insn_places) }
+    ensures places { IfOk result (λ code. ArePlacesFor body.now plan.now fetches.Member code.insn_places) }
     ensures room { IfOk result (λ _. HasRoom body.now) }
 {
     match laid_body(alloc, body, plan) {

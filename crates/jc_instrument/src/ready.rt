@@ -3,6 +3,7 @@ ghost use Rattle.std.specs.Prelude.{◌≡◌, ◌≤◌, ℕ, IfOk, IfErr};
 ghost use Rattle.jc_methods.specs.ProbeMembers.{most_probes};
 ghost use Rattle.jc_methods.specs.WellMade.{IsWellMade};
 ghost use Rattle.jc_methods.specs.declared.emitted.Emitted.{Emitted as Emission};
+ghost use Rattle.jc_methods.specs.declared.probe_members.Fetch.TheVariants as fetches;
 ghost use Rattle.jc_bytes.specs.Failing.{Said};
 ghost use Rattle.jc_plan.specs.Plan.{plan_of};
 ghost use Rattle.jc_emit.specs.Placing.{HasPlan, ArePlacesFor};
@@ -17,7 +18,7 @@ ghost use Rattle.jc_instrument.specs.RoomCauses.{probed_code};
 use jc_bytes::{Fail, List, Memory, Refusal};
 use jc_emit::{EmittedCode, Places, emit_code};
 use jc_layout::{Laid, layout_code};
-use jc_methods::{Body, Insn, Plan, State};
+use jc_methods::{Body, Fetch, Insn, Plan, State};
 use std::alloc::Global;
 
 /// The instrumented code of a body in its layout.
@@ -80,11 +81,11 @@ fn emitted_code(alloc: Global, body: &Body, plan: &Plan) -> Result<EmittedCode, 
     requires taken { IsTaken body.now }
     ensures code { (first : ℕ) → plan.now ≡ plan_of body.now first
         → IfOk result (λ emitted. emitted.code ≡ probed_code body.now first) }
-    ensures places { IfOk result (λ emitted. ArePlacesFor body.now plan.now emitted.places) }
+    ensures places { IfOk result (λ emitted. ArePlacesFor body.now plan.now fetches.Member emitted.places) }
     ensures room { IfOk result (λ _. HasRoom body.now) }
     ensures layable { IfOk result (λ emitted. IsLayable emitted.code) }
 {
-    match emit_code(alloc, body, plan) {
+    match emit_code(alloc, body, plan, Fetch::Member, &[]) {
         Ok(emitted) => Ok(emitted),
         Err(Fail::Memory) => Err(Memory),
         Err(Fail::Said(_)) => unreachable!(),
@@ -116,7 +117,7 @@ pub fn laid_body(alloc: Global, body: &Body, plan: &Plan) -> Result<LaidCode, Fa
     requires next { plan.now.next ≤ most_probes }
     requires taken { IsTaken body.now }
     ensures laid { IfOk result (λ code. IsLaidFor body.now plan.now code.laid) }
-    ensures places { IfOk result (λ code. ArePlacesFor body.now plan.now code.insn_places) }
+    ensures places { IfOk result (λ code. ArePlacesFor body.now plan.now fetches.Member code.insn_places) }
     ensures room { IfOk result (λ _. HasRoom body.now) }
     ensures refused { (first : ℕ) → plan.now ≡ plan_of body.now first → IfErr result (λ e. Said e (IsTooLong body.now first)) }
 {

@@ -44,21 +44,21 @@ module _ (names : Names) (array : ℕ) (array_is : IsArrayNumber names array) (t
       let is = init_is twin owner id count p method w number in
       record {
         places = is.places;
-        owner = is.owner;
-        name = is.name;
-        desc = is.desc;
-        flags = is.flags;
-        arg_slots = is.arg_slots;
-        max_stack = is.max_stack;
-        max_locals = is.max_locals;
-        code = is.code;
-        handlers = is.handlers;
-        lines = is.lines;
-        vars = is.vars;
-        kind_vars = is.kind_vars;
+        method = record {
+          owner = is.method.owner;
+          name = is.method.name;
+          desc_is = is.method.desc_is;
+          flags = is.method.flags;
+          arguments = is.method.arguments;
+          max_stack = is.method.max_stack;
+          max_locals_is = is.method.max_locals_is;
+          code_is = is.method.code_is;
+          handlers = is.method.handlers;
+          lines = is.method.lines;
+          vars = is.method.vars;
+          kind_vars = is.method.kind_vars;
+        };
         frames = record { frame = _; single = refl; at = refl; state = λ i. record { locals = []; stack = object (array_is i) ∷ [] } };
         field_is = is.field_is;
-        id_is = is.id_is;
-        name_is = is.name_is;
-        fetch_is = is.fetch_is;
+        names_count = is.names_count;
       }

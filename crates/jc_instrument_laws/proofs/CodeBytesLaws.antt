@@ -11,6 +11,7 @@ use Rattle.jc_methods.specs.Flow.{flow_of, jump_target, inverse_of}
 use Rattle.jc_methods.specs.Insn.{with_places, IsWellFormed}
 use Rattle.jc_methods.specs.InsnForm.{form_of}
 use Rattle.jc_methods.specs.Opcode as opcode
+use Rattle.jc_methods.specs.ProbeMembers.{most_short}
 use Rattle.jc_bytes.specs.PlainLists.{pieces}
 use Rattle.jc_methods.specs.WellMade.{IsWellMadeOfAnySize}
 use Rattle.jc_methods.specs.Widened.{inverted}
@@ -22,6 +23,7 @@ use Rattle.jc_methods.specs.declared.insn.Flow.{Flow}
 use Rattle.jc_methods.specs.declared.insn.Flow.TheVariants as flows
 use Rattle.jc_methods.specs.declared.insn.Insn.{Insn}
 use Rattle.jc_methods.specs.declared.insn.Insn.TheVariants as insns
+use Rattle.jc_methods.specs.declared.probe_members.Fetch.TheVariants as fetches
 use Rattle.jc_bytes.proofs.OneTextLaws.{both_bytes}
 use Rattle.jc_bytes.specs.BigNumbers.{short, word}
 use Rattle.jc_methods.proofs.InsnFormLaws.{unknown_beyond, local_codes}
@@ -39,9 +41,10 @@ use Rattle.jc_plan.specs.Plan.{lead_probe}
 use Rattle.jc_plan.specs.Probed.{probe_of}
 use Rattle.jc_plan.specs.declared.branch.Branch.{Branch}
 use Rattle.jc_emit.specs.Items.{Item, insn_of, lead_part, early_part, hop_part, arm_parts, tests_part, image_part, lead_of, land_of, segment, twin_items}
-use Rattle.jc_emit.specs.Marks.{unplaced, push}
+use Rattle.jc_emit.specs.Marks.{push, push_by, unplaced}
 use Rattle.jc_emit.specs.Sizes.{narrow, insn_at, early_probe, late_probe, arms_at}
 use Rattle.jc_emit.specs.TwinCode.{to_of}
+use Rattle.jc_emit.specs.Written.{integer_in}
 use Rattle.jc_layout.specs.LaidBody.{with_place}
 use Rattle.jc_layout.specs.Layout.{layout_set, is_wide, chosen_starts, chosen_text}
 use Rattle.jc_layout.proofs.FormedLaws.{inverse_form}
@@ -219,9 +222,16 @@ push_byte n = by (nat_le n 5) (nat_le n 127) _ _ _ tt tt tt
     by false true x y z p q r = q
     by false false x y z p q r = r
 
+push_by_byte : (integer : ℕ → ℕ) (n : ℕ) → HasByte (push_by integer n)
+push_by_byte integer n = by (nat_le n most_short)
+  where
+    by : (t : Bool) → HasByte (if t then push n else insns.Constant (integer n))
+    by true = push_byte n
+    by false = tt
+
 module _ (b : Body) (first : ℕ) (small : AllByRecursion HasByte b.code) where
   abbrev ItemByte : Item → Type 0
-  ItemByte x = HasByte (insn_of unplaced b.arg_slots x)
+  ItemByte x = HasByte (insn_of (unplaced (integer_in [])) b.arg_slots x)
 
   abbrev AllItems : List Item → Type 0
   AllItems xs = AllByRecursion ItemByte xs
@@ -233,49 +243,49 @@ module _ (b : Body) (first : ℕ) (small : AllByRecursion HasByte b.code) where
 
   lead_byte : (o : Option ℕ) (i : ℕ) → AllItems (lead_part o i)
   lead_byte None i = tt
-  lead_byte (Some id) i = (tt, (push_byte id, (tt, (tt, tt))))
+  lead_byte (Some id) i = (tt, (push_by_byte (integer_in []) id, (tt, (tt, tt))))
 
   early_byte : (o : Option ℕ) (i : ℕ) → AllItems (early_part o i)
   early_byte None i = tt
-  early_byte (Some id) i = (tt, (push_byte id, (tt, (tt, tt))))
+  early_byte (Some id) i = (tt, (push_by_byte (integer_in []) id, (tt, (tt, tt))))
 
   hop_byte : (land : ℕ → ℕ) (o : Option ℕ) (to : ℕ) → AllItems (hop_part land o to)
   hop_byte land None to = tt
-  hop_byte land (Some id) to = (tt, (push_byte id, (tt, (tt, (tt, tt)))))
+  hop_byte land (Some id) to = (tt, (push_by_byte (integer_in []) id, (tt, (tt, (tt, tt)))))
 
   arms_byte : (land : ℕ → ℕ) (xs : List Branch) → AllItems (arm_parts land (probe_of b first) xs)
   arms_byte land [] = tt
   arms_byte land (x ∷ xs) = each_joined ItemByte (hop_part land (probe_of b first x) (to_of x)) (arm_parts land (probe_of b first) xs)
       (hop_byte land (probe_of b first x) (to_of x)) (arms_byte land xs)
 
-  tests_byte : (i : ℕ) (insn : Insn) (o : Option ℕ) → HasByte insn → AllItems (tests_part b first narrow i insn o)
-  tests_byte i insn None h = (places_byte (land_of b first narrow) insn h, tt)
+  tests_byte : (i : ℕ) (insn : Insn) (o : Option ℕ) → HasByte insn → AllItems (tests_part b first (narrow fetches.Member) i insn o)
+  tests_byte i insn None h = (places_byte (land_of b first (narrow fetches.Member)) insn h, tt)
   tests_byte i insn (Some id) h =
-      (inverted_byte (lead_of b first narrow (i + 1)) insn h, hop_byte (land_of b first narrow) (Some id) (jump_target insn))
+      (inverted_byte (lead_of b first (narrow fetches.Member) (i + 1)) insn h, hop_byte (land_of b first (narrow fetches.Member)) (Some id) (jump_target insn))
 
-  image_byte : (i : ℕ) (insn : Insn) (flow : Flow) → HasByte insn → AllItems (image_part b first narrow i insn flow)
+  image_byte : (i : ℕ) (insn : Insn) (flow : Flow) → HasByte insn → AllItems (image_part b first (narrow fetches.Member) i insn flow)
   image_byte i insn flows.GoesOn h = (slot_byte b.arg_slots insn h, tt)
   image_byte i insn flows.Branches h = tests_byte i insn (late_probe b first i) h
-  image_byte i insn flows.Jumps h = (places_byte (land_of b first narrow) insn h, tt)
-  image_byte i insn flows.Switches h = (places_byte _ insn h, arms_byte (land_of b first narrow) (arms_at b.code i))
+  image_byte i insn flows.Jumps h = (places_byte (land_of b first (narrow fetches.Member)) insn h, tt)
+  image_byte i insn flows.Switches h = (places_byte _ insn h, arms_byte (land_of b first (narrow fetches.Member)) (arms_at b.code i))
   image_byte i insn flows.Returns h = (h, tt)
   image_byte i insn flows.Throws h = (h, tt)
 
-  segment_byte : (i : ℕ) → AllItems (segment b first narrow i)
+  segment_byte : (i : ℕ) → AllItems (segment b first (narrow fetches.Member) i)
   segment_byte i =
       each_joined ItemByte (lead_part (lead_probe b first i) i) _ (lead_byte (lead_probe b first i) i)
       (each_joined ItemByte (early_part (early_probe b first i) i) _ (early_byte (early_probe b first i) i)
       (image_byte i (insn_at b.code i) (flow_of (insn_at b.code i)) (at_byte b.code small i)))
 
-  pieces_byte : (n : ℕ) → AllItems (pieces (segment b first narrow) n)
+  pieces_byte : (n : ℕ) → AllItems (pieces (segment b first (narrow fetches.Member)) n)
   pieces_byte zero = tt
-  pieces_byte (suc n) = each_joined ItemByte (pieces (segment b first narrow) n) (segment b first narrow n) (pieces_byte n) (segment_byte n)
+  pieces_byte (suc n) = each_joined ItemByte (pieces (segment b first (narrow fetches.Member)) n) (segment b first (narrow fetches.Member) n) (pieces_byte n) (segment_byte n)
 
-  items_byte : AllItems (twin_items b first narrow)
+  items_byte : AllItems (twin_items b first (narrow fetches.Member))
   unfolding twin_items
   items_byte = (tt, (tt, pieces_byte (length b.code)))
 
-  mapped_byte : (xs : List Item) → AllItems xs → AllByRecursion HasByte (map (insn_of unplaced b.arg_slots) xs)
+  mapped_byte : (xs : List Item) → AllItems xs → AllByRecursion HasByte (map (insn_of (unplaced (integer_in [])) b.arg_slots) xs)
   mapped_byte [] all = tt
   mapped_byte (x ∷ xs) all = (all.0, mapped_byte xs all.1)
 
@@ -284,7 +294,7 @@ module _ (b : Body) (first : ℕ) (small : AllByRecursion HasByte b.code) where
   text_are made =
       let code = probed_code b first in
       code_are (slice_index (chosen_starts code)) (layout_set (is_wide code)) 0 code (chosen_starts code)
-      (recursion_from_All IsWellFormed code (all_formed b first made.code)) (mapped_byte (twin_items b first narrow) items_byte)
+      (recursion_from_All IsWellFormed code (all_formed b first fetches.Member (integer_in []) made.code)) (mapped_byte (twin_items b first (narrow fetches.Member)) items_byte)
 
 -- ---- the code that was read
 

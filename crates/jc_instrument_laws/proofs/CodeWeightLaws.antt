@@ -6,6 +6,7 @@ use Rattle.jc_methods.specs.declared.body.Body.{Body}
 use Rattle.jc_methods.specs.declared.insn.Flow.{Flow}
 use Rattle.jc_methods.specs.declared.insn.Flow.TheVariants as flows
 use Rattle.jc_methods.specs.declared.insn.Insn.{Insn}
+use Rattle.jc_methods.specs.declared.probe_members.Fetch.TheVariants as fetches
 use Rattle.jc_methods.specs.Opcode as opcode
 use Rattle.jc_insn.specs.Sizes.{jump_size, size_of}
 use Rattle.jc_insn.proofs.SizeSumsLaws.{some_size}
@@ -16,6 +17,7 @@ use Rattle.jc_emit.specs.Marks.{TwinPlaces, unplaced}
 use Rattle.jc_emit.specs.Items.{Item, start, image, probe_array, probe_id, probe_one, probe_store, hop, insn_of, lead_part, early_part, hop_part, arm_parts, image_part, tests_part, land_of, segment, twin_items}
 use Rattle.jc_emit.specs.Sizes.{narrow, insn_at, early_probe, late_probe, arms_by, arms_at, arm_sizes, hop_size}
 use Rattle.jc_emit.specs.TwinCode.{to_of}
+use Rattle.jc_emit.specs.Written.{integer_in}
 use Rattle.jc_layout.specs.Layout.{is_wide, chosen_starts, chosen_length, starts_from, starts_of}
 use Rattle.jc_instrument.specs.RoomCauses.{probed_code}
 use Rattle.jc_instrument_laws.proofs.EmittedFramesLaws.{arms_size}
@@ -45,40 +47,40 @@ module _ (b : Body) (first : ℕ) where
       by None rest = omega (arith, rest)
       by (Some id) rest = omega (arith, rest)
 
-  tests_weight : (i : ℕ) (insn : Insn) (o : Option ℕ) → 1 ≤ weight (tests_part b first narrow i insn o)
+  tests_weight : (i : ℕ) (insn : Insn) (o : Option ℕ) → 1 ≤ weight (tests_part b first (narrow fetches.Member) i insn o)
   tests_weight i insn None = omega arith
   tests_weight i insn (Some id) = omega arith
 
   image_weight : (i : ℕ) (insn : Insn) (flow : Flow) → arms_at b.code i ≡ arms_by i insn flow
-      → 5 + 7 * arms_size b first i ≤ 5 * weight (image_part b first narrow i insn flow)
+      → 5 + 7 * arms_size b first i ≤ 5 * weight (image_part b first (narrow fetches.Member) i insn flow)
   image_weight i insn flows.GoesOn none = let no_arms = ap (arm_sizes (probe_of b first)) none in omega (arith, no_arms)
   image_weight i insn flows.Branches none =
       let no_arms = ap (arm_sizes (probe_of b first)) none in
       let some = tests_weight i insn (late_probe b first i) in
       omega (arith, no_arms, some)
   image_weight i insn flows.Jumps none = let no_arms = ap (arm_sizes (probe_of b first)) none in omega (arith, no_arms)
-  image_weight i insn flows.Switches are = let arms = arms_weight (land_of b first narrow) (arms_at b.code i) in omega (arith, arms)
+  image_weight i insn flows.Switches are = let arms = arms_weight (land_of b first (narrow fetches.Member)) (arms_at b.code i) in omega (arith, arms)
   image_weight i insn flows.Returns none = let no_arms = ap (arm_sizes (probe_of b first)) none in omega (arith, no_arms)
   image_weight i insn flows.Throws none = let no_arms = ap (arm_sizes (probe_of b first)) none in omega (arith, no_arms)
 
-  segment_weight : (i : ℕ) → 5 + 7 * arms_size b first i ≤ 5 * weight (segment b first narrow i)
+  segment_weight : (i : ℕ) → 5 + 7 * arms_size b first i ≤ 5 * weight (segment b first (narrow fetches.Member) i)
   segment_weight i =
       let insn = insn_at b.code i in
-      let rest = early_part (early_probe b first i) i ++ image_part b first narrow i insn (flow_of insn) in
+      let rest = early_part (early_probe b first i) i ++ image_part b first (narrow fetches.Member) i insn (flow_of insn) in
       let one = weight_both (lead_part (lead_probe b first i) i) rest in
-      let two = weight_both (early_part (early_probe b first i) i) (image_part b first narrow i insn (flow_of insn)) in
+      let two = weight_both (early_part (early_probe b first i) i) (image_part b first (narrow fetches.Member) i insn (flow_of insn)) in
       let most = image_weight i insn (flow_of insn) refl in
       omega (arith, one, two, most)
 
-  pieces_weight : (n : ℕ) → 5 * n + 7 * total (arms_size b first) n ≤ 5 * weight (pieces (segment b first narrow) n)
+  pieces_weight : (n : ℕ) → 5 * n + 7 * total (arms_size b first) n ≤ 5 * weight (pieces (segment b first (narrow fetches.Member)) n)
   pieces_weight zero = omega arith
   pieces_weight (suc n) =
       let rest = pieces_weight n in
       let one = segment_weight n in
-      let both = weight_both (pieces (segment b first narrow) n) (segment b first narrow n) in
+      let both = weight_both (pieces (segment b first (narrow fetches.Member)) n) (segment b first (narrow fetches.Member) n) in
       omega (arith, rest, one, both)
 
-  items_weight : 5 * length b.code + 7 * total (arms_size b first) (length b.code) ≤ 5 * weight (twin_items b first narrow)
+  items_weight : 5 * length b.code + 7 * total (arms_size b first) (length b.code) ≤ 5 * weight (twin_items b first (narrow fetches.Member))
   unfolding twin_items
   items_weight = let most = pieces_weight (length b.code) in omega (arith, most)
 
@@ -90,7 +92,7 @@ size_least at wide named v (hop to from due) = by wide
     by : (t : Bool) → 3 ≤ jump_size t opcode.goto
     by true = omega arith
     by false = omega arith
-size_least at wide named v (start k) = some_size at wide (insn_of named v (start k))
+size_least at wide named v (start fetch k) = some_size at wide (insn_of named v (start fetch k))
 size_least at wide named v (image insn from early) = some_size at wide insn
 size_least at wide named v (probe_array id from late) = some_size at wide (insn_of named v (probe_array id from late))
 size_least at wide named v (probe_id id from late) = some_size at wide (insn_of named v (probe_id id from late))
@@ -109,5 +111,5 @@ pub code_least : (b : Body) (first : ℕ) → 5 * length b.code + 7 * total (arm
 unfolding chosen_starts starts_of
 code_least b first =
     let items = items_weight b first in
-    let end = ends_at (is_wide (probed_code b first)) 0 unplaced b.arg_slots (twin_items b first narrow) in
+    let end = ends_at (is_wide (probed_code b first)) 0 (unplaced (integer_in [])) b.arg_slots (twin_items b first (narrow fetches.Member)) in
     omega (arith, items, end)

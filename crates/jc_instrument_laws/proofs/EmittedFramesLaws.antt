@@ -1,5 +1,5 @@
 -- The frames of instrumented code have moved states of the body, and how many frames there are.
-use Rattle.std.proofs.Common.{◌≡◌, ◌⊎◌, inl, inr, ⊎_elim, ℕ, zero, suc, ◌+◌, ◌*◌, ◌≤◌, Bool, true, false, ◌&&◌, ◌||◌, List, [], ◌∷◌, ◌++◌, length, Option, Some, None, refl, sym, ap, arith, if◌then◌else◌, nat_lt, length-append}
+use Rattle.std.proofs.Common.{◌≡◌, ◌⊎◌, inl, inr, ⊎_elim, ℕ, zero, suc, ◌+◌, ◌*◌, ◌≤◌, Bool, true, false, ◌&&◌, ◌||◌, List, [], ◌∷◌, ◌++◌, length, Option, Some, None, refl, sym, ap, arith, if◌then◌else◌, nat_eq, nat_lt, length-append}
 use Rattle.std.specs.Prelude.{Contains, is_some, is_none}
 use Rattle.std.proofs.lemmas.List.Elements.{Contains-append_cases}
 use Rattle.jc_methods.specs.Flow.{flow_of}
@@ -12,7 +12,7 @@ use Rattle.jc_bytes.proofs.BooleanLaws.{none_in}
 use Rattle.jc_plan.specs.declared.branch.Branch.{Branch}
 use Rattle.jc_plan.specs.Plan.{lead_probe}
 use Rattle.jc_plan.specs.Probed.{probe_of}
-use Rattle.jc_emit.specs.Emission.{emission, frame, frame_if, moved_state, has_frame, has_inverse, is_further, arm_frame, arm_frames, frames_at, wide_frames_at}
+use Rattle.jc_emit.specs.Emission.{Emitting, emission, frame, frame_if, moved_state, has_frame, has_inverse, tests_by, arm_frame, arm_frames, frames_at, wide_frames_at}
 use Rattle.jc_emit.specs.Items.{lead_of, land_of, image_of}
 use Rattle.jc_emit.specs.Sizes.{narrow, insn_at, late_probe, arms_at, arm_sizes, hop_size}
 use Rattle.jc_emit.specs.TwinFrames.{state_at, left_by, state_behind}
@@ -26,9 +26,9 @@ use Rattle.jc_instrument_code.specs.TwinCode.{chosen_frames}
 abbrev pub arms_size : Body → (first : ℕ) → ℕ → ℕ
 arms_size b first i = arm_sizes (probe_of b first) (arms_at b.code i)
 
-module _ (b : Body) (first : ℕ) (states : List State) (array : ℕ) where
+module _ (b : Body) (first : ℕ) (states : List State) (given : Emitting) where
   abbrev moved : State → State
-  moved s = moved_state b first states array s
+  moved s = moved_state b first states given s
 
   -- the state before an instruction, or what it leaves of it
   abbrev pub IsOf : State → Type 0
@@ -37,7 +37,7 @@ module _ (b : Body) (first : ℕ) (states : List State) (array : ℕ) where
   pub record IsMoved (f : FrameAt) : Type 0 where
     pub state : State
     pub of : IsOf state
-    pub is : f.state ≡ moved_state b first states array state
+    pub is : f.state ≡ moved_state b first states given state
 
   moved_frame : (q : ℕ) (s : State) (f : FrameAt) → IsOf s → frame q (moved s) ≡ f → IsMoved f
   moved_frame q s f of same = record { state = s; of = of; is = ap (λ (g : FrameAt). g.state) (sym same) }
@@ -55,52 +55,52 @@ module _ (b : Body) (first : ℕ) (states : List State) (array : ℕ) where
   one_moved : (t : Bool) (q : ℕ) (s : State) (f : FrameAt) → IsOf s → Contains (frame_if t (frame q (moved s))) f → IsMoved f
   one_moved t q s f of c = moved_frame q s f of (if_listed t (frame q (moved s)) f c).1
 
-  arms_moved : (here : ℕ) (s : State) (xs : List Branch) → IsOf s → (f : FrameAt) → Contains (arm_frames b first states array here (moved s) xs) f → IsMoved f
+  arms_moved : (here : ℕ) (s : State) (xs : List Branch) → IsOf s → (f : FrameAt) → Contains (arm_frames b first states given here (moved s) xs) f → IsMoved f
   arms_moved here s [] of f c = absurd (none_in f c)
   arms_moved here s (x ∷ xs) of f c =
       ⊎_elim (λ front. single (probe_of b first x) front)
       (λ rest. arms_moved (here + hop_size (probe_of b first x)) s xs of f rest)
-      (Contains-append_cases (arm_frame b first states array here (moved s) (probe_of b first x)) _ f c)
+      (Contains-append_cases (arm_frame b first states given here (moved s) (probe_of b first x)) _ f c)
     where
-      single : (o : Option ℕ) → Contains (arm_frame b first states array here (moved s) o) f → IsMoved f
+      single : (o : Option ℕ) → Contains (arm_frame b first states given here (moved s) o) f → IsMoved f
       single None d = absurd (none_in f d)
       single (Some id) d = moved_frame here s f of (contains_one (frame here (moved s)) f d)
 
   abbrev lead_frames : ℕ → List FrameAt
   lead_frames i =
-      frame_if (has_inverse b first states array i && is_some (lead_probe b first i)) (frame (lead_of b first narrow i) (moved (state_at states i)))
+      frame_if (has_inverse b first states given i && is_some (lead_probe b first i)) (frame (lead_of b first (narrow given.fetch) i) (moved (state_at states i)))
 
   abbrev land_frames : ℕ → List FrameAt
   land_frames i =
-      frame_if (has_frame b first states array i || (has_inverse b first states array i && is_none (lead_probe b first i)))
-      (frame (land_of b first narrow i) (moved (state_at states i)))
+      frame_if (has_frame b first states given i || (has_inverse b first states given i && is_none (lead_probe b first i)))
+      (frame (land_of b first (narrow given.fetch) i) (moved (state_at states i)))
 
   abbrev switch_frames : ℕ → List FrameAt
   switch_frames i =
-      arm_frames b first states array (image_of b first narrow i + 1) (moved (left_by (insn_at b.code i) (state_at states i))) (arms_at b.code i)
+      arm_frames b first states given (image_of b first (narrow given.fetch) i + 1) (moved (left_by (insn_at b.code i) (state_at states i))) (arms_at b.code i)
 
   abbrev narrow_frames : List FrameAt
-  narrow_frames = pieces (frames_at b first states array) (length b.code)
+  narrow_frames = pieces (frames_at b first states given) (length b.code)
 
   abbrev further : List FrameAt
-  further = pieces (wide_frames_at b first states array) (length b.code)
+  further = pieces (wide_frames_at b first states given) (length b.code)
 
   narrow_moved : (f : FrameAt) → Contains narrow_frames f → IsMoved f
   narrow_moved f c =
-      let p = in_piece (frames_at b first states array) (length b.code) f c in
+      let p = in_piece (frames_at b first states given) (length b.code) f c in
       let i = p.piece in
-      ⊎_elim (λ front. one_moved _ (lead_of b first narrow i) (state_at states i) f (before i) front)
+      ⊎_elim (λ front. one_moved _ (lead_of b first (narrow given.fetch) i) (state_at states i) f (before i) front)
       (λ rest.
-      ⊎_elim (λ middle. one_moved _ (land_of b first narrow i) (state_at states i) f (before i) middle)
-      (λ last. arms_moved (image_of b first narrow i + 1) (left_by (insn_at b.code i) (state_at states i)) (arms_at b.code i) (left i) f last)
+      ⊎_elim (λ middle. one_moved _ (land_of b first (narrow given.fetch) i) (state_at states i) f (before i) middle)
+      (λ last. arms_moved (image_of b first (narrow given.fetch) i + 1) (left_by (insn_at b.code i) (state_at states i)) (arms_at b.code i) (left i) f last)
       (Contains-append_cases (land_frames i) (switch_frames i) f rest))
       (Contains-append_cases (lead_frames i) _ f p.listed)
 
   further_moved : (f : FrameAt) → Contains further f → IsMoved f
   further_moved f c =
-      let p = in_piece (wide_frames_at b first states array) (length b.code) f c in
+      let p = in_piece (wide_frames_at b first states given) (length b.code) f c in
       let i = p.piece in
-      one_moved (is_further b first states array i (late_probe b first i) (flow_of (insn_at b.code i))) (image_of b first narrow i + 1)
+      one_moved (tests_by b first states given (flow_of (insn_at b.code i))) (image_of b first (narrow given.fetch) i + 1)
       (state_behind b states i (late_probe b first i)) f (behind i (late_probe b first i)) p.listed
 
   chosen_moved : (t : Bool) (f : FrameAt) → Contains (if t then merged narrow_frames further else narrow_frames) f → IsMoved f
@@ -108,9 +108,9 @@ module _ (b : Body) (first : ℕ) (states : List State) (array : ℕ) where
   chosen_moved true f c = ⊎_elim (λ old. narrow_moved f old) (λ more. further_moved f more) (merged_cases narrow_frames further f c)
 
   -- each frame that is written has a moved state
-  pub each_moved : (f : FrameAt) → Contains (chosen_frames (emission b first states array)) f → IsMoved f
+  pub each_moved : (f : FrameAt) → Contains (chosen_frames (emission b first states given)) f → IsMoved f
   unfolding emission
-  each_moved f c = chosen_moved (is_wide (emission b first states array).code) f c
+  each_moved f c = chosen_moved (is_wide (emission b first states given).code) f c
 
   -- ---- how many there are
 
@@ -118,52 +118,54 @@ module _ (b : Body) (first : ℕ) (states : List State) (array : ℕ) where
   if_most true f = omega arith
   if_most false f = omega arith
 
-  arms_count : (here : ℕ) (s : State) (xs : List Branch) → 5 * length (arm_frames b first states array here s xs) ≡ arm_sizes (probe_of b first) xs
+  arms_count : (here : ℕ) (s : State) (xs : List Branch) → 5 * length (arm_frames b first states given here s xs) ≡ arm_sizes (probe_of b first) xs
   arms_count here s [] = refl
   arms_count here s (x ∷ xs) = by (probe_of b first x) (λ there. arms_count there s xs)
     where
-      by : (o : Option ℕ) → ((there : ℕ) → 5 * length (arm_frames b first states array there s xs) ≡ arm_sizes (probe_of b first) xs)
-          → 5 * length (arm_frame b first states array here s o ++ arm_frames b first states array (here + hop_size (probe_of b first x)) s xs)
+      by : (o : Option ℕ) → ((there : ℕ) → 5 * length (arm_frames b first states given there s xs) ≡ arm_sizes (probe_of b first) xs)
+          → 5 * length (arm_frame b first states given here s o ++ arm_frames b first states given (here + hop_size (probe_of b first x)) s xs)
           ≡ hop_size o + arm_sizes (probe_of b first) xs
       by None more = let rest = more (here + hop_size (probe_of b first x)) in omega (arith, rest)
       by (Some id) more = let rest = more (here + hop_size (probe_of b first x)) in omega (arith, rest)
 
-  frames_most : (i : ℕ) → 5 * length (frames_at b first states array i) ≤ 10 + arms_size b first i
+  frames_most : (i : ℕ) → 5 * length (frames_at b first states given i) ≤ 10 + arms_size b first i
   frames_most i =
-      let lead = if_most (has_inverse b first states array i && is_some (lead_probe b first i)) (frame (lead_of b first narrow i) (moved (state_at states i))) in
-      let land = if_most (has_frame b first states array i || (has_inverse b first states array i && is_none (lead_probe b first i)))
-      (frame (land_of b first narrow i) (moved (state_at states i))) in
-      let arms = arms_count (image_of b first narrow i + 1) (moved (left_by (insn_at b.code i) (state_at states i))) (arms_at b.code i) in
+      let lead = if_most (has_inverse b first states given i && is_some (lead_probe b first i)) (frame (lead_of b first (narrow given.fetch) i) (moved (state_at states i))) in
+      let land = if_most (has_frame b first states given i || (has_inverse b first states given i && is_none (lead_probe b first i)))
+      (frame (land_of b first (narrow given.fetch) i) (moved (state_at states i))) in
+      let arms = arms_count (image_of b first (narrow given.fetch) i + 1) (moved (left_by (insn_at b.code i) (state_at states i))) (arms_at b.code i) in
       let both = length-append (lead_frames i) (land_frames i ++ switch_frames i) in
       let more = length-append (land_frames i) (switch_frames i) in
       omega (arith, lead, land, arms, both, more)
 
-  narrow_most : (n : ℕ) → 5 * length (pieces (frames_at b first states array) n) ≤ 10 * n + total (arms_size b first) n
+  narrow_most : (n : ℕ) → 5 * length (pieces (frames_at b first states given) n) ≤ 10 * n + total (arms_size b first) n
   narrow_most zero = omega arith
   narrow_most (suc n) =
       let rest = narrow_most n in
       let one = frames_most n in
-      let both = length-append (pieces (frames_at b first states array) n) (frames_at b first states array n) in
+      let both = length-append (pieces (frames_at b first states given) n) (frames_at b first states given n) in
       omega (arith, rest, one, both)
 
-  further_most : (n : ℕ) → length (pieces (wide_frames_at b first states array) n) ≤ n
+  further_most : (n : ℕ) → length (pieces (wide_frames_at b first states given) n) ≤ n
   further_most zero = omega arith
   further_most (suc n) =
       let rest = further_most n in
-      let one = if_most (is_further b first states array n (late_probe b first n) (flow_of (insn_at b.code n)))
-      (frame (image_of b first narrow n + 1) (moved (state_behind b states n (late_probe b first n)))) in
-      let both = length-append (pieces (wide_frames_at b first states array) n) (wide_frames_at b first states array n) in
+      let one = if_most (tests_by b first states given (flow_of (insn_at b.code n)))
+      (frame (image_of b first (narrow given.fetch) n + 1) (moved (state_behind b states n (late_probe b first n)))) in
+      let both = length-append (pieces (wide_frames_at b first states given) n) (wide_frames_at b first states given n) in
       omega (arith, rest, one, both)
 
-  with_count : (f : FrameAt) (gs : List FrameAt) → length (with_frame f gs) ≡ length gs + 1
-  with_count f [] = refl
-  with_count f (g ∷ gs) = by (nat_lt f.at g.at) (with_count f gs)
+  with_count : (f : FrameAt) (gs : List FrameAt) → length (with_frame f gs) ≤ length gs + 1
+  with_count f [] = omega arith
+  with_count f (g ∷ gs) = by (nat_lt f.at g.at) (nat_eq f.at g.at) (with_count f gs)
     where
-      by : (t : Bool) → length (with_frame f gs) ≡ length gs + 1 → length (if t then f ∷ g ∷ gs else g ∷ with_frame f gs) ≡ length (g ∷ gs) + 1
-      by true rest = omega arith
-      by false rest = omega (arith, rest)
+      by : (t u : Bool) → length (with_frame f gs) ≤ length gs + 1
+          → length (if t then f ∷ g ∷ gs else if u then g ∷ gs else g ∷ with_frame f gs) ≤ length (g ∷ gs) + 1
+      by true u rest = omega arith
+      by false true rest = omega arith
+      by false false rest = omega (arith, rest)
 
-  merged_count : (fs gs : List FrameAt) → length (merged fs gs) ≡ length fs + length gs
+  merged_count : (fs gs : List FrameAt) → length (merged fs gs) ≤ length fs + length gs
   merged_count fs [] = omega arith
   merged_count fs (g ∷ gs) =
       let rest = merged_count fs gs in
@@ -178,6 +180,6 @@ module _ (b : Body) (first : ℕ) (states : List State) (array : ℕ) where
       let both = merged_count narrow_frames further in
       omega (arith, most, more, both)
 
-  pub written_most : 5 * length (chosen_frames (emission b first states array)) ≤ 15 * length b.code + total (arms_size b first) (length b.code)
+  pub written_most : 5 * length (chosen_frames (emission b first states given)) ≤ 15 * length b.code + total (arms_size b first) (length b.code)
   unfolding emission
-  written_most = chosen_most (is_wide (emission b first states array).code)
+  written_most = chosen_most (is_wide (emission b first states given).code)

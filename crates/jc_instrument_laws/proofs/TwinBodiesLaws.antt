@@ -14,6 +14,8 @@ use Rattle.jc_methods.specs.declared.body.Body.{Body}
 use Rattle.jc_methods.specs.declared.body.FrameAt.{FrameAt}
 use Rattle.jc_methods.specs.declared.body.Use.{Use}
 use Rattle.jc_methods.specs.declared.emitted.Emitted.{Emitted}
+use Rattle.jc_methods.specs.declared.probe_members.Fetch.{Fetch}
+use Rattle.jc_methods.specs.declared.probe_members.Fetch.TheVariants as fetches
 use Rattle.jc_pool.specs.Pool.{PoolValue}
 use Rattle.jc_class.specs.declared.class_file.ClassFile.{ClassFile}
 use Rattle.jc_class.specs.declared.class_file.Member.{Member}
@@ -21,6 +23,8 @@ use Rattle.jc_frames.specs.FullTable.{named_by, named_by_all}
 use Rattle.jc_body.specs.BodyOf.{BodyOf, BodyOfAnySize}
 use Rattle.jc_kinds.specs.Answers.{AreStates}
 use Rattle.jc_plan.specs.Probed.{first_id, probe_count}
+use Rattle.jc_emit.specs.Added.{giver_of}
+use Rattle.jc_emit.specs.Marks.{TwinPlaces}
 use Rattle.jc_emit.specs.Twin.{Twin}
 use Rattle.jc_emit.specs.TwinProgram.{AreTwinBodies}
 use Rattle.jc_layout.specs.LaidBody.{laid_body, laid_frames}
@@ -81,9 +85,10 @@ work_there (y ∷ works) rising (suc i) x at =
 
 -- ---- the frames of a layout
 
-laid_frames_are : (b : Body) (e : Emitted) (wide : Bool) (call : ℕ) (uses : List Use) → (laid_body b e wide call uses).frames ≡ laid_frames wide e
+laid_frames_are : (b : Body) (e : Emitted) (wide : Bool) (fetch : Fetch) (p : TwinPlaces) (uses : List Use)
+    → (laid_body b e wide fetch p uses).frames ≡ laid_frames wide e
 unfolding laid_body
-laid_frames_are b e wide call uses = refl
+laid_frames_are b e wide fetch p uses = refl
 
 module _ (id : ℕ) (names : Names) (array : ℕ) (works : List BodyWithStates) (c : ClassFile) (pool : PoolValue) (places : MemberPlaces)
     (r : AreWrittenWorks id names array works c pool places) where
@@ -94,7 +99,7 @@ module _ (id : ℕ) (names : Names) (array : ℕ) (works : List BodyWithStates) 
   pub record IsTwinOf (x : BodyWithStates) (y : Body) : Type 0 where
     pub states : AreStates names x.body x.states
     pub is : BodyOfAnySize names (twin_class names array c works pool places) x.body.method y
-    pub twin_is : Twin names names x.states (name_of c) x.first x.body y
+    pub twin_is : Twin names names x.states fetches.Member (giver_of fetches.Member (name_of c) 0) x.first x.body y
     pub named : named_by_all (map (type_state_at names) y.frames) ≡ named_by_all (written_frames names (emitted_of array x))
 
   abbrev code : BodyWithStates → List ℕ
@@ -134,12 +139,12 @@ module _ (id : ℕ) (names : Names) (array : ℕ) (works : List BodyWithStates) 
         };
         twin_is =
             subst
-            (λ (o : List ℕ). Twin names names x.states o x.first x.body
+            (λ (o : List ℕ). Twin names names x.states fetches.Member (giver_of fetches.Member o 0) x.first x.body
             (body_again names c (twin_class names array c works pool places) (code_places pool places) array body.method new x.body x.states x.first written))
             owner_is
             (is_twin names c (twin_class names array c works pool places) (code_places pool places) array body.method new x.body x.states x.first written);
         named =
-            ap (λ (l : List FrameAt). named_by_all (map (type_state_at names) l)) (laid_frames_are x.body (emitted_of array x) (is_wide (emitted_of array x).code) places.method _)
+            ap (λ (l : List FrameAt). named_by_all (map (type_state_at names) l)) (laid_frames_are x.body (emitted_of array x) (is_wide (emitted_of array x).code) fetches.Member _ _)
             ∙ laid_named (is_wide (emitted_of array x).code) names (emitted_of array x);
       },
     )
@@ -151,14 +156,14 @@ module _ (id : ℕ) (names : Names) (array : ℕ) (works : List BodyWithStates) 
 
   pub in_order : (added : Body) (first : ℕ) (ws : List BodyWithStates) (ys : List Body) → AllZip IsTwinOf ws ys
       → ((i : ℕ) (x : BodyWithStates) → slice_get ws i ≡ Some x → x.first ≡ first + first_id (bodies_of ws) i)
-      → AreTwinBodies names names (name_of c) first (bodies_of ws) (ys ++ added ∷ []) added
+      → AreTwinBodies names names fetches.Member (giver_of fetches.Member (name_of c) 0) first (bodies_of ws) (ys ++ added ∷ []) added
   in_order added first [] [] zip firsts = refl
   in_order added first [] (y ∷ ys) zip firsts = absurd zip
   in_order added first (x ∷ ws) [] zip firsts = absurd zip
   in_order added first (x ∷ ws) (y ∷ ys) zip firsts =
       let own = firsts 0 x refl in
       let same : x.first ≡ first = omega (arith, own) in (
-        record { states = x.states; are = zip.0.states; twin = subst (λ (n : ℕ). Twin names names x.states (name_of c) n x.body y) same zip.0.twin_is },
+        record { states = x.states; are = zip.0.states; twin = subst (λ (n : ℕ). Twin names names x.states fetches.Member (giver_of fetches.Member (name_of c) 0) n x.body y) same zip.0.twin_is },
         in_order added (first + probe_count x.body) ws ys zip.1 (λ i z at.
             let e = firsts (suc i) z at in
             let more = sum_by-cons probe_count x.body (take i (bodies_of ws)) in

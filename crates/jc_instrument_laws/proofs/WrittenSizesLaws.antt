@@ -15,6 +15,7 @@ use Rattle.jc_methods.specs.declared.body.LineAt.{LineAt}
 use Rattle.jc_methods.specs.declared.body.VarAt.{VarAt}
 use Rattle.jc_methods.specs.declared.emitted.Emitted.{Emitted}
 use Rattle.jc_methods.specs.declared.kind.State.{State}
+use Rattle.jc_methods.specs.declared.probe_members.Fetch.TheVariants as fetches
 use Rattle.jc_class.specs.declared.class_file.Attribute.{Attribute}
 use Rattle.jc_frames.specs.FullFrames as full
 use Rattle.jc_insn.proofs.ReadBackLaws.{short_size, word_size}
@@ -30,6 +31,7 @@ use Rattle.jc_instrument_code.specs.CodeText.{attribute_text, counted_text, row_
 use Rattle.jc_instrument_code.specs.FirstPlaces.{text_place}
 use Rattle.jc_instrument_code.specs.TwinCode.{chosen_frames, written_frames, offset_in, places_of, lines_name, vars_name, kind_vars_name, code_attributes, twin_code}
 use Rattle.jc_instrument_code.proofs.TwinCodeLaws.{placed_size}
+use Rattle.jc_instrument_reread.specs.WrittenCode.{by_method}
 use Rattle.jc_instrument.specs.RoomCauses.{probed_code}
 use Rattle.jc_instrument_laws.proofs.CodeWeightLaws.{code_least}
 use Rattle.jc_instrument_laws.proofs.EmittedFramesLaws.{arms_size, written_most}
@@ -93,11 +95,11 @@ module _ (names : Names) (b : Body) (first : ℕ) (states : List State) (array :
     (stack : b.max_stack ≤ 65532)
     (short_code : chosen_length (probed_code b first) ≤ 65535)
     (small : AllByRecursion (λ f. length f.state.locals + length f.state.stack ≤ b.max_locals + 1 + b.max_stack)
-    (written_frames names (emission b first states array)))
+    (written_frames names (emission b first states (by_method array))))
     (handlers : 8 * length b.handlers ≤ most_read) (lines : 4 * length b.lines ≤ most_read) (vars : 10 * length b.vars ≤ most_read)
     (kind_vars : 10 * length b.kind_vars ≤ most_read) where
   abbrev e : Emitted
-  e = emission b first states array
+  e = emission b first states (by_method array)
 
   abbrev count : ℕ
   count = length b.code
@@ -115,7 +117,7 @@ module _ (names : Names) (b : Body) (first : ℕ) (states : List State) (array :
   frames_size : length (chosen_frames e) * frame_size ≤ 3990000000
   frames_size =
       let least = code_least b first in
-      let few = written_most b first states array in
+      let few = written_most b first states (by_method array) in
       let frames = length (chosen_frames e) in
       let five : (5 * frames) * frame_size ≤ (15 * count + arms) * frame_size = mul-le-mul_right frame_size few in
       let split = add-mul (15 * count) arms frame_size in
@@ -137,32 +139,32 @@ module _ (names : Names) (b : Body) (first : ℕ) (states : List State) (array :
   rows_few : length (counted_text (row_text (offset_in e)) e.handlers) ≤ 67110000
   unfolding emission
   rows_few =
-      let rows = map (moved_row (lead_of b first narrow) (land_of b first narrow)) b.handlers in
+      let rows = map (moved_row (lead_of b first (narrow fetches.Member)) (land_of b first (narrow fetches.Member))) b.handlers in
       let text = row_text (offset_in e) in
       let all = counted_count 0 text rows in
       let size = sized_most 0 text 8 (row_count (offset_in e)) rows in
-      let same = length-map b.handlers (moved_row (lead_of b first narrow) (land_of b first narrow)) in
+      let same = length-map b.handlers (moved_row (lead_of b first (narrow fetches.Member)) (land_of b first (narrow fetches.Member))) in
       omega (arith, all, size, same, handlers)
 
   lines_few : (name : ℕ) (offset : ℕ → ℕ) → length (flat_map attribute_text (table_attributes name (line_text offset) e.lines)) ≤ 67120000
   unfolding emission
   lines_few name offset =
-      let same = length-map b.lines (moved_line (land_of b first narrow)) in
-      table_few name 4 (line_text offset) (line_count offset) (map (moved_line (land_of b first narrow)) b.lines) (omega (arith, same, lines))
+      let same = length-map b.lines (moved_line (land_of b first (narrow fetches.Member))) in
+      table_few name 4 (line_text offset) (line_count offset) (map (moved_line (land_of b first (narrow fetches.Member))) b.lines) (omega (arith, same, lines))
       (omega (arith, same, lines))
 
   vars_few : (name : ℕ) (offset : ℕ → ℕ) → length (flat_map attribute_text (table_attributes name (var_text offset) e.vars)) ≤ 67120000
   unfolding emission
   vars_few name offset =
-      let same = length-map b.vars (moved_var b.arg_slots (land_of b first narrow)) in
-      table_few name 10 (var_text offset) (var_count offset) (map (moved_var b.arg_slots (land_of b first narrow)) b.vars) (omega (arith, same, vars))
+      let same = length-map b.vars (moved_var b.arg_slots (land_of b first (narrow fetches.Member))) in
+      table_few name 10 (var_text offset) (var_count offset) (map (moved_var b.arg_slots (land_of b first (narrow fetches.Member))) b.vars) (omega (arith, same, vars))
       (omega (arith, same, vars))
 
   kind_vars_few : (name : ℕ) (offset : ℕ → ℕ) → length (flat_map attribute_text (table_attributes name (var_text offset) e.kind_vars)) ≤ 67120000
   unfolding emission
   kind_vars_few name offset =
-      let same = length-map b.kind_vars (moved_var b.arg_slots (land_of b first narrow)) in
-      table_few name 10 (var_text offset) (var_count offset) (map (moved_var b.arg_slots (land_of b first narrow)) b.kind_vars) (omega (arith, same, kind_vars))
+      let same = length-map b.kind_vars (moved_var b.arg_slots (land_of b first (narrow fetches.Member))) in
+      table_few name 10 (var_text offset) (var_count offset) (map (moved_var b.arg_slots (land_of b first (narrow fetches.Member))) b.kind_vars) (omega (arith, same, kind_vars))
       (omega (arith, same, kind_vars))
 
   module _ (pool : PoolValue) (method frames_name : ℕ) where

@@ -3,11 +3,12 @@ use Rattle.std.specs.Prelude.{◌≡◌, ◌⊎◌, ℕ, ◌<◌, List, [], ◌�
 use Rattle.std.specs.List.{flat_map}
 use Rattle.jc_methods.specs.VerificationTypes.{Names, TypeStateAt, type_state_at}
 use Rattle.jc_methods.specs.declared.body.Body.{Body}
+use Rattle.jc_methods.specs.declared.probe_members.Fetch.TheVariants as fetches
 use Rattle.jc_class.specs.ClassId.{class_id}
 use Rattle.jc_class.specs.ClassText.{ClassText}
 use Rattle.jc_class.specs.declared.class_file.ClassFile.{ClassFile}
 use Rattle.jc_body.specs.BodyOf.{BodyOfAnySize, Bodiless}
-use Rattle.jc_emit.specs.Added.{IsInitBody}
+use Rattle.jc_emit.specs.Added.{IsInitBody, giver_of}
 use Rattle.jc_emit.specs.TwinProgram.{AreTwinBodies}
 use Rattle.jc_plan.specs.Analysed.{all_probes}
 use Rattle.jc_instrument.specs.Bodies.{AreBodies, IsListed}
@@ -30,8 +31,8 @@ frames_of names bodies = flat_map (λ b. map (type_state_at names) b.frames) bod
 -- ---- the class
 
 -- The twin of a class with this id. Its bodies are read whatever their size is. They are the twins of the bodies of the class, in
--- order, whose first ids are told by the bodies in front, and then the one that gives the array of probes. What the pool takes are
--- the needs of the added members and the classes that the frames of the twins name. Outside of code the class is as before.
+-- order, whose first ids are told by the bodies in front, and then the method that gives them the array of probes. What the pool takes
+-- are the needs of the added members and the classes that the frames of the twins name. Outside of code the class is as before.
 pub record TwinClass (id : ℕ) (c twin : ClassFile) : Type 0 where
   pub names : Names
   pub bodies : List Body
@@ -40,7 +41,7 @@ pub record TwinClass (id : ℕ) (c twin : ClassFile) : Type 0 where
   pub twins : List Body
   pub added : Body
   pub read : AreBodiesOfAnySize new_names twin (twins ++ added ∷ [])
-  pub each : AreTwinBodies names new_names (name_of c) 0 bodies (twins ++ added ∷ []) added
+  pub each : AreTwinBodies names new_names fetches.Member (giver_of fetches.Member (name_of c) 0) 0 bodies (twins ++ added ∷ []) added
   pub added_is : IsInitBody new_names (name_of c) (signed_id id) (all_probes bodies) added
   pub outside : IsSameOutside id (needed (name_of c) (signed_id id) (frames_of new_names twins)) (all_probes bodies) c twin
 

@@ -5,6 +5,7 @@ use Rattle.jc_bytes.specs.Failing.{Said}
 use Rattle.jc_emit.specs.Emission.{emission}
 use Rattle.jc_layout.specs.Layable.{IsLayable}
 use Rattle.jc_layout.specs.Layout.{chosen_length}
+use Rattle.jc_instrument_reread.specs.WrittenCode.{by_method}
 use Rattle.jc_instrument.specs.Probing.{IsRefusedAsLarge}
 use Rattle.jc_instrument.proofs.ProbingLaws.{emission_code}
 use Rattle.jc_instrument.proofs.ready.laid_body.Goals as goal
@@ -15,7 +16,7 @@ laid-requires c = subst IsLayable (sym c.deref.ensures) c.in_ok-code.ensures.lay
 pub returns-clause-laid : goal.returns-clause-laid
 returns-clause-laid c = λ first states array is.
     let b = c.args.body.now in
-    c.in_ok-laid.ensures.laid (emission b first states array)
+    c.in_ok-laid.ensures.laid (emission b first states (by_method array))
     (emission_code b first states array ∙ sym (c.in_ok-code.ensures.code first is) ∙ sym c.deref.ensures)
 
 pub returns-in_err-laid-clause-refused : goal.returns-in_err-laid-clause-refused
