@@ -22,6 +22,7 @@ use Rattle.jc_methods.specs.InsnForm.{form_of}
 use Rattle.jc_methods.specs.InsnUse.{pool_place, Suits, IsClass, LocalsWithin, LeadsWithin}
 use Rattle.jc_methods.specs.WellMade.{IsCode, IsHandler, IsLine, IsVar, IsKind, HasUse, AreUses, IsWellMade, HasShortTexts}
 use Rattle.jc_methods.specs.VerificationTypes.{type_state}
+use Rattle.jc_methods.specs.declared.probe_members.Fetch.TheVariants as fetches
 use Rattle.jc_kinds_after.specs.Table.{table, forms_at}
 use Rattle.jc_kinds_after.specs.After.{after_of}
 use Rattle.jc_kinds_after.specs.Shift.{Straddles}
@@ -30,6 +31,7 @@ use Rattle.jc_kinds.specs.StateShift.{IsStraddled}
 use Rattle.jc_kinds.specs.Answers.{IsStateAt}
 use Rattle.jc_kinds.specs.Checking.{verdict_of, passes}
 use Rattle.jc_kinds.proofs.CheckLaws.{passes_checked}
+use Rattle.jc_plan.specs.Probed.{probe_count}
 use Rattle.jc_emit.specs.Emission.{emission}
 use Rattle.jc_emit.specs.Items.{twin_items}
 use Rattle.jc_emit.specs.TwinFrames.{state_at}
@@ -40,7 +42,7 @@ use Rattle.jc_emit.proofs.TwinBodyLaws.{has_twin}
 use Rattle.examples_machine.specs.ProgramExamples.{div, div_program}
 use Rattle.examples_machine.proofs.FitExampleLaws.{no_falls, return_ends, int_is_type}
 use Rattle.examples_simulation.specs.CoverageExamples.{probed_div, probed_div_program}
-use Rattle.examples_simulation.proofs.OneMethodLaws.{names, one_is_twin}
+use Rattle.examples_simulation.proofs.OneMethodLaws.{names, given, places, giver, free, one_is_twin}
 
 -- ---- the body is well made
 
@@ -169,12 +171,15 @@ none_straddles i (inr (f, c, at, more)) = none_in f c
 fit : (f : FrameAt) → Contains div.frames f → state_at states f.at ≡ f.state
 fit f c = absurd (none_in f c)
 
-is_twin_body : twin_body div 0 states 0 95 ≡ probed_div
+is_twin_body : twin_body div 0 states given places (giver div) 0 ≡ probed_div
 unfolding twin_body emission twin_items
 is_twin_body = refl
 
-div_twin : Twin names names states div.owner 0 div probed_div
-div_twin = subst (Twin names names states div.owner 0 div) is_twin_body (has_twin div 0 states 0 95 names made.of_any_size fit refl refl)
+div_twin : Twin names names states fetches.Member (giver div) 0 div probed_div
+div_twin =
+    let few : probe_count div ≡ 1 = refl in
+    subst (Twin names names states fetches.Member (giver div) 0 div) is_twin_body
+    (has_twin div 0 states given places (giver div) 0 names made.of_any_size fit refl (free div refl (omega (arith, few))))
 
 -- ---- the program
 
@@ -184,5 +189,5 @@ no_added (inr e) = cc
 
 pub div_is_twin : TwinProgram div_program probed_div_program
 div_is_twin =
-    one_is_twin div probed_div 5 1 refl refl refl made (passes_checked names div (omega arith) verdict) no_added none_straddles
+    one_is_twin div probed_div 5 1 refl refl refl refl made (passes_checked names div (omega arith) verdict) no_added none_straddles
     (record { states = states; are = record { count = refl; each = each }; twin = div_twin })

@@ -14,12 +14,14 @@ use Rattle.jc_methods.specs.declared.body.FrameAt.{FrameAt}
 use Rattle.jc_methods.specs.DescriptorTypes.{types_from, rest_from}
 use Rattle.jc_methods.specs.WellMade.{kind_slots, IsKind}
 use Rattle.jc_methods.specs.VerificationTypes.{type_state}
+use Rattle.jc_methods.specs.declared.probe_members.Fetch.TheVariants as fetches
 use Rattle.jc_kinds_after.specs.Table.{table, forms_at}
 use Rattle.jc_kinds_after.specs.After.{after_of}
 use Rattle.jc_kinds_after.specs.Shift.{Straddles}
 use Rattle.jc_kinds.specs.States.{state_of}
 use Rattle.jc_kinds.specs.StateShift.{IsStraddled}
 use Rattle.jc_kinds.specs.Answers.{IsStateAt}
+use Rattle.jc_plan.specs.Probed.{probe_count}
 use Rattle.jc_emit.specs.Emission.{emission}
 use Rattle.jc_emit.specs.Items.{twin_items}
 use Rattle.jc_emit.specs.TwinFrames.{state_at}
@@ -30,7 +32,7 @@ use Rattle.jc_emit.proofs.TwinBodyLaws.{has_twin}
 use Rattle.jc_machine_model.specs.Programs.{IsProgramBody, IsLinked}
 use Rattle.examples_machine.specs.ProgramExamples.{a_name, abs, abs_program, probed_abs, probed_abs_program, class, frame}
 use Rattle.examples_machine.proofs.FitExampleLaws.{abs_is_program}
-use Rattle.examples_simulation.proofs.OneMethodLaws.{names, only, one_is_twin}
+use Rattle.examples_simulation.proofs.OneMethodLaws.{names, given, places, giver, free, only, one_is_twin}
 
 -- ---- states
 
@@ -104,12 +106,15 @@ in_program : IsProgramBody names abs
 in_program = All-contains (IsProgramBody names) (abs ∷ []) abs
     (All-contains (IsLinked names) abs_program.classes (class a_name (abs ∷ []) []) abs_is_program.classes (first_in (class a_name (abs ∷ []) []) [])).bodies (first_in abs [])
 
-is_twin_body : twin_body abs 0 states 0 95 ≡ probed_abs
+is_twin_body : twin_body abs 0 states given places (giver abs) 0 ≡ probed_abs
 unfolding twin_body emission twin_items
 is_twin_body = refl
 
-abs_twin : Twin names names states abs.owner 0 abs probed_abs
-abs_twin = subst (Twin names names states abs.owner 0 abs) is_twin_body (has_twin abs 0 states 0 95 names in_program.well_made.of_any_size fit refl refl)
+abs_twin : Twin names names states fetches.Member (giver abs) 0 abs probed_abs
+abs_twin =
+    let few : probe_count abs ≡ 2 = refl in
+    subst (Twin names names states fetches.Member (giver abs) 0 abs) is_twin_body
+    (has_twin abs 0 states given places (giver abs) 0 names in_program.well_made.of_any_size fit refl (free abs refl (omega (arith, few))))
 
 -- ---- the program
 
@@ -119,5 +124,5 @@ no_added (inr e) = cc
 
 pub is_twin : TwinProgram abs_program probed_abs_program
 is_twin =
-    one_is_twin abs probed_abs 7 2 refl refl refl in_program.well_made in_program.checked no_added none_straddles
+    one_is_twin abs probed_abs 7 2 refl refl refl refl in_program.well_made in_program.checked no_added none_straddles
     (record { states = states; are = record { count = refl; each = each }; twin = abs_twin })

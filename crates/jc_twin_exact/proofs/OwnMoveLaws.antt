@@ -107,7 +107,7 @@ module _ (p p' : Program) (sides : Entry → Side) where
           (ap due_of (sym same) ∙ s.due_is, ap early_of (sym same) ∙ s.no_early)
       by (Some v) e =
           let s = subst (OkStart (sides m).body.code (sides m).slot (sides m).ids (sides m).items) e side.ok.start in
-          let same : start 0 ≡ x = same_Some (start 0) x (sym s ∙ here) in
+          let same : start s.0 0 ≡ x = same_Some (start s.0 0) x (sym s.1 ∙ here) in
           (ap due_of (sym same), ap early_of (sym same))
 
   -- ---- handlers

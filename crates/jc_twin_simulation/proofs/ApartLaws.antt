@@ -1,5 +1,5 @@
 -- Worlds that fit and are together, in terms of the two programs, belong together.
-use Rattle.std.proofs.Common.{◌≡◌, inl, inr, ⊎_elim, ℕ, zero, suc, ◌+◌, ◌-◌, ◌<◌, ◌≤◌, Bool, true, false, not, ◌&&◌, List, [], ◌∷◌, ◌++◌, length, insert, drop, Option, Some, None, option_and_then, nat_eq, refl, sym, ap, ap₂, ◌∙◌, subst, arith, if◌then◌else◌}
+use Rattle.std.proofs.Common.{◌≡◌, inl, inr, ⊎_elim, ℕ, zero, suc, ◌+◌, ◌-◌, ◌<◌, ◌≤◌, Bool, true, false, not, ◌&&◌, List, [], ◌∷◌, ◌++◌, length, insert, drop, Option, Some, None, option_and_then, nat_eq, nat_le, refl, sym, ap, ap₂, ◌∙◌, subst, arith, if◌then◌else◌}
 use Rattle.std.specs.Prelude.{IsTrue, slice_get, slice_index_or}
 use Rattle.std.specs.List.{AllByRecursion}
 use Rattle.std.proofs.lemmas.Bool.{true≢false, lt-ltb, le-ltb, eqb-true, eqb-false, and_parts, not-true, cases_lt}
@@ -9,7 +9,8 @@ use Rattle.jc_bytes.proofs.ListLaws.{mapped_at}
 use Rattle.jc_methods.specs.Opcode as opcode
 use Rattle.jc_methods.specs.Flow.{flow_of}
 use Rattle.jc_methods.specs.WellMade.{what_used}
-use Rattle.jc_methods.specs.ProbeMembers.{data_name}
+use Rattle.jc_methods.specs.ProbeMembers.{data_name, most_short}
+use Rattle.jc_methods.specs.declared.probe_members.Fetch.TheVariants as fetches
 use Rattle.jc_methods.specs.declared.insn.Insn.{Insn}
 use Rattle.jc_methods.specs.declared.insn.Insn.TheVariants as insns
 use Rattle.jc_methods.specs.declared.insn.Flow.TheVariants as flows
@@ -21,10 +22,11 @@ use Rattle.jc_programs.specs.declared.program.StaticField.{StaticField}
 use Rattle.jc_programs.specs.declared.run_end.Entry.{Entry}
 use Rattle.jc_programs.specs.Members.{class_at, body_of}
 use Rattle.jc_emit.specs.Items.{Item, start, image, probe_array, probe_id, probe_one, probe_store, hop, at_of, extra_of}
-use Rattle.jc_emit.specs.Local.{OkStart, OkImage}
-use Rattle.jc_emit.specs.Marks.{TwinPlaces, Marks, push}
+use Rattle.jc_emit.specs.Local.{OkImage}
+use Rattle.jc_emit.specs.Marks.{TwinPlaces, Marks, PushesBy, Pushes}
 use Rattle.jc_emit.specs.Sizes.{insn_at}
-use Rattle.jc_emit.specs.TwinProgram.{IsPair, IsChangedPair, IsUnchangedPair, data_static}
+use Rattle.jc_emit.specs.Added.{data_static}
+use Rattle.jc_emit.specs.TwinProgram.{IsPair, IsChangedPair, IsUnchangedPair}
 use Rattle.jc_plan.specs.Edges.{sequence}
 use Rattle.jc_machine_model.specs.Values.{Value, probes}
 use Rattle.jc_machine_model.specs.Heap.{HeapObject}
@@ -42,7 +44,7 @@ use Rattle.jc_twin_simulation.specs.Same as spec
 use Rattle.jc_twin_simulation.specs.Sides.{Side, count_in, array_of, IsSide, AreSides, AreMarksOf}
 use Rattle.jc_twin_simulation.specs.Mid.{pushed_of, null_or, step_stack, SameLocals, OneMethod, SameFrame, SameWait, SameWaits, init_method, SameStuck, Inside, extra_in, SameStatics, values_of, SameShared, SameThread, SameThreads, Mid}
 use Rattle.jc_twin_simulation.specs.Together.{count_of, array_in, ArePushed, HasProbeState, HasInitState, HasTopState, HasState, IsStuckWithin, Together}
-use Rattle.jc_twin_simulation.proofs.ClassLaws.{other_name, unchanged_data, changed_data}
+use Rattle.jc_twin_simulation.proofs.ClassLaws.{other_name, changed_statics, unchanged_data, changed_data}
 use Rattle.jc_twin_simulation.proofs.FrameLaws.{body_is, location, twin_insn}
 use Rattle.jc_twin_simulation.proofs.TurnLaws.{called}
 use Rattle.jc_twin_simulation.proofs.PlaceLaws.{any_at}
@@ -232,17 +234,26 @@ module _ (p p' : Program) (sides : Entry → Side) (marks : Entry → Marks) (ar
   -- an item whose instruction names a member is an image or the call of the prelude
   data IsCalling (x : Item) : Type 0 where
     an_image : (new : Insn) (at : ℕ) (early : Option ℕ) → x ≡ image new at early → IsCalling x
-    the_prelude : x ≡ start 0 → IsCalling x
+    the_prelude : x ≡ start fetches.Member 0 → IsCalling x
 
-  no_number : (n op place : ℕ) → push n ≡ insns.Member op place → ⊥
-  no_number n op place e = ⊎_elim (λ h. let no = sym h.1 ∙ e in cc) (λ h. let no = sym h.1 ∙ e in cc) (number_form n)
+  no_number : (uses : List Use) (n op place : ℕ) → Pushes uses (insns.Member op place) n → ⊥
+  no_number uses n op place h = by (nat_le n most_short) h
+    where
+      by : (short : Bool) → PushesBy short uses (insns.Member op place) n → ⊥
+      by true e = ⊎_elim (λ k. let no = e ∙ k.1 in cc) (λ k. let no = e ∙ k.1 in cc) (number_form n)
+      by false e = let no = e.1 in cc
 
   calling : (uses : List Use) (named : TwinPlaces) (v : ℕ) (x : Item) (insn : Insn) (op place : ℕ) → IsInsnOf uses named v x insn → insn ≡ insns.Member op place → IsCalling x
-  calling uses named v (start zero) insn op place h e = the_prelude refl
+  calling uses named v (start fetches.Member zero) insn op place h e = the_prelude refl
   calling uses named v (image new at early) insn op place h e = an_image new at early refl
-  calling uses named v (start (suc k)) insn op place h e = let no = sym h ∙ e in cc
+  calling uses named v (start fetches.Member (suc zero)) insn op place h e = let no = sym h ∙ e in cc
+  calling uses named v (start fetches.Member (suc (suc k))) insn op place h e = let no = sym h ∙ e in cc
+  calling uses named v (start fetches.Constant zero) insn op place h e = let no = sym h ∙ e in cc
+  calling uses named v (start fetches.Constant (suc zero)) insn op place h e = let no = sym h ∙ e in cc
+  calling uses named v (start fetches.Constant (suc (suc zero))) insn op place h e = let no = sym h ∙ e in cc
+  calling uses named v (start fetches.Constant (suc (suc (suc k)))) insn op place h e = let no = sym h ∙ e in cc
   calling uses named v (probe_array id at late) insn op place h e = let no = sym h ∙ e in cc
-  calling uses named v (probe_id id at late) insn op place h e = absurd (no_number id op place (sym h ∙ e))
+  calling uses named v (probe_id id at late) insn op place h e = absurd (no_number uses id op place (subst (λ i. Pushes uses i id) e h))
   calling uses named v (probe_one id at late) insn op place h e = let no = sym h ∙ e in cc
   calling uses named v (probe_store id at late) insn op place h e = let no = sym h ∙ e in cc
   calling uses named v (hop to at due) insn op place h e = let no = sym h ∙ e in cc
@@ -262,18 +273,18 @@ module _ (p p' : Program) (sides : Entry → Side) (marks : Entry → Marks) (ar
 
   module _ (s s' : Shared) (ss : SameShared p p' sides s s') where
     -- the prelude's call calls `$jacocoInit`
-    prelude_calls : (f f' : Frame) (h : SameFrame p p' sides f f') → h.item ≡ start 0 → (v : ℕ) → (sides f.method).slot ≡ Some v → (callee : Entry)
+    prelude_calls : (f f' : Frame) (h : SameFrame p p' sides f f') → h.item ≡ start fetches.Member 0 → (v : ℕ) → (sides f.method).slot ≡ Some v → (callee : Entry)
         → StandsAtCall p' f' callee → callee ≡ init_method p p' sides f.method
     prelude_calls f f' h call v e callee at =
         let t = sides f.method in
         let side = h.one.side in
         let c = side.changed v e in
         let there = insn_there p' f.method f'.place at.insn t.new t.twin side.new_is side.twin_is (ap (λ m. located p' m f'.place) (sym h.one.method) ∙ at.stands) in
-        let twin = twin_insn p p' sides f.method side f'.place (start 0) (h.here ∙ ap Some call) in
+        let twin = twin_insn p p' sides f.method side f'.place (start fetches.Member 0) (h.here ∙ ap Some call) in
         let insn : at.insn.insn ≡ insns.Member opcode.invokestatic t.places.giver = same_Some at.insn.insn twin.0 (sym there.0 ∙ twin.1) ∙ twin.2 in
         let named : called_by p' at.insn.at at.insn.insn ≡ Some (init_method p p' sides f.method) =
         ap (called_by p' at.insn.at) insn ∙ ap (λ (l : Location). named_by p' (what_used l.body.uses t.places.giver)) there.1
-        ∙ ap (named_by p') c.calls ∙ called p p' sides are s s' ss f f' h call v c in
+        ∙ ap (named_by p') c.gets.giver_is ∙ called p p' sides are s s' ss f f' h call v c in
         same_Some callee (init_method p p' sides f.method) (sym at.calls ∙ named)
 
     -- that method isn't one of the original
@@ -285,11 +296,11 @@ module _ (p p' : Program) (sides : Entry → Side) (marks : Entry → Marks) (ar
         ap₂ (λ (c : Linked) (x : Entry). slice_get c.bodies x.method) (sym same) (sym e) ∙ other.body_is in
         none-some (sides n).body (sym (slice_get_past (sides m).class.bodies (length (sides m).class.bodies) (omega arith)) ∙ there)
 
-    slot_of_call : (m : Entry) → IsSide p p' m (sides m) → (q : ℕ) → slice_get (sides m).items q ≡ Some (start 0) → (v : ℕ) × ((sides m).slot ≡ Some v)
+    slot_of_call : (m : Entry) → IsSide p p' m (sides m) → (q : ℕ) → slice_get (sides m).items q ≡ Some (start fetches.Member 0) → (v : ℕ) × ((sides m).slot ≡ Some v)
     slot_of_call m side q here = by (sides m).slot refl
       where
         by : (o : Option ℕ) → (sides m).slot ≡ o → (v : ℕ) × ((sides m).slot ≡ Some v)
-        by None e = absurd (true≢false (sym (subst (λ s. IsPlain s (sides m).items) e side.plain q (start 0) here)))
+        by None e = absurd (true≢false (sym (subst (λ s. IsPlain s (sides m).items) e side.plain q (start fetches.Member 0) here)))
         by (Some v) e = (v, e)
 
     wait_of : (f f' : Frame) (callee callee' : Entry) (h : SameFrame p p' sides f f') → FitsWaiting p f callee → FitsWaiting p' f' callee'
@@ -370,8 +381,8 @@ module _ (p p' : Program) (sides : Entry → Side) (marks : Entry → Marks) (ar
         by None e declares base zero_place class new = absurd (true≢false (sym declares ∙ (base.one.side.unchanged e).declares))
         by (Some v) e declares base zero_place class new =
             let t = sides f.method in
-            let begins = subst (OkStart t.body.code t.slot t.ids t.items) e base.one.side.ok.start in
-            let call : base.item ≡ start 0 = same_Some base.item (start 0) (sym base.here ∙ ap (slice_get t.items) zero_place ∙ begins) in
+            let begins = (base.one.side.changed v e).gets.starts in
+            let call : base.item ≡ start fetches.Member 0 = same_Some base.item (start fetches.Member 0) (sym base.here ∙ ap (slice_get t.items) zero_place ∙ begins) in
             let same_new : init.class ≡ t.new = same_Some init.class t.new (sym init.class_is ∙ new) in
             record {
               below = below;
@@ -463,7 +474,7 @@ module _ (p p' : Program) (sides : Entry → Side) (marks : Entry → Marks) (ar
 
         no_data : (k : ℕ) → (k ≡ length c.statics → ⊥) → is_data p' class k ≡ false
         no_data k other =
-            ap (is_data_in k) there ∙ ap (λ l. is_named_data (slice_get l k)) pair.statics
+            ap (is_data_in k) there ∙ ap (λ l. is_named_data (slice_get l k)) (changed_statics p.names p'.names c new pair)
             ∙ ap is_named_data (one_more c.statics k data_static other) ∙ named (slice_get c.statics k) refl
           where
             named : (o : Option StaticField) → slice_get c.statics k ≡ o → is_named_data o ≡ false

@@ -5,11 +5,15 @@ use Rattle.std.proofs.lemmas.Bool.{lt-ltb, leb-true, true≢false}
 use Rattle.jc_methods.specs.Opcode as opcode
 use Rattle.jc_methods.specs.declared.insn.Insn.{Insn}
 use Rattle.jc_methods.specs.declared.insn.Insn.TheVariants as insns
+use Rattle.jc_methods.specs.ProbeMembers.{most_short}
+use Rattle.jc_methods.specs.WellMade.{what_used}
+use Rattle.jc_methods.specs.declared.body.What.TheVariants as whats
+use Rattle.jc_methods.specs.declared.probe_members.Fetch.TheVariants as fetches
 use Rattle.jc_programs.specs.declared.program.Program.{Program}
 use Rattle.jc_programs.specs.declared.run_end.Entry.{Entry}
 use Rattle.jc_emit.specs.Items.{Item, start, image, probe_array, probe_id, probe_one, probe_store, hop, at_of, own_of}
 use Rattle.jc_emit.specs.Local.{Stands, Ok, OkStore}
-use Rattle.jc_emit.specs.Marks.{push, aload, astore, bastore}
+use Rattle.jc_emit.specs.Marks.{push, PushesBy, Pushes, aload, astore, bastore}
 use Rattle.jc_emit.specs.Ranks.{after_place}
 use Rattle.jc_methods.specs.Widened.{goto}
 use Rattle.jc_machine_model.specs.Values.{Value, int, probes, reference_type}
@@ -19,14 +23,14 @@ use Rattle.jc_machine_model.specs.Locals.{by_load, by_store, put_local}
 use Rattle.jc_machine_model.specs.Arrays.{by_probe, by_write}
 use Rattle.jc_bytes.specs.Descriptor.{Byte, Boolean}
 use Rattle.jc_machine_model.specs.Effects.{constant, effect}
-use Rattle.jc_machine_model.specs.Profile.{Location, operation_of}
+use Rattle.jc_machine_model.specs.Profile.{Location, constant_operation, operation_of}
 use Rattle.jc_machine_model.specs.Perform.{perform}
 use Rattle.jc_machine_model.specs.Step.{result_of}
 use Rattle.jc_twin_simulation.specs.Sides.{Side, array_of, count_in}
 use Rattle.jc_twin_simulation.specs.Probes.{hit_of}
 use Rattle.jc_twin_simulation.specs.Mid.{pushed_of, SameLocals, OneMethod, SameFrame}
 use Rattle.jc_twin_simulation.proofs.LocalLaws.{none_pushed, moves_on, reads_array, stores_array}
-use Rattle.jc_twin_simulation.proofs.FrameLaws.{location, result_is, twin_insn}
+use Rattle.jc_twin_simulation.proofs.FrameLaws.{location, result_is, no_constant, twin_insn}
 
 -- ---- the instructions of probes
 
@@ -47,7 +51,7 @@ medium : (r : Program) (at : Location) (s : Shared) (f : Frame) (op n : ℕ)
 unfolding operation_of perform
 medium r at s f op n = refl
 
-pub pushes_number : (r : Program) (at : Location) (s : Shared) (f : Frame) (n : ℕ)
+pushes_number : (r : Program) (at : Location) (s : Shared) (f : Frame) (n : ℕ)
     → perform (operation_of r at (push n)) s f ≡ goes_with s f (int (pos n) ∷ f.stack)
 pushes_number r at s f n = by (nat_le n 5) (nat_le n 127) refl
   where
@@ -58,6 +62,20 @@ pushes_number r at s f n = by (nat_le n 5) (nat_le n 127) refl
     by true b e = small r at s f n (leb-true n 5 e)
     by false true e = medium r at s f opcode.bipush n
     by false false e = medium r at s f opcode.sipush n
+
+-- the same by any instruction that pushes it
+constant_pushes : (r : Program) (at : Location) (s : Shared) (f : Frame) (n place : ℕ) → what_used at.body.uses place ≡ Some (whats.Int (pos n))
+    → perform (operation_of r at (insns.Constant place)) s f ≡ goes_with s f (int (pos n) ∷ f.stack)
+unfolding operation_of perform
+constant_pushes r at s f n place e = ap (λ o. perform (constant_operation at o) s f) e
+
+pub pushes_it : (r : Program) (at : Location) (s : Shared) (f : Frame) (insn : Insn) (n : ℕ) → Pushes at.body.uses insn n
+    → perform (operation_of r at insn) s f ≡ goes_with s f (int (pos n) ∷ f.stack)
+pushes_it r at s f insn n h = by (nat_le n most_short) h
+  where
+    by : (short : Bool) → PushesBy short at.body.uses insn n → perform (operation_of r at insn) s f ≡ goes_with s f (int (pos n) ∷ f.stack)
+    by true e = ap (λ i. perform (operation_of r at i) s f) e ∙ pushes_number r at s f n
+    by false e = ap (λ i. perform (operation_of r at i) s f) e.1 ∙ constant_pushes r at s f n e.0 e.2
 
 loads_array : (r : Program) (at : Location) (s : Shared) (f : Frame) (v : ℕ)
     → perform (operation_of r at (aload v)) s f ≡ by_load reference_type (slice_index_or f.locals v None) s f
@@ -128,26 +146,27 @@ module _ (p p' : Program) (sides : Entry → Side) where
     done : (x : Item) (insn : Insn) → slice_get t.twin.code f'.place ≡ Some insn → result_of p' s' f' ≡ perform (operation_of p' here_at insn) s' f'
     done x insn h = result_is p' s' f' f.method f'.place t.new t.twin insn o.method refl o.side.new_is o.side.twin_is h
 
-    pub aside_turn : (x : Item) → slice_get t.items f'.place ≡ Some x → own_of x ≡ false → (x ≡ start 0 → ⊥) → IsOk x → at_of x ≡ f.place
+    pub aside_turn : (x : Item) → slice_get t.items f'.place ≡ Some x → own_of x ≡ false → (x ≡ start fetches.Member 0 → ⊥) → IsOk x → at_of x ≡ f.place
         → f'.stack ≡ pushed_of a x ++ f.stack
         → SameLocals a t.slot f.locals f'.locals x → (v : ℕ) → t.slot ≡ Some v → Alone f f' x s' (result_of p' s' f')
-    aside_turn (start zero) h own other ok at st ls v e = absurd (other refl)
-    aside_turn (start (suc zero)) h own other ok at st ls v e =
-        let c = twin_insn p p' sides f.method o.side f'.place (start (suc zero)) h in
+    aside_turn (start fetches.Member zero) h own other ok at st ls v e = absurd (other refl)
+    aside_turn (start fetches.Member (suc zero)) h own other ok at st ls v e =
+        let c = twin_insn p p' sides f.method o.side f'.place (start fetches.Member (suc zero)) h in
         let slot = t.body.arg_slots in
         let same : t.slot ≡ Some slot = e ∙ ap Some (o.side.changed v e).slot in
         let g = record f' { place = f'.place + 1; stack = f.stack; locals = put_local slot a f'.locals } in
         record {
           frame = g;
           is =
-              done (start (suc zero)) c.0 c.1 ∙ ap (λ i. perform (operation_of p' here_at i) s' f') c.2 ∙ stores_it p' here_at s' f' slot
+              done (start fetches.Member (suc zero)) c.0 c.1 ∙ ap (λ i. perform (operation_of p' here_at i) s' f') c.2 ∙ stores_it p' here_at s' f' slot
               ∙ ap (λ l. by_store reference_type slot l s' f') st;
           same =
               to_stand g (f'.place + 1) 0 None ok.next.stands refl refl (sym at) refl
-              (λ y. stores_array a t.slot slot f.locals f'.locals (start (suc zero)) y same refl ls);
+              (λ y. stores_array a t.slot slot f.locals f'.locals (start fetches.Member (suc zero)) y same refl ls);
           to = refl;
         }
-    aside_turn (start (suc (suc k))) h own other ok at st ls v e = let within = ok.within in absurd (omega (arith, within))
+    aside_turn (start fetches.Member (suc (suc k))) h own other ok at st ls v e = let within = ok.within in absurd (omega (arith, within))
+    aside_turn (start fetches.Constant k) h own other ok at st ls v e = absurd (no_constant p p' sides f.method o.side k f'.place h)
     aside_turn (image insn i early) h own other ok at st ls v e = absurd (true≢false own)
     aside_turn (probe_array id i late) h own other ok at st ls v e =
         let c = twin_insn p p' sides f.method o.side f'.place (probe_array id i late) h in
@@ -169,7 +188,7 @@ module _ (p p' : Program) (sides : Entry → Side) where
         let g = next_with f' (int (pos id) ∷ f'.stack) in
         record {
           frame = g;
-          is = done (probe_id id i late) c.0 c.1 ∙ ap (λ i. perform (operation_of p' here_at i) s' f') c.2 ∙ pushes_number p' here_at s' f' id;
+          is = done (probe_id id i late) c.0 c.1 ∙ pushes_it p' here_at s' f' c.0 id c.2;
           same =
               to_item g (probe_one id i late) refl ok.1 at (ap (λ l. int (pos id) ∷ l) st)
               (moves_on a t.slot f.locals f'.locals (probe_id id i late) (probe_one id i late) tt ls);
@@ -210,6 +229,6 @@ module _ (p p' : Program) (sides : Entry → Side) where
         record {
           frame = g;
           is = done (hop to i due) c.0 c.1 ∙ ap (λ i. perform (operation_of p' here_at i) s' f') c.2 ∙ jumps_to p' here_at s' f' to;
-          same = to_stand g to i due ok.stands refl refl (sym at) st (λ y. moves_on a t.slot f.locals f'.locals (hop to i due) y tt ls);
+          same = to_stand g to i due ok.0.stands refl refl (sym at) st (λ y. moves_on a t.slot f.locals f'.locals (hop to i due) y tt ls);
           to = refl;
         }

@@ -13,7 +13,10 @@ use Rattle.jc_bytes.proofs.ListLaws.{map_append}
 use Rattle.jc_methods.specs.VerificationTypes.{Names}
 use Rattle.jc_methods.specs.DescriptorTypes.{types_from, method_type_in}
 use Rattle.jc_methods.specs.EntryState.{is_static}
-use Rattle.jc_methods.specs.ProbeMembers.{init_name}
+use Rattle.jc_methods.specs.ProbeMembers.{init_name, fetch_of}
+use Rattle.jc_methods.specs.declared.body.What.{What}
+use Rattle.jc_methods.specs.declared.probe_members.Fetch.{Fetch}
+use Rattle.jc_methods.specs.declared.probe_members.Fetch.TheVariants as fetches
 use Rattle.jc_methods.specs.declared.body.Body.{Body}
 use Rattle.jc_programs.specs.declared.program.Program.{Program}
 use Rattle.jc_programs.specs.declared.program.Linked.{Linked}
@@ -25,7 +28,8 @@ use Rattle.jc_programs.specs.Entries.{is_argument, are_arguments, is_entry, entr
 use Rattle.jc_plan.specs.Probed.{probe_count}
 use Rattle.jc_emit.specs.Items.{Item, start, at_of}
 use Rattle.jc_emit.specs.Local.{OkStart}
-use Rattle.jc_emit.specs.TwinProgram.{AreSameBodies, AreTwinBodies, IsPair, data_static}
+use Rattle.jc_emit.specs.Added.{giver_of, data_static}
+use Rattle.jc_emit.specs.TwinProgram.{AreSameBodies, AreTwinBodies, IsPair}
 use Rattle.jc_machine_model.specs.Values.{Value, null}
 use Rattle.jc_machine_model.specs.World.{running, stuck}
 use Rattle.jc_machine_model.specs.Methods.{is_enterable}
@@ -35,7 +39,7 @@ use Rattle.jc_machine_model.specs.Begin.{number_value, first_value, first_static
 use Rattle.jc_twin_simulation.specs.Sides.{Side, count_in, IsSide, AreSides}
 use Rattle.jc_twin_simulation.specs.Mid.{SameFrame, extra_in, SameStatics, SameShared, SameThread, SameThreads, Mid}
 use Rattle.jc_twin_simulation.proofs.PlaceLaws.{place, position_place, place_there, place_before, place_last, place-map}
-use Rattle.jc_twin_simulation.proofs.ClassLaws.{class_same, class_there, unchanged_data, changed_data}
+use Rattle.jc_twin_simulation.proofs.ClassLaws.{class_same, class_there, changed_init, changed_statics, unchanged_data, changed_data}
 use Rattle.jc_twin_simulation.proofs.EnterLaws.{static_slots, enters_same}
 use Rattle.jc_twin_simulation.proofs.MemberLaws.{enterable_same, entered_static}
 use Rattle.jc_twin_simulation.proofs.SameLaws.{no_class}
@@ -69,7 +73,7 @@ module _ (p p' : Program) (sides : Entry → Side) (are : AreSides p p' sides) w
   statics_by class c new there (inr pair) =
       subst (λ o. SameStatics o class (values c) (values new))
       (sym (ap extra_in there ∙ ap (λ b. if b then Some (count_in new.probes) else None) (changed_data p.names p'.names c new pair)))
-      (false, ap (map first_value) pair.statics ∙ map_append first_value c.statics data_static ∙ ap (λ v. map first_value c.statics ++ v ∷ []) data_first)
+      (false, ap (map first_value) (changed_statics p.names p'.names c new pair) ∙ map_append first_value c.statics data_static ∙ ap (λ v. map first_value c.statics ++ v ∷ []) data_first)
 
   statics_at : (class : ℕ) (o : Option Linked) → slice_get p.classes class ≡ o
       → SameStatics (extra_in (class_at p' class)) class (slice_index_or (first_statics p) class []) (slice_index_or (first_statics p') class [])
@@ -167,13 +171,14 @@ module _ (names new_names : Names) (thread : ThreadLine) where
       ap₂ (λ x l. x ∷ l) (entry_same b o (ap (λ (x : Body). x.flags) is) (ap (λ (x : Body). x.name) is) (ap (λ (x : Body). x.desc) is))
       (same_entries bodies others are.1)
 
-  twin_entries : (owner : List ℕ) (first : ℕ) (bodies others : List Body) (added : Body) → AreTwinBodies names new_names owner first bodies others added
+  twin_entries : (fetch : Fetch) (giver : What) (first : ℕ) (bodies others : List Body) (added : Body)
+      → AreTwinBodies names new_names fetch giver first bodies others added
       → map (is_entry thread) others ≡ map (is_entry thread) bodies ++ is_entry thread added ∷ []
-  twin_entries owner first [] others added are = ap (map (is_entry thread)) are
-  twin_entries owner first (b ∷ bodies) [] added are = absurd are
-  twin_entries owner first (b ∷ bodies) (o ∷ others) added are =
+  twin_entries fetch giver first [] others added are = ap (map (is_entry thread)) are
+  twin_entries fetch giver first (b ∷ bodies) [] added are = absurd are
+  twin_entries fetch giver first (b ∷ bodies) (o ∷ others) added are =
       let same = are.0.twin.method in
-      ap₂ (λ x l. x ∷ l) (entry_same b o same.flags same.name same.desc) (twin_entries owner (first + probe_count b) bodies others added are.1)
+      ap₂ (λ x l. x ∷ l) (entry_same b o same.flags same.name same.desc) (twin_entries fetch giver (first + probe_count b) bodies others added are.1)
 
   -- the added method is no entry
   no_entry : (b : Body) → b.name ≡ init_name → is_entry thread b ≡ false
@@ -197,8 +202,8 @@ module _ (names new_names : Names) (thread : ThreadLine) where
   position_same : (c new : Linked) → IsPair names new_names c new → position (is_entry thread) new.bodies ≡ position (is_entry thread) c.bodies
   position_same c new (inl pair) = place_entry new.bodies ∙ ap (place (λ x. x)) (same_entries c.bodies new.bodies pair.bodies) ∙ sym (place_entry c.bodies)
   position_same c new (inr pair) =
-      place_entry new.bodies ∙ ap (place (λ x. x)) (twin_entries c.name 0 c.bodies new.bodies pair.added pair.bodies)
-      ∙ ap (λ b. place (λ x. x) (map (is_entry thread) c.bodies ++ b ∷ [])) (no_entry pair.added pair.added_is.name)
+      place_entry new.bodies ∙ ap (place (λ x. x)) (twin_entries (fetch_of c.version) (giver_of (fetch_of c.version) c.name pair.bootstrap) 0 c.bodies new.bodies pair.added pair.bodies)
+      ∙ ap (λ b. place (λ x. x) (map (is_entry thread) c.bodies ++ b ∷ [])) (no_entry pair.added (changed_init names new_names c new pair).method.name)
       ∙ none_last (map (is_entry thread) c.bodies) (place (λ x. x) (map (is_entry thread) c.bodies)) refl
       ∙ sym (place_entry c.bodies)
 
@@ -228,7 +233,7 @@ module _ (p p' : Program) (sides : Entry → Side) (are : AreSides p p' sides) w
     where
       by : (o : Option ℕ) → (sides m).slot ≡ o → (x : Item) × (slice_get (sides m).items 0 ≡ Some x) × (at_of x ≡ 0)
       by None e = let s = (subst (OkStart (sides m).body.code (sides m).slot (sides m).ids (sides m).items) e side.ok.start).stands in (s.item, s.here, s.at_is)
-      by (Some v) e = (start 0, subst (OkStart (sides m).body.code (sides m).slot (sides m).ids (sides m).items) e side.ok.start, refl)
+      by (Some v) e = (start fetches.Member 0, (side.changed v e).gets.starts, refl)
 
   thread_same : (thread : ThreadLine) (entry : Entry) → IsThere p thread entry
       → SameThread p p' sides (first_thread p entry thread.args) (first_thread p' entry thread.args)

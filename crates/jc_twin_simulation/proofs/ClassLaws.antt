@@ -1,7 +1,8 @@
 -- The classes of a program and of its twin by their names, and their methods and fields.
-use Rattle.std.proofs.Common.{◌≡◌, ◌⊎◌, inl, inr, ⊎_elim, ℕ, zero, suc, ◌+◌, ◌<◌, Bool, true, false, ◌&&◌, ◌||◌, cond, List, [], ◌∷◌, ◌++◌, length, map, Some, None, refl, sym, ap, ap₂, ◌∙◌, arith}
+use Rattle.std.proofs.Common.{◌≡◌, ◌⊎◌, inl, inr, ⊎_elim, ℕ, zero, suc, ◌+◌, ◌<◌, Bool, true, false, ◌&&◌, ◌||◌, cond, List, [], ◌∷◌, ◌++◌, length, map, Some, None, refl, sym, ap, ap₂, ◌∙◌, subst, arith}
 use Rattle.std.specs.Prelude.{slice_get, bytes_eq}
-use Rattle.std.specs.List.{list_any}
+use Rattle.std.specs.Int.{w64, cast_signed}
+use Rattle.std.specs.List.{list_any, sum_by}
 use Rattle.std.proofs.lemmas.Bool.{and_parts, and_from, false_from_ne_true}
 use Rattle.std.proofs.lemmas.List.{length-map}
 use Rattle.std.proofs.lemmas.Option.{none-some}
@@ -9,14 +10,17 @@ use Rattle.jc_bytes.proofs.BooleanLaws.{stands_in}
 use Rattle.jc_bytes.proofs.TextEqualLaws.{same_bytes, bytes_are}
 use Rattle.jc_bytes.proofs.ListLaws.{map_append}
 use Rattle.jc_methods.specs.VerificationTypes.{Names}
-use Rattle.jc_methods.specs.ProbeMembers.{init_name, init_type, data_name, data_type}
+use Rattle.jc_methods.specs.ProbeMembers.{init_name, init_type, data_name, data_type, fetch_of}
+use Rattle.jc_methods.specs.declared.body.What.{What}
+use Rattle.jc_methods.specs.declared.probe_members.Fetch.{Fetch}
 use Rattle.jc_methods.specs.declared.body.Body.{Body}
 use Rattle.jc_programs.specs.declared.program.Program.{Program}
 use Rattle.jc_programs.specs.declared.program.Linked.{Linked}
 use Rattle.jc_programs.specs.declared.program.StaticField.{StaticField}
 use Rattle.jc_programs.specs.Members.{class_named, method_named, static_named}
 use Rattle.jc_plan.specs.Probed.{probe_count}
-use Rattle.jc_emit.specs.TwinProgram.{AreSameBodies, AreTwinBodies, IsPair, IsChangedPair, IsUnchangedPair, DifferInName, data_static}
+use Rattle.jc_emit.specs.Added.{IsInitBody, IsAddedBody, giver_of, bootstrap_of, data_static, added_statics}
+use Rattle.jc_emit.specs.TwinProgram.{AreSameBodies, AreTwinBodies, IsPair, IsChangedPair, IsUnchangedPair, DifferInName}
 use Rattle.jc_machine_model.specs.Methods.{is_init_name, declares_init}
 use Rattle.jc_twin_simulation.specs.Mid.{has_data}
 use Rattle.jc_twin_simulation.proofs.PlaceLaws.{place, position_place, place_there, place_before, place_last, place_none, place_is, any_at, none_at, place-map}
@@ -55,13 +59,33 @@ module _ (names new_names : Names) where
   same_keys (b ∷ bodies) [] are = absurd are
   same_keys (b ∷ bodies) (o ∷ others) are = ap₂ (λ k l. k ∷ l) (ap body_key are.0.others) (same_keys bodies others are.1)
 
-  twin_keys : (owner : List ℕ) (first : ℕ) (bodies others : List Body) (added : Body) → AreTwinBodies names new_names owner first bodies others added
+  twin_keys : (fetch : Fetch) (giver : What) (first : ℕ) (bodies others : List Body) (added : Body)
+      → AreTwinBodies names new_names fetch giver first bodies others added
       → map body_key others ≡ map body_key bodies ++ body_key added ∷ []
-  twin_keys owner first [] others added are = ap (map body_key) are
-  twin_keys owner first (b ∷ bodies) [] added are = absurd are
-  twin_keys owner first (b ∷ bodies) (o ∷ others) added are =
+  twin_keys fetch giver first [] others added are = ap (map body_key) are
+  twin_keys fetch giver first (b ∷ bodies) [] added are = absurd are
+  twin_keys fetch giver first (b ∷ bodies) (o ∷ others) added are =
       let same = are.0.twin.method in
-      ap₂ (λ k l. k ∷ l) (ap₂ (λ n d. record { name = n; desc = d }) same.name same.desc) (twin_keys owner (first + probe_count b) bodies others added are.1)
+      ap₂ (λ k l. k ∷ l) (ap₂ (λ n d. record { name = n; desc = d }) same.name same.desc) (twin_keys fetch giver (first + probe_count b) bodies others added are.1)
+
+-- ---- what is added to a class
+
+module _ (names new_names : Names) (c new : Linked) (pair : IsChangedPair names new_names c new) where
+  pub changed_keys : map body_key new.bodies ≡ map body_key c.bodies ++ body_key pair.added ∷ []
+  changed_keys =
+      twin_keys names new_names (fetch_of c.version) (giver_of (fetch_of c.version) c.name pair.bootstrap) 0 c.bodies new.bodies pair.added pair.bodies
+
+  pub changed_init : IsInitBody new_names c.name (cast_signed w64 pair.id) (sum_by probe_count c.bodies) pair.added
+  changed_init = subst (λ f. IsAddedBody f new_names c.name (cast_signed w64 pair.id) (sum_by probe_count c.bodies) pair.added) pair.by_member pair.added_is
+
+  pub changed_statics : new.statics ≡ c.statics ++ data_static ∷ []
+  changed_statics = pair.statics ∙ ap (λ f. c.statics ++ added_statics f) pair.by_member
+
+  pub changed_probes : new.probes ≡ Some (record { id = pair.id; count = sum_by probe_count c.bodies; bootstrap = None })
+  changed_probes =
+      pair.probes ∙ ap (λ f. Some (record { id = pair.id; count = sum_by probe_count c.bodies; bootstrap = bootstrap_of f pair.bootstrap })) pair.by_member
+
+-- ---- what is found
 
 -- what is found among some is found where others stand behind them
 found_before : (test : Key → Bool) (xs ys all : List Key) (k : ℕ) → all ≡ xs ++ ys → place test xs ≡ Some k → place test all ≡ Some k
@@ -85,7 +109,7 @@ module _ (names new_names : Names) (c new : Linked) where
   statics_found (inr pair) name desc k h =
       static_place new.statics name desc
       ∙ found_before (fits_key name desc) (map field_key c.statics) (field_key data_static ∷ []) (map field_key new.statics) k
-      (ap (map field_key) pair.statics ∙ map_append field_key c.statics data_static) (sym (static_place c.statics name desc) ∙ h)
+      (ap (map field_key) (changed_statics names new_names c new pair) ∙ map_append field_key c.statics data_static) (sym (static_place c.statics name desc) ∙ h)
 
   pub statics_missing : IsPair names new_names c new → (name desc : List ℕ) → static_named c.statics name desc ≡ None
       → (static_named new.statics name desc ≡ None) ⊎ ((k : ℕ) × (static_named new.statics name desc ≡ Some k) × (bytes_eq name data_name ≡ true))
@@ -99,7 +123,7 @@ module _ (names new_names : Names) (c new : Linked) where
         same_bytes name data_name (sym (bytes_are data_name name (and_parts (bytes_eq data_name name) (bytes_eq data_type desc) last.1).0)),
       ))
       (found_last (fits_key name desc) (map field_key c.statics) (field_key data_static) (map field_key new.statics)
-      (ap (map field_key) pair.statics ∙ map_append field_key c.statics data_static) (sym (static_place c.statics name desc) ∙ h))
+      (ap (map field_key) (changed_statics names new_names c new pair) ∙ map_append field_key c.statics data_static) (sym (static_place c.statics name desc) ∙ h))
 
   -- ---- methods
 
@@ -111,7 +135,7 @@ module _ (names new_names : Names) (c new : Linked) where
   methods_found (inr pair) name desc k h =
       method_place new.bodies name desc
       ∙ found_before (fits_key name desc) (map body_key c.bodies) (body_key pair.added ∷ []) (map body_key new.bodies) k
-      (twin_keys names new_names c.name 0 c.bodies new.bodies pair.added pair.bodies) (sym (method_place c.bodies name desc) ∙ h)
+      (changed_keys names new_names c new pair) (sym (method_place c.bodies name desc) ∙ h)
 
   -- the added method
   pub record FindsAdded (name desc : List ℕ) : Type 0 where
@@ -128,7 +152,7 @@ module _ (names new_names : Names) (c new : Linked) where
       (λ none. inl (method_place new.bodies name desc ∙ none))
       (λ last. inr (record { pair = pair; found = method_place new.bodies name desc ∙ last.0 ∙ ap Some (length-map c.bodies body_key); fits = last.1 }))
       (found_last (fits_key name desc) (map body_key c.bodies) (body_key pair.added) (map body_key new.bodies)
-      (twin_keys names new_names c.name 0 c.bodies new.bodies pair.added pair.bodies) (sym (method_place c.bodies name desc) ∙ h))
+      (changed_keys names new_names c new pair) (sym (method_place c.bodies name desc) ∙ h))
 
 -- ---- classes
 
@@ -177,7 +201,7 @@ pub data_found : (names new_names : Names) (c new : Linked) → IsChangedPair na
     → static_named new.statics data_name data_type ≡ Some (length c.statics)
 data_found names new_names c new pair =
     position_place (fits_field data_name data_type) new.statics
-    ∙ ap (place (fits_field data_name data_type)) pair.statics
+    ∙ ap (place (fits_field data_name data_type)) (changed_statics names new_names c new pair)
     ∙ place_last (fits_field data_name data_type) c.statics data_static
     (place_none (fits_field data_name data_type) c.statics
     (λ k f e. ap (λ b. b && bytes_eq f.desc data_type)
@@ -191,7 +215,7 @@ pub init_found : (names new_names : Names) (c new : Linked) (pair : IsChangedPai
     → method_named new.bodies init_name init_type ≡ Some (length c.bodies)
 init_found names new_names c new pair =
     method_place new.bodies init_name init_type
-    ∙ ap (place (fits_key init_name init_type)) (twin_keys names new_names c.name 0 c.bodies new.bodies pair.added pair.bodies)
+    ∙ ap (place (fits_key init_name init_type)) (changed_keys names new_names c new pair)
     ∙ place_last (fits_key init_name init_type) (map body_key c.bodies) (body_key pair.added) (sym (method_place c.bodies init_name init_type) ∙ missing)
     ∙ ap (λ b. cond b (Some (length (map body_key c.bodies))) None) fits ∙ ap Some (length-map c.bodies body_key)
   where
@@ -203,7 +227,8 @@ init_found names new_names c new pair =
         (other_name b.name init_name (λ same. pair.none_added.bodies b (stands_in c.bodies k b e) (inl same))))
 
     fits : fits_key init_name init_type (body_key pair.added) ≡ true
-    fits = and_from _ _ (same_bytes pair.added.name init_name pair.added_is.name) (same_bytes pair.added.desc init_type pair.added_is.desc)
+    fits = and_from _ _ (same_bytes pair.added.name init_name (changed_init names new_names c new pair).method.name)
+        (same_bytes pair.added.desc init_type (changed_init names new_names c new pair).method.desc_is)
 
 -- ---- which classes declare `$jacocoInit`
 
@@ -230,7 +255,8 @@ unchanged_declares names new_names c new pair =
 pub changed_declares : (names new_names : Names) (c new : Linked) (pair : IsChangedPair names new_names c new)
     → slice_get new.bodies (length c.bodies) ≡ Some pair.added → declares_init new ≡ true
 changed_declares names new_names c new pair e =
-    any_at (λ (b : Body). is_init_name b.name) new.bodies (length c.bodies) pair.added e (same_bytes pair.added.name init_name pair.added_is.name)
+    any_at (λ (b : Body). is_init_name b.name) new.bodies (length c.bodies) pair.added e
+    (same_bytes pair.added.name init_name (changed_init names new_names c new pair).method.name)
 
 -- ---- which classes have `$jacocoData`
 
@@ -247,4 +273,4 @@ unchanged_data names new_names c new pair =
 pub changed_data : (names new_names : Names) (c new : Linked) → IsChangedPair names new_names c new → has_data new ≡ true
 changed_data names new_names c new pair =
     any_at (λ (f : StaticField). bytes_eq f.name data_name) new.statics (length c.statics) data_static
-    (ap (λ l. slice_get l (length c.statics)) pair.statics ∙ last_field c.statics data_static) (same_bytes data_name data_name refl)
+    (ap (λ l. slice_get l (length c.statics)) (changed_statics names new_names c new pair) ∙ last_field c.statics data_static) (same_bytes data_name data_name refl)

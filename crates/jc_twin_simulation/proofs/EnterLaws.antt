@@ -11,6 +11,7 @@ use Rattle.jc_methods.specs.DescriptorTypes.{method_type_in}
 use Rattle.jc_methods.specs.EntryState.{is_static}
 use Rattle.jc_methods.specs.WellMade.{TakeSlots}
 use Rattle.jc_methods.proofs.DescriptorTypesLaws.{method_again}
+use Rattle.jc_methods.specs.declared.probe_members.Fetch.TheVariants as fetches
 use Rattle.jc_programs.specs.declared.program.Program.{Program}
 use Rattle.jc_programs.specs.declared.run_end.Entry.{Entry}
 use Rattle.jc_emit.specs.Items.{Item, start, at_of}
@@ -127,7 +128,7 @@ module _ (p p' : Program) (sides : Entry → Side) where
       a : Value
       a = array_of t m.class
 
-      frame : (item : Item) → slice_get t.items 0 ≡ Some item → at_of item ≡ 0 → pushed_of a item ≡ [] → ((v : ℕ) → t.slot ≡ Some v → item ≡ start 0)
+      frame : (item : Item) → slice_get t.items 0 ≡ Some item → at_of item ≡ 0 → pushed_of a item ≡ [] → ((v : ℕ) → t.slot ≡ Some v → item ≡ start fetches.Member 0)
           → SameFrame p p' sides (new_frame m (locals_for t.body.max_locals values)) (new_frame m (locals_for t.twin.max_locals values))
       frame item here at none new = record {
         one = record { method = refl; side = side; entered = entered };
@@ -146,4 +147,4 @@ module _ (p p' : Program) (sides : Entry → Side) where
           let begins = subst (OkStart t.body.code t.slot t.ids t.items) e side.ok.start in
           let s = begins.stands in
           frame s.item s.here s.at_is (none_pushed a t 0 0 None s) (λ v q. absurd (none-some v (sym e ∙ q)))
-      by (Some v) e = frame (start 0) (subst (OkStart t.body.code t.slot t.ids t.items) e side.ok.start) refl refl (λ u q. refl)
+      by (Some v) e = frame (start fetches.Member 0) (side.changed v e).gets.starts refl refl (λ u q. refl)

@@ -1,18 +1,19 @@
 -- Frames that stand at an instruction and at its image, and frames that come to where both go on.
-use Rattle.std.proofs.Common.{◌≡◌, ℕ, Bool, true, false, List, ◌++◌, Option, Some, nat_eq, refl, sym, ap, ◌∙◌, subst, subst₂}
+use Rattle.std.proofs.Common.{◌≡◌, ℕ, zero, suc, Bool, true, false, List, ◌++◌, Option, Some, None, nat_eq, refl, sym, ap, ◌∙◌, subst, subst₂}
 use Rattle.std.specs.Prelude.{slice_get, option_and_then}
-use Rattle.std.proofs.lemmas.Bool.{eqb-true}
-use Rattle.std.proofs.lemmas.Option.{slice_get-get_or}
+use Rattle.std.proofs.lemmas.Bool.{eqb-true, true≢false}
+use Rattle.std.proofs.lemmas.Option.{slice_get-get_or, same_Some}
 use Rattle.jc_methods.specs.declared.insn.Insn.{Insn}
 use Rattle.jc_methods.specs.declared.insn.Insn.TheVariants as insns
 use Rattle.jc_methods.specs.declared.body.Body.{Body}
+use Rattle.jc_methods.specs.declared.probe_members.Fetch.TheVariants as fetches
 use Rattle.jc_programs.specs.declared.program.Program.{Program}
 use Rattle.jc_programs.specs.declared.program.Linked.{Linked}
 use Rattle.jc_programs.specs.declared.run_end.Entry.{Entry}
 use Rattle.jc_programs.specs.Members.{body_of}
 use Rattle.jc_emit.specs.Items.{Item, start, image}
-use Rattle.jc_emit.specs.Local.{OkStart, IsBehind}
-use Rattle.jc_emit.specs.Seen.{IsInsnOf}
+use Rattle.jc_emit.specs.Local.{IsBehind}
+use Rattle.jc_emit.specs.Seen.{IsInsnOf, IsPlain}
 use Rattle.jc_emit.specs.Sizes.{insn_at}
 use Rattle.jc_machine_model.specs.Values.{Value}
 use Rattle.jc_machine_model.specs.World.{Frame, Shared}
@@ -25,6 +26,7 @@ use Rattle.jc_twin_simulation.specs.Mid.{SameLocals, OneMethod, SameFrame, SameS
 use Rattle.jc_twin_simulation.proofs.LocalLaws.{none_pushed, moves_on}
 use Rattle.jc_twin_simulation.proofs.OwnLaws.{SameResult, AtImage, performed}
 use Rattle.jc_twin_simulation.proofs.OperationLaws.{alike}
+use Rattle.jc_twin_simulation.proofs.RunItemLaws.{in_front}
 
 -- ---- the body of a method
 
@@ -78,19 +80,30 @@ module _ (p p' : Program) (sides : Entry → Side) where
       → (insn : Insn) × (slice_get (sides m).twin.code q ≡ Some insn) × IsInsnOf (sides m).twin.uses (sides m).places (sides m).body.arg_slots x insn
   twin_insn m side q x here = side.code.each q x here
 
+  -- the prelude gets the array by the method
+  pub no_constant : (m : Entry) → IsSide p p' m (sides m) → (k q : ℕ) → slice_get (sides m).items q ≡ Some (start fetches.Constant k) → ⊥
+  no_constant m side zero q here = by (sides m).slot refl
+    where
+      by : (o : Option ℕ) → (sides m).slot ≡ o → ⊥
+      by None e = true≢false (sym (subst (λ s. IsPlain s (sides m).items) e side.plain q (start fetches.Constant 0) here))
+      by (Some v) e =
+          let place : q ≡ 0 = (side.ok.ok q (start fetches.Constant 0) here).place in
+          let same = same_Some (start fetches.Member 0) (start fetches.Constant 0) (sym (side.changed v e).gets.starts ∙ ap (slice_get (sides m).items) (sym place) ∙ here) in
+          cc
+  no_constant m side (suc k) q here =
+      let f = in_front (sides m).items side.runs q (start fetches.Constant (suc k)) here (λ h. h) in
+      no_constant m side k f.place (f.here ∙ ap Some f.follows)
+
   -- a prelude stands at the beginning of a twin
-  pub past_start : (m : Entry) → IsSide p p' m (sides m) → (q : ℕ) (x : Item) → slice_get (sides m).items q ≡ Some x → (x ≡ start 0 → ⊥)
+  pub past_start : (m : Entry) → IsSide p p' m (sides m) → (q : ℕ) (x : Item) → slice_get (sides m).items q ≡ Some x → (x ≡ start fetches.Member 0 → ⊥)
       → (v : ℕ) → (sides m).slot ≡ Some v → nat_eq q 0 ≡ false
   past_start m side q x here other v e = by (nat_eq q 0) refl
     where
-      begins : slice_get (sides m).items 0 ≡ Some (start 0)
-      begins = subst (OkStart (sides m).body.code (sides m).slot (sides m).ids (sides m).items) e side.ok.start
-
       same_some : (x y : Item) → Some x ≡ Some y → x ≡ y
       same_some x y e = cc
 
       by : (b : Bool) → nat_eq q 0 ≡ b → b ≡ false
-      by true h = absurd (other (same_some x (start 0) (sym here ∙ ap (slice_get (sides m).items) (eqb-true q 0 h) ∙ begins)))
+      by true h = absurd (other (same_some x (start fetches.Member 0) (sym here ∙ ap (slice_get (sides m).items) (eqb-true q 0 h) ∙ (side.changed v e).gets.starts)))
       by false h = refl
 
   module _ (are : AreSides p p' sides) (f f' : Frame) (new : Insn) (early : Option ℕ) (o : AtImage p p' sides f f' new early)

@@ -1,5 +1,5 @@
 -- A turn of a frame of `$jacocoInit`.
-use Rattle.std.proofs.Common.{◌≡◌, ◌⊎◌, inl, inr, ℕ, ℤ, pos, ◌+◌, ◌<◌, Bool, true, false, not, ◌&&◌, ◌||◌, List, [], ◌∷◌, length, Option, Some, None, nat_eq, is_some, refl, sym, ap, ◌∙◌, arith, if◌then◌else◌}
+use Rattle.std.proofs.Common.{◌≡◌, ◌⊎◌, inl, inr, ℕ, ℤ, pos, ◌+◌, ◌<◌, Bool, true, false, not, ◌&&◌, ◌||◌, List, [], ◌∷◌, length, Option, Some, None, nat_eq, nat_le, is_some, refl, sym, ap, ◌∙◌, arith, if◌then◌else◌}
 use Rattle.std.specs.Prelude.{slice_get, bytes_eq, codes, option_and_then, int_le}
 use Rattle.std.specs.Int.{w64, cast_signed}
 use Rattle.std.specs.List.{sum_by}
@@ -10,7 +10,7 @@ use Rattle.jc_bytes.proofs.TextEqualLaws.{same_bytes}
 use Rattle.jc_bytes.proofs.BooleanLaws.{and_false}
 use Rattle.jc_methods.specs.Opcode as opcode
 use Rattle.jc_methods.specs.DescriptorTypes.{types_from, field_type_in, method_type_in}
-use Rattle.jc_methods.specs.ProbeMembers.{init_name, init_type, data_name, data_type, runtime_class, fetch_name, fetch_type}
+use Rattle.jc_methods.specs.ProbeMembers.{init_name, init_type, data_name, data_type, runtime_class, fetch_name, fetch_type, most_short}
 use Rattle.jc_methods.specs.declared.insn.Insn.{Insn}
 use Rattle.jc_methods.specs.declared.insn.Insn.TheVariants as insns
 use Rattle.jc_methods.specs.declared.body.Body.{Body}
@@ -20,7 +20,8 @@ use Rattle.jc_programs.specs.declared.program.ProbeInit.{ProbeInit}
 use Rattle.jc_programs.specs.declared.run_end.Entry.{Entry}
 use Rattle.jc_programs.specs.Members.{class_named, class_at, static_named}
 use Rattle.jc_plan.specs.Probed.{probe_count}
-use Rattle.jc_emit.specs.Added.{init_code, IsInitBody}
+use Rattle.jc_emit.specs.Added.{push_count, init_code, HasCount, IsInitBody}
+use Rattle.jc_emit.specs.Marks.{push, PushesBy, Pushes}
 use Rattle.jc_machine_model.specs.Values.{Value, int, long, null, probes, text, reference_type}
 use Rattle.jc_machine_model.specs.World.{Frame, Shared}
 use Rattle.jc_machine_model.specs.Operations.{FieldAt, pushes, outside}
@@ -36,9 +37,9 @@ use Rattle.jc_machine_model.specs.Step.{result_of}
 use Rattle.jc_twin_simulation.specs.Sides.{Side, count_in, IsChanged, IsSide, AreSides}
 use Rattle.jc_twin_simulation.specs.Mid.{null_or, InitStep, reads_field, doubles, asks_null, clears, wants_id, wants_text, wants_count, fetches_array, keeps_array, writes_field, gives_back, step_place, step_stack, extra_in, values_of, SameShared}
 use Rattle.jc_twin_simulation.proofs.StaticLaws.{reads_extra, puts_extra}
-use Rattle.jc_twin_simulation.proofs.ClassLaws.{class_same, class_again, changed_data, data_found}
+use Rattle.jc_twin_simulation.proofs.ClassLaws.{class_same, class_again, changed_init, changed_probes, changed_data, data_found}
 use Rattle.jc_twin_simulation.proofs.FrameLaws.{location, result_is}
-use Rattle.jc_twin_simulation.proofs.AsideLaws.{pushes_number}
+use Rattle.jc_twin_simulation.proofs.AsideLaws.{pushes_it}
 
 -- ---- words of the machine
 
@@ -116,7 +117,7 @@ module _ (p p' : Program) (sides : Entry → Side) where
     array = probes k init.count
 
     i : IsInitBody p'.names t.class.name (cast_signed w64 c.pair.id) (sum_by probe_count t.class.bodies) b
-    i = c.pair.added_is
+    i = changed_init p.names p'.names t.class t.new c.pair
 
     abbrev code : List Insn
     code = init_code i.places init.count
@@ -125,13 +126,13 @@ module _ (p p' : Program) (sides : Entry → Side) where
     at q = location (record { class = k; method = length t.class.bodies }) q t.new b
 
     named : (q : ℕ) → in_init (at q) ≡ true
-    named q = same_bytes b.name init_name i.name
+    named q = same_bytes b.name init_name i.method.name
 
     -- what the instruction at its place does
     run : (q : ℕ) (insn : Insn) → f'.place ≡ q → slice_get code q ≡ Some insn → result_of p' s' f' ≡ perform (operation_of p' (at q) insn) s' f'
     run q insn e h =
         result_is p' s' f' (record { class = k; method = length t.class.bodies }) q t.new b insn is_init e side.new_is c.added_at
-        (ap (λ (l : List Insn). slice_get l q) i.code ∙ h)
+        (ap (λ (l : List Insn). slice_get l q) i.method.code_is ∙ h)
 
     next : (step to : InitStep) (r : Result) (after : Shared) (st : List Value) → f'.place ≡ step_place step → r ≡ goes after (next_with f' st)
         → step_place step + 1 ≡ step_place to
@@ -160,7 +161,7 @@ module _ (p p' : Program) (sides : Entry → Side) where
     extra =
         ap extra_in side.new_is
         ∙ ap (λ b. if b then Some (count_in t.new.probes) else None) (changed_data p.names p'.names t.class t.new c.pair)
-        ∙ ap (λ o. Some (count_in o)) c.pair.probes
+        ∙ ap (λ o. Some (count_in o)) (changed_probes p.names p'.names t.class t.new c.pair)
 
     may_name : (q : ℕ) → may_name_field (at q) k data_name ≡ true
     may_name q =
@@ -197,24 +198,34 @@ module _ (p p' : Program) (sides : Entry → Side) where
 
     pushes_id : (q : ℕ) → perform (operation_of p' (at q) (insns.Constant2 i.places.id)) s' f' ≡ goes_with s' f' (long (cast_signed w64 init.id) ∷ f'.stack)
     unfolding operation_of perform
-    pushes_id q = ap (λ o. perform (long_operation o) s' f') i.id_is
+    pushes_id q = ap (λ o. perform (long_operation o) s' f') i.names_count.id_is
 
     init_is_there : (q : ℕ) → init_of (at q) ≡ Some init
     init_is_there q =
         ap (λ x. if x && bytes_eq b.desc init_type then t.new.probes else None) (named q)
-        ∙ ap (λ x. if x then t.new.probes else None) (same_bytes b.desc init_type i.desc) ∙ c.pair.probes
+        ∙ ap (λ x. if x then t.new.probes else None) (same_bytes b.desc init_type i.method.desc_is)
+        ∙ changed_probes p.names p'.names t.class t.new c.pair
 
     pushes_text : (q : ℕ) → perform (operation_of p' (at q) (insns.Constant i.places.name)) s' f' ≡ goes_with s' f' (text k ∷ f'.stack)
     unfolding operation_of perform
     pushes_text q =
-        ap (λ o. perform (constant_operation (at q) o) s' f') i.name_is
+        ap (λ o. perform (constant_operation (at q) o) s' f') i.names_count.name_is
         ∙ ap (λ o. perform (if is_some o then pushes (text k) else outside) s' f') (init_is_there q)
+
+    -- the number of probes is pushed
+    count_pushes : Pushes b.uses (push_count i.places init.count) init.count
+    count_pushes = by (nat_le init.count most_short) i.names_count.count_is
+      where
+        by : (short : Bool) → HasCount short b.uses init.count i.places.count
+            → PushesBy short b.uses (if short then push init.count else insns.Constant i.places.count) init.count
+        by true h = refl
+        by false h = (i.places.count, refl, h)
 
     fetches_it : (q : ℕ) (st : List Value) → f'.stack ≡ int (pos init.count) ∷ text k ∷ long (cast_signed w64 init.id) ∷ st
         → perform (operation_of p' (at q) (insns.Member opcode.invokestatic i.places.fetch)) s' f' ≡ goes_with s' f' (array ∷ st)
     unfolding operation_of perform
     fetches_it q st e =
-        ap (λ o. perform (member_operation opcode.invokestatic (at q) p' o) s' f') i.fetch_is
+        ap (λ o. perform (member_operation opcode.invokestatic (at q) p' o) s' f') i.names_count.fetch_is
         ∙ ap (λ x. perform (if x then init_call (at q) (is_fetch runtime_class fetch_name fetch_type) (init_of (at q)) else method_entered (at q) p'
         (callee_named p' runtime_class fetch_name fetch_type)) s' f') (named q)
         ∙ ap (λ o. perform (init_call (at q) true o) s' f') (init_is_there q)
@@ -262,7 +273,7 @@ module _ (p p' : Program) (sides : Entry → Side) where
         (run 5 _ e refl ∙ pushes_text 5 ∙ ap (λ l. goes_with s' f' (text k ∷ l)) st) refl ss refl
     init_turn wants_count e st =
         next wants_count fetches_array _ s' (int (pos init.count) ∷ text k ∷ long (cast_signed w64 init.id) ∷ []) e
-        (run 6 _ e refl ∙ pushes_number p' (at 6) s' f' init.count ∙ ap (λ l. goes_with s' f' (int (pos init.count) ∷ l)) st) refl ss refl
+        (run 6 _ e refl ∙ pushes_it p' (at 6) s' f' _ init.count count_pushes ∙ ap (λ l. goes_with s' f' (int (pos init.count) ∷ l)) st) refl ss refl
     init_turn fetches_array e st = next fetches_array keeps_array _ s' (array ∷ []) e (run 7 _ e refl ∙ fetches_it 7 [] st) refl ss refl
     init_turn keeps_array e st =
         next keeps_array writes_field _ s' (array ∷ array ∷ []) e (run 8 _ e refl ∙ dups p' (at 8) s' f' true k init.count [] st) refl ss refl

@@ -2,6 +2,7 @@
 use Rattle.std.proofs.Common.{◌≡◌, ℕ, zero, suc, ◌+◌, ◌-◌, ◌≤◌, true, false, [], ◌++◌, length, replicate, Option, Some, None, refl, sym, ap, ◌∙◌, subst, arith, length-append}
 use Rattle.std.specs.Prelude.{slice_get, slice_set, slice_index_or}
 use Rattle.std.proofs.Math.ListN.{length-set, length-replicate}
+use Rattle.jc_methods.specs.declared.probe_members.Fetch.TheVariants as fetches
 use Rattle.jc_machine_model.specs.Values.{Value, is_pair}
 use Rattle.jc_machine_model.specs.Locals.{is_pair_there, put_local}
 use Rattle.jc_emit.specs.Items.{Item, start, image, probe_array, probe_id, probe_one, probe_store, hop, extra_of}
@@ -17,8 +18,8 @@ pub none_pushed : (a : Value) (t : Side) (q i : ℕ) (due : Option ℕ) (h : Sta
 none_pushed a t q i due h = by h.item h.pushed
   where
     by : (x : Item) → extra_of x ≡ 0 → pushed_of a x ≡ []
-    by (start zero) e = refl
-    by (start (suc k)) e = absurd (omega (arith, e))
+    by (start fetch zero) e = refl
+    by (start fetch (suc k)) e = absurd (omega (arith, e))
     by (image insn at early) e = refl
     by (probe_array id at late) e = refl
     by (probe_id id at late) e = absurd (omega (arith, e))
@@ -105,7 +106,7 @@ module _ (array : Value) where
   Ends args = (k : ℕ) → length args ≡ suc k → has_pair args k ≡ false
 
   pub new_locals : (slot : Option ℕ) (n n' a : ℕ) (args : Locals) (item : Item) → n' ≡ with_more slot 1 n → length args ≡ a → Ends args
-      → ((v : ℕ) → slot ≡ Some v → (v ≡ a) × (v ≤ n)) → ((v : ℕ) → slot ≡ Some v → item ≡ start 0)
+      → ((v : ℕ) → slot ≡ Some v → (v ≡ a) × (v ≤ n)) → ((v : ℕ) → slot ≡ Some v → item ≡ start fetches.Member 0)
       → SameLocals array slot (args ++ replicate (n - length args) None) (args ++ replicate (n' - length args) None) item
   new_locals None n n' a args item e short ends is new = ap (λ k. args ++ replicate (k - length args) None) e
   new_locals (Some v) n n' a args item e short ends is new =

@@ -28,7 +28,7 @@ use Rattle.jc_machine_model.specs.Profile.{Location, in_init, may_name_field, fi
 use Rattle.jc_twin_simulation.specs.Sides.{Side, IsSide, AreSides}
 use Rattle.jc_twin_simulation.proofs.OwnLaws.{IsField, Alike, Next}
 use Rattle.jc_twin_simulation.proofs.PlaceLaws.{any_at}
-use Rattle.jc_twin_simulation.proofs.ClassLaws.{class_same, class_there, static_there, method_there, statics_found, statics_missing, methods_found, methods_missing}
+use Rattle.jc_twin_simulation.proofs.ClassLaws.{class_same, class_there, static_there, method_there, statics_found, statics_missing, methods_found, methods_missing, changed_init}
 
 -- ---- a thread may enter a method where it may enter its twin
 
@@ -179,13 +179,13 @@ module _ (p p' : Program) (sides : Entry → Side) (are : AreSides p p' sides) (
   not_added : (k : ℕ) (c new : Linked) → slice_get p'.classes k ≡ Some new → (pair : IsChangedPair p.names p'.names c new)
       → may_name_method at' k pair.added.name ≡ false
   not_added k c new there pair =
-      ap (λ b. not b || (nat_eq q 0 && nat_eq m.class k)) (same_bytes pair.added.name init_name pair.added_is.name)
+      ap (λ b. not b || (nat_eq q 0 && nat_eq m.class k)) (same_bytes pair.added.name init_name (changed_init p.names p'.names c new pair).method.name)
       ∙ by (nat_eq m.class k) refl
     where
       declares : declares_init new ≡ true
       declares =
           any_at (λ (b : Body). is_init_name b.name) new.bodies (length c.bodies) pair.added (are.added c new pair)
-          (same_bytes pair.added.name init_name pair.added_is.name)
+          (same_bytes pair.added.name init_name (changed_init p.names p'.names c new pair).method.name)
 
       in_class : m.class ≡ k → (o : Option ℕ) → t.slot ≡ o → nat_eq q 0 ≡ false
       in_class same None e =

@@ -10,6 +10,8 @@ use Rattle.jc_methods.specs.Widened.{inverted}
 use Rattle.jc_methods.specs.declared.insn.Insn.{Insn}
 use Rattle.jc_methods.specs.declared.insn.Flow.{Flow}
 use Rattle.jc_methods.specs.declared.insn.Flow.TheVariants as flows
+use Rattle.jc_methods.specs.declared.probe_members.Fetch.{Fetch}
+use Rattle.jc_methods.specs.declared.probe_members.Fetch.TheVariants as fetches
 use Rattle.jc_methods.specs.declared.body.Body.{Body}
 use Rattle.jc_plan.specs.declared.branch.Branch.{Branch}
 use Rattle.jc_plan.specs.Plan.{lead_probe}
@@ -22,8 +24,8 @@ use Rattle.jc_twin_simulation.specs.ProbeRuns.{MayFollow, IsFirst, RunsOn, AreRu
 -- ---- lists
 
 first_follows : (x y : Item) → IsFirst y → MayFollow x y
-first_follows x (start zero) h = tt
-first_follows x (start (suc k)) h = absurd h
+first_follows x (start fetch zero) h = tt
+first_follows x (start fetch (suc k)) h = absurd h
 first_follows x (image insn at early) h = tt
 first_follows x (probe_array id at late) h = tt
 first_follows x (probe_id id at late) h = absurd h
@@ -46,6 +48,12 @@ runs_append (x ∷ xs) ys h k = (h.0, on_append x xs ys h.1 k)
 runs_pieces : (g : ℕ → List Item) → ((i : ℕ) → AreRuns (g i)) → (n : ℕ) → AreRuns (pieces g n)
 runs_pieces g h zero = tt
 runs_pieces g h (suc n) = runs_append (pieces g n) (g n) (runs_pieces g h n) (h n)
+
+-- ---- the prelude
+
+prelude_runs : (fetch : Fetch) → AreRuns (prelude fetch)
+prelude_runs fetches.Member = (tt, (refl, tt))
+prelude_runs fetches.Constant = (tt, (refl, (refl, tt)))
 
 -- ---- what belongs to an instruction
 
@@ -102,7 +110,7 @@ module _ (b : Body) (first : ℕ) (form : TwinForm) where
   pub twin_runs : AreRuns (twin_items b first form)
   unfolding twin_items
   twin_runs =
-      runs_append prelude (pieces (segment b first form) (length b.code)) (tt, (refl, tt))
+      runs_append (prelude form.fetch) (pieces (segment b first form) (length b.code)) (prelude_runs form.fetch)
       (runs_pieces (segment b first form) segment_runs (length b.code))
 
 -- images alone
@@ -112,8 +120,8 @@ images_run x (y ∷ xs) h = (first_follows x y (by y (h 0 y refl)), images_run y
   where
     by : (y : Item) → own_of y ≡ true → IsFirst y
     by (image insn at early) own = tt
-    by (start zero) own = tt
-    by (start (suc k)) own = absurd (true≢false (sym own))
+    by (start fetch zero) own = tt
+    by (start fetch (suc k)) own = absurd (true≢false (sym own))
     by (probe_array id at late) own = tt
     by (probe_id id at late) own = absurd (true≢false (sym own))
     by (probe_one id at late) own = absurd (true≢false (sym own))
@@ -126,8 +134,8 @@ plain_runs (x ∷ xs) h = (by x (h 0 x refl), images_run x xs (λ q y e. h (suc 
   where
     by : (y : Item) → own_of y ≡ true → IsFirst y
     by (image insn at early) own = tt
-    by (start zero) own = tt
-    by (start (suc k)) own = absurd (true≢false (sym own))
+    by (start fetch zero) own = tt
+    by (start fetch (suc k)) own = absurd (true≢false (sym own))
     by (probe_array id at late) own = tt
     by (probe_id id at late) own = absurd (true≢false (sym own))
     by (probe_one id at late) own = absurd (true≢false (sym own))

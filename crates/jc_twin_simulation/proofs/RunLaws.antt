@@ -6,17 +6,20 @@ use Rattle.std.proofs.lemmas.Bool.{eqb-true, eqb-false, true≢false}
 use Rattle.std.proofs.lemmas.Option.{none-some}
 use Rattle.jc_programs.specs.declared.program.Program.{Program}
 use Rattle.jc_programs.specs.declared.run_end.Entry.{Entry}
+use Rattle.jc_methods.specs.declared.probe_members.Fetch.TheVariants as fetches
 use Rattle.jc_methods.specs.Flow.{flow_of}
 use Rattle.jc_emit.specs.Sizes.{insn_at, early_by, probe_size}
+use Rattle.jc_emit.specs.Items.{Item, image, own_of}
 use Rattle.jc_emit.specs.Marks.{Marks}
+use Rattle.jc_emit.specs.Seen.{IsPlain}
 use Rattle.jc_machine_model.specs.World.{Frame, Thread, running, returned, threw, stuck, Shared, World}
 use Rattle.jc_machine_model.specs.Step.{turn_of, with_after, step_of, step}
 use Rattle.jc_machine_model.specs.Run.{run_from}
 use Rattle.jc_twin_simulation.specs.Kept.{is_running, runs_at, runs, keeps_at, is_kept, turn_if, kept, row_behind, row, step_if}
 use Rattle.jc_twin_simulation.specs.Spread.{IsLead, IsSpread}
 use Rattle.jc_twin_simulation.specs.Sides.{Side, AreSides, AreMarksOf}
-use Rattle.jc_twin_simulation.specs.Mid.{SameShared, SameThread, Mid}
-use Rattle.jc_twin_simulation.proofs.TurnLaws.{inside_rank, frames_rank, thread_rank, rank_top, inside_named}
+use Rattle.jc_twin_simulation.specs.Mid.{SameFrame, SameShared, SameThread, Mid}
+use Rattle.jc_twin_simulation.proofs.TurnLaws.{item_rank, inside_rank, frames_rank, thread_rank, rank_top, inside_named}
 use Rattle.jc_twin_simulation.proofs.WorldLaws.{aside_thread, SameOption, same_get, one_turn}
 
 -- ---- one thread among others
@@ -197,9 +200,22 @@ module _ (p p' : Program) (sides : Entry → Side) (marks : Entry → Marks) (ar
       let small = probe_small (early_by t.ids 0 (insn_at t.body.code 0) (flow_of (insn_at t.body.code 0))) in
       omega (arith, small)
 
+  -- a body that gets no array has images alone
+  own_small : (t : Side) (q : ℕ) (x : Item) → own_of x ≡ true → item_rank p p' sides t q x ≤ 17
+  own_small t q (image insn at early) own = omega arith
+  own_small t q x own = absurd (true≢false (sym own))
+
+  item_small : (f f' : Frame) (h : SameFrame p p' sides f f') → item_rank p p' sides (sides f.method) f'.place h.item ≤ 17
+  item_small f f' h = by (sides f.method).slot refl
+    where
+      by : (o : Option ℕ) → (sides f.method).slot ≡ o → item_rank p p' sides (sides f.method) f'.place h.item ≤ 17
+      by None e =
+          own_small (sides f.method) f'.place h.item (subst (λ s. IsPlain s (sides f.method).items) e h.one.side.plain f'.place h.item h.here)
+      by (Some v) e = h.one.side.ranked.small fetches.Member (h.one.side.changed v e).gets.starts f'.place h.item h.here
+
   thread_small : (s s' : Shared) → SameShared p p' sides s s' → (x x' : Thread) → SameThread p p' sides x x' → thread_rank p p' sides x' ≤ 17
   thread_small s s' ss (running f fs) (running f' fs') (inl h) =
-      let small = h.0.one.side.ranked.small h.0.item in
+      let small = item_small f f' h.0 in
       let is = rank_top p p' sides f f' fs' h.0 in
       omega (arith, small, is)
   thread_small s s' ss (running f fs) (running f' fs') (inr i) =

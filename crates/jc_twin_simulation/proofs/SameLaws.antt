@@ -11,7 +11,8 @@ use Rattle.jc_programs.specs.declared.run_end.Entry.{Entry}
 use Rattle.jc_programs.specs.Members.{class_at}
 use Rattle.jc_emit.specs.Items.{Item, start, image, at_of, extra_of}
 use Rattle.jc_emit.specs.Marks.{Marks}
-use Rattle.jc_emit.specs.TwinProgram.{IsPair, IsChangedPair, data_static}
+use Rattle.jc_emit.specs.Added.{data_static}
+use Rattle.jc_emit.specs.TwinProgram.{IsPair, IsChangedPair}
 use Rattle.jc_emit.proofs.ToldLaws.{mapped}
 use Rattle.jc_machine_model.specs.Values.{Value, probes}
 use Rattle.jc_machine_model.specs.World.{Frame, Thread, running, returned, threw, stuck, Shared, World}
@@ -21,14 +22,14 @@ use Rattle.jc_twin_simulation.specs.Same as spec
 use Rattle.jc_twin_simulation.specs.Sides.{Side, count_in, array_of, IsSide, AreSides, AreMarksOf}
 use Rattle.jc_twin_simulation.specs.Mid.{pushed_of, null_or, SameLocals, OneMethod, SameFrame, SameWait, SameWaits, extra_in, SameStatics, values_of, SameShared, SameThread, SameThreads, Mid}
 use Rattle.jc_twin_simulation.proofs.LocalLaws.{gets_local}
-use Rattle.jc_twin_simulation.proofs.ClassLaws.{unchanged_data}
+use Rattle.jc_twin_simulation.proofs.ClassLaws.{changed_statics, unchanged_data}
 use Rattle.jc_twin_simulation.proofs.OwnTurnLaws.{new_no_init}
 use Rattle.jc_twin_simulation.proofs.TurnLaws.{inside_named}
 
 -- what is pushed is what the marks say
 pub pushed_off : (a : Value) (x : Item) (st : List Value) → drop (extra_of x) (pushed_of a x ++ st) ≡ st
-pushed_off a (start zero) st = refl
-pushed_off a (start (suc k)) st = refl
+pushed_off a (start fetch zero) st = refl
+pushed_off a (start fetch (suc k)) st = refl
 pushed_off a other st = refl
 
 -- ---- one more behind a list
@@ -132,7 +133,7 @@ module _ (p p' : Program) (sides : Entry → Side) where
     pub is_added : (class : ℕ) (c new : Linked) → slice_get p'.classes class ≡ Some new → IsChangedPair p.names p'.names c new
         → is_data p' class (length c.statics) ≡ true
     is_added class c new there pair =
-        ap (is_data_in (length c.statics)) there ∙ ap (λ l. is_named_data (slice_get l (length c.statics))) pair.statics
+        ap (is_data_in (length c.statics)) there ∙ ap (λ l. is_named_data (slice_get l (length c.statics))) (changed_statics p.names p'.names c new pair)
         ∙ ap is_named_data (last_is c.statics data_static)
         ∙ same_bytes data_name data_name refl
 

@@ -1,19 +1,21 @@
 -- Each method of a program beside that of its twin.
-use Rattle.std.proofs.Common.{◌≡◌, ◌⊎◌, inl, inr, ℕ, ◌+◌, ◌<◌, false, List, [], ◌∷◌, map, Option, Some, None, refl, sym, ap, ap₂, ◌∙◌, arith}
+use Rattle.std.proofs.Common.{◌≡◌, ◌⊎◌, inl, inr, ℕ, ◌+◌, ◌<◌, false, List, [], ◌∷◌, map, Option, Some, None, refl, sym, ap, ap₂, ◌∙◌, subst, arith}
 use Rattle.std.specs.Prelude.{slice_get}
 use Rattle.std.specs.List.{sum_by}
 use Rattle.std.proofs.lemmas.Option.{none-some}
 use Rattle.jc_bytes.proofs.BooleanLaws.{stands_in}
 use Rattle.jc_methods.specs.VerificationTypes.{Names}
-use Rattle.jc_methods.specs.ProbeMembers.{init_name}
+use Rattle.jc_methods.specs.ProbeMembers.{init_name, fetch_of}
 use Rattle.jc_methods.specs.WellMade.{IsWellMadeOfAnySize}
 use Rattle.jc_methods.specs.declared.body.Body.{Body}
 use Rattle.jc_programs.specs.declared.program.Program.{Program}
 use Rattle.jc_programs.specs.declared.program.Linked.{Linked}
 use Rattle.jc_programs.specs.declared.run_end.Entry.{Entry}
 use Rattle.jc_plan.specs.Probed.{probe_count, first_id, probe_of}
+use Rattle.jc_emit.specs.Added.{giver_of}
 use Rattle.jc_emit.specs.Local.{no_ids}
 use Rattle.jc_emit.specs.Marks.{unplaced, Marks}
+use Rattle.jc_emit.specs.Seen.{GetsArray}
 use Rattle.jc_emit.specs.SeenProgram.{IsSeenTwin, IsSeenSame, IsSeenAt}
 use Rattle.jc_emit.specs.TwinProgram.{IsPair, ArePairs, IsChangedPair, TwinProgram}
 use Rattle.jc_emit.proofs.EdgeIdLaws.{each_within}
@@ -33,7 +35,7 @@ no_class : Linked
 no_class = record { name = []; version = 0; bodies = []; statics = []; has_clinit = false; probes = None }
 
 no_side : Side
-no_side = record { class = no_class; new = no_class; body = no_body; twin = no_body; slot = None; ids = no_ids; items = []; places = unplaced }
+no_side = record { class = no_class; new = no_class; body = no_body; twin = no_body; slot = None; ids = no_ids; items = []; places = unplaced (λ n. 0) }
 
 -- ---- the names of classes
 
@@ -74,8 +76,10 @@ module _ (p p' : Program) (t : TwinProgram p p') (marks : Entry → Marks) (are 
         let first = first_id c.bodies m.method in
         let states = s.twin.states in
         let t = s.twin.twin in
-        let seen = items_seen p.names p'.names states c.name first b b' well t in
         let pair = s.pair in
+        let fetch = fetch_of c.version in
+        let giver = giver_of fetch c.name pair.bootstrap in
+        let seen = items_seen p.names p'.names states fetch giver first b b' well t in
         let added = (added_last p.names p'.names c new pair).0 in (
           record { class = c; new = new; body = b; twin = b'; slot = Some b.arg_slots; ids = probe_of b first; items = seen.items; places = seen.places },
           (
@@ -102,8 +106,8 @@ module _ (p p' : Program) (t : TwinProgram p p') (marks : Entry → Marks) (are 
                 pair = pair;
                 added_at = added;
                 declares = changed_declares p.names p'.names c new pair added;
-                calls = seen.calls;
-                within = λ q id x here h. within first pair (each_within c.name first b b' t.marks seen q id x here h).1;
+                gets = subst (λ f. GetsArray f (giver_of f c.name pair.bootstrap) b'.uses seen.items seen.places) pair.by_member seen.gets;
+                within = λ q id x here h. within first pair (each_within fetch giver first b b' t.marks seen q id x here h).1;
               };
               unchanged = λ e. absurd (none-some b.arg_slots (sym e));
               ids_are = λ v e. refl;

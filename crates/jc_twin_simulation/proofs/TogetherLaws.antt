@@ -1,12 +1,14 @@
 -- Worlds that belong together are so in terms of the two programs.
 use Rattle.std.proofs.Common.{◌≡◌, ◌⊎◌, inl, inr, ⊎_elim, ℕ, zero, suc, ◌+◌, ◌<◌, ◌≤◌, pos, Bool, true, false, List, [], ◌∷◌, ◌++◌, length, Option, Some, None, nat_le, nat_lt, refl, sym, ap, ◌∙◌, subst, arith, if◌then◌else◌}
-use Rattle.std.specs.Prelude.{slice_get, slice_index_or}
+use Rattle.std.specs.Prelude.{⊤, slice_get, slice_index_or}
 use Rattle.std.specs.List.{AllByRecursion}
 use Rattle.std.proofs.lemmas.Bool.{true≢false, cases_lt, lt-ltb, le-ltb}
 use Rattle.std.proofs.lemmas.Option.{none-some, same_Some}
 use Rattle.jc_bytes.proofs.BooleanLaws.{stands_in}
 use Rattle.jc_methods.specs.Opcode as opcode
-use Rattle.jc_methods.specs.ProbeMembers.{data_name}
+use Rattle.jc_methods.specs.ProbeMembers.{data_name, most_short}
+use Rattle.jc_methods.specs.declared.probe_members.Fetch.{Fetch}
+use Rattle.jc_methods.specs.declared.probe_members.Fetch.TheVariants as fetches
 use Rattle.jc_methods.specs.declared.insn.Insn.{Insn}
 use Rattle.jc_methods.specs.declared.insn.Insn.TheVariants as insns
 use Rattle.jc_methods.specs.declared.body.Body.{Body}
@@ -17,10 +19,11 @@ use Rattle.jc_programs.specs.declared.program.StaticField.{StaticField}
 use Rattle.jc_programs.specs.declared.run_end.Entry.{Entry}
 use Rattle.jc_programs.specs.Members.{class_at, body_of}
 use Rattle.jc_emit.specs.Items.{Item, start, image, probe_array, probe_id, probe_one, probe_store, hop, own_of, extra_of}
-use Rattle.jc_emit.specs.Local.{IsBehind, OkStart, StartsOn}
-use Rattle.jc_emit.specs.Marks.{Marks, push, prelude_size}
+use Rattle.jc_emit.specs.Local.{IsBehind, StartsOn}
+use Rattle.jc_emit.specs.Marks.{Marks, push, PushesBy, Pushes, prelude_size}
 use Rattle.jc_emit.specs.Seen.{IsPlain}
-use Rattle.jc_emit.specs.TwinProgram.{IsPair, data_static}
+use Rattle.jc_emit.specs.Added.{data_static}
+use Rattle.jc_emit.specs.TwinProgram.{IsPair}
 use Rattle.jc_emit.proofs.ToldLaws.{mapped}
 use Rattle.jc_machine_model.specs.Values.{Value, int, probes}
 use Rattle.jc_machine_model.specs.World.{Frame, Thread, running, returned, threw, stuck, Shared, World}
@@ -30,8 +33,8 @@ use Rattle.jc_twin_simulation.specs.Same.{twin_slot, array_slot, is_named_data, 
 use Rattle.jc_twin_simulation.specs.Sides.{Side, count_in, array_of, IsSide, AreSides, AreMarksOf}
 use Rattle.jc_twin_simulation.specs.Mid.{pushed_of, null_or, step_stack, SameLocals, OneMethod, SameFrame, SameWaits, extra_in, SameStatics, values_of, SameShared, SameThread, SameThreads, Mid}
 use Rattle.jc_twin_simulation.specs.Together.{count_of, array_in, IsPushedBy, IsPushedIn, ArePushed, KeepsArray, HasProbeState, HasTopState, HasState, IsStuckWithin, Together}
-use Rattle.jc_twin_simulation.proofs.ClassLaws.{other_name, changed_data}
-use Rattle.jc_twin_simulation.proofs.FrameLaws.{body_is, twin_insn}
+use Rattle.jc_twin_simulation.proofs.ClassLaws.{other_name, changed_statics, changed_data}
+use Rattle.jc_twin_simulation.proofs.FrameLaws.{body_is, no_constant, twin_insn}
 use Rattle.jc_twin_simulation.proofs.LocalLaws.{reads_local}
 use Rattle.jc_twin_simulation.proofs.OwnTurnLaws.{new_no_init}
 use Rattle.jc_twin_simulation.proofs.RunItemLaws.{in_front}
@@ -41,7 +44,7 @@ use Rattle.jc_twin_simulation.proofs.TurnLaws.{inside_named}
 
 -- ---- numbers that are pushed
 
--- what pushes a number is one of two instructions
+-- what pushes a small number is one of two instructions
 pub number_form : (n : ℕ) → ((op : ℕ) × (push n ≡ insns.Simple op)) ⊎ ((op : ℕ) × (push n ≡ insns.Push op (pos n)))
 number_form n = by (nat_le n 5) (nat_le n 127)
   where
@@ -52,17 +55,34 @@ number_form n = by (nat_le n 5) (nat_le n 127)
     by false true = inr (_, refl)
     by false false = inr (_, refl)
 
-number_pushed : (uses : List Use) (array : Value) (insn : Insn) (n : ℕ) → insn ≡ push n → IsPushedBy uses array insn (int (pos n))
-number_pushed uses array insn n e = ⊎_elim
-    (λ h. subst (λ i. IsPushedBy uses array i (int (pos n))) (sym (e ∙ h.1)) (n, sym h.1, refl))
-    (λ h. subst (λ i. IsPushedBy uses array i (int (pos n))) (sym (e ∙ h.1)) (n, sym h.1, refl))
-    (number_form n)
+-- it is no load of a local variable
+abbrev pub IsNoLocal : Insn → Type 0
+IsNoLocal (insns.Local op slot) = ⊥
+IsNoLocal insn = ⊤
+
+pub no_local : (uses : List Use) (insn : Insn) (n : ℕ) → Pushes uses insn n → IsNoLocal insn
+no_local uses insn n h = by (nat_le n most_short) h
+  where
+    by : (short : Bool) → PushesBy short uses insn n → IsNoLocal insn
+    by true e = ⊎_elim (λ k. subst IsNoLocal (sym (e ∙ k.1)) tt) (λ k. subst IsNoLocal (sym (e ∙ k.1)) tt) (number_form n)
+    by false e = subst IsNoLocal (sym e.1) tt
+
+number_pushed : (uses : List Use) (array : Value) (insn : Insn) (n : ℕ) → Pushes uses insn n → IsPushedBy uses array insn (int (pos n))
+number_pushed uses array insn n h = by insn (no_local uses insn n h) h
+  where
+    by : (insn : Insn) → IsNoLocal insn → Pushes uses insn n → IsPushedBy uses array insn (int (pos n))
+    by (insns.Local op slot) off h = absurd off
+    by insn off h = (n, h, refl)
 
 -- ---- each item of a probe has the others in front of it
 
 module _ (p p' : Program) (sides : Entry → Side) (m : Entry) (side : IsSide p p' m (sides m)) where
   abbrev t : Side
   t = sides m
+
+  -- how many instructions the prelude has
+  abbrev most : ℕ
+  most = prelude_size fetches.Member
 
   -- the item in front of one of a probe
   pub record Behind (q : ℕ) (x : Item) : Type 0 where
@@ -75,8 +95,8 @@ module _ (p p' : Program) (sides : Entry → Side) (m : Entry) (side : IsSide p 
       let f = in_front t.items side.runs q y here n in
       record { place = f.place; next = f.next; here = f.here ∙ ap Some (is f.item f.follows) }
 
-  pub start_behind : (q k : ℕ) → slice_get t.items q ≡ Some (start (suc k)) → Behind q (start k)
-  start_behind q k here = behind q (start k) (start (suc k)) here (λ h. h) (λ z h. h)
+  pub start_behind : (q : ℕ) (fetch : Fetch) (k : ℕ) → slice_get t.items q ≡ Some (start fetch (suc k)) → Behind q (start fetch k)
+  start_behind q fetch k here = behind q (start fetch k) (start fetch (suc k)) here (λ h. h) (λ z h. h)
 
   pub id_behind : (q id at : ℕ) (late : Bool) → slice_get t.items q ≡ Some (probe_id id at late) → Behind q (probe_array id at late)
   id_behind q id at late here = behind q (probe_array id at late) (probe_id id at late) here (λ h. h) (λ z h. h)
@@ -90,38 +110,40 @@ module _ (p p' : Program) (sides : Entry → Side) (m : Entry) (side : IsSide p 
   -- ---- the prelude
 
   -- behind the prelude
-  pub behind_prelude : (q : ℕ) (x : Item) → slice_get t.items q ≡ Some x → prelude_size ≤ q → IsBehind x
-  behind_prelude q (start k) here le =
-      let ok = side.ok.ok q (start k) here in
+  pub behind_prelude : (q : ℕ) (x : Item) → slice_get t.items q ≡ Some x → most ≤ q → IsBehind x
+  behind_prelude q (start fetches.Member k) here le =
+      let ok = side.ok.ok q (start fetches.Member k) here in
       let place = ok.place in let within = ok.within in
       absurd (omega (arith, place, within, le))
+  behind_prelude q (start fetches.Constant k) here le = absurd (no_constant p p' sides m side k q here)
   behind_prelude q other here le = tt
 
   -- the prelude stands at the beginning
-  begins : (v : ℕ) → t.slot ≡ Some v → (q : ℕ) → q < prelude_size → slice_get t.items q ≡ Some (start q)
-  begins v e zero lt = subst (OkStart t.body.code t.slot t.ids t.items) e side.ok.start
+  begins : (v : ℕ) → t.slot ≡ Some v → (q : ℕ) → q < most → slice_get t.items q ≡ Some (start fetches.Member q)
+  begins v e zero lt = (side.changed v e).gets.starts
   begins v e (suc q) lt =
-      let ok = side.ok.ok q (start q) (begins v e q (omega (arith, lt))) in
+      let ok = side.ok.ok q (start fetches.Member q) (begins v e q (omega (arith, lt))) in
       let next : q + 1 ≡ suc q = omega arith in
-      subst (λ k. slice_get t.items k ≡ Some (start (suc q))) next
-      (subst (λ more. StartsOn t.body.code t.slot t.ids t.items more q q) (lt-ltb (suc q) prelude_size lt) ok.next)
+      subst (λ k. slice_get t.items k ≡ Some (start fetches.Member (suc q))) next
+      (subst (λ more. StartsOn t.body.code t.slot t.ids t.items more q fetches.Member q) (lt-ltb (suc q) most lt) ok.next)
 
   -- what isn't in the prelude stands behind it
-  pub past_prelude : (q : ℕ) (x : Item) (v : ℕ) → t.slot ≡ Some v → slice_get t.items q ≡ Some x → IsBehind x → prelude_size ≤ q
+  pub past_prelude : (q : ℕ) (x : Item) (v : ℕ) → t.slot ≡ Some v → slice_get t.items q ≡ Some x → IsBehind x → most ≤ q
   past_prelude q x v e here b =
-      ⊎_elim (λ lt. absurd (subst IsBehind (same_Some x (start q) (sym here ∙ begins v e q lt)) b)) (λ le. le) (cases_lt q prelude_size)
+      ⊎_elim (λ lt. absurd (subst IsBehind (same_Some x (start fetches.Member q) (sym here ∙ begins v e q lt)) b)) (λ le. le) (cases_lt q most)
 
   -- whether an instruction of the prelude or of a probe is in the prelude is told by its place
-  pub start_within : (q k : ℕ) → slice_get t.items q ≡ Some (start k) → nat_lt q prelude_size ≡ true
-  start_within q k here =
-      let ok = side.ok.ok q (start k) here in
+  pub start_within : (q : ℕ) (fetch : Fetch) (k : ℕ) → slice_get t.items q ≡ Some (start fetch k) → nat_lt q most ≡ true
+  start_within q fetches.Member k here =
+      let ok = side.ok.ok q (start fetches.Member k) here in
       let place = ok.place in let within = ok.within in
-      lt-ltb q prelude_size (omega (arith, place, within))
+      lt-ltb q most (omega (arith, place, within))
+  start_within q fetches.Constant k here = absurd (no_constant p p' sides m side k q here)
 
-  pub aside_past : (q : ℕ) (x : Item) → slice_get t.items q ≡ Some x → own_of x ≡ false → IsBehind x → nat_lt q prelude_size ≡ false
-  aside_past q x here aside b = le-ltb q prelude_size (by t.slot refl)
+  pub aside_past : (q : ℕ) (x : Item) → slice_get t.items q ≡ Some x → own_of x ≡ false → IsBehind x → nat_lt q most ≡ false
+  aside_past q x here aside b = le-ltb q most (by t.slot refl)
     where
-      by : (o : Option ℕ) → t.slot ≡ o → prelude_size ≤ q
+      by : (o : Option ℕ) → t.slot ≡ o → most ≤ q
       by None e = absurd (true≢false (sym (subst (λ s. IsPlain s t.items) e side.plain q x here) ∙ aside))
       by (Some v) e = past_prelude q x v e here b
 
@@ -132,14 +154,14 @@ module _ (p p' : Program) (sides : Entry → Side) (m : Entry) (side : IsSide p 
     Pushed q extra stack = ArePushed a t.twin q extra stack
 
     by_probe : (q : ℕ) (x : Item) (insn : Insn) (v : Value) → slice_get t.items q ≡ Some x → own_of x ≡ false → IsBehind x
-        → IsPushedBy t.twin.uses a insn v → IsPushedIn (nat_lt q prelude_size) t.twin.uses a insn v
+        → IsPushedBy t.twin.uses a insn v → IsPushedIn (nat_lt q most) t.twin.uses a insn v
     by_probe q x insn v here aside b h = subst (λ s. IsPushedIn s t.twin.uses a insn v) (sym (aside_past q x here aside b)) h
 
-    start_pushed : (q k : ℕ) (st : List Value) → slice_get t.items q ≡ Some (start (suc k)) → Pushed q 1 (a ∷ st)
-    start_pushed q k st here =
-        let f = start_behind q k here in
-        let c = twin_insn p p' sides m side f.place (start k) f.here in
-        (f.place, c.0, f.next, c.1, subst (λ s. IsPushedIn s t.twin.uses a c.0 a) (sym (start_within f.place k f.here)) refl, tt)
+    start_pushed : (q : ℕ) (fetch : Fetch) (k : ℕ) (st : List Value) → slice_get t.items q ≡ Some (start fetch (suc k)) → Pushed q 1 (a ∷ st)
+    start_pushed q fetch k st here =
+        let f = start_behind q fetch k here in
+        let c = twin_insn p p' sides m side f.place (start fetch k) f.here in
+        (f.place, c.0, f.next, c.1, subst (λ s. IsPushedIn s t.twin.uses a c.0 a) (sym (start_within f.place fetch k f.here)) refl, tt)
 
     id_pushed : (q id at : ℕ) (late : Bool) (st : List Value) → slice_get t.items q ≡ Some (probe_id id at late) → Pushed q 1 (a ∷ st)
     id_pushed q id at late st here =
@@ -164,8 +186,8 @@ module _ (p p' : Program) (sides : Entry → Side) (m : Entry) (side : IsSide p 
         (f.place, c.0, f.next, c.1, by, one_pushed f.place id at late st f.here)
 
     pub item_pushed : (q : ℕ) (x : Item) (st : List Value) → slice_get t.items q ≡ Some x → Pushed q (extra_of x) (pushed_of a x ++ st)
-    item_pushed q (start zero) st here = tt
-    item_pushed q (start (suc k)) st here = start_pushed q k st here
+    item_pushed q (start fetch zero) st here = tt
+    item_pushed q (start fetch (suc k)) st here = start_pushed q fetch k st here
     item_pushed q (image insn at early) st here = tt
     item_pushed q (probe_array id at late) st here = tt
     item_pushed q (probe_id id at late) st here = id_pushed q id at late st here
@@ -311,7 +333,7 @@ module _ (p p' : Program) (sides : Entry → Side) (marks : Entry → Marks) (ar
               ∙ last_is (values_of s class) (null_or is.0 (probes class (count_in new.probes)))
               ∙ ap (λ v. Some (null_or is.0 v)) array,
         ))
-        (append_at c.statics data_static field n.0 (ap (λ l. slice_get l field) (sym pair.statics) ∙ n.1))
+        (append_at c.statics data_static field n.0 (ap (λ l. slice_get l field) (sym (changed_statics p.names p'.names c new pair)) ∙ n.1))
 
     pub arrays : (class field : ℕ) → is_data p' class field ≡ true → Arrays class field
     arrays class field named = by (slice_get p.classes class) refl

@@ -9,13 +9,16 @@ use Rattle.jc_methods.specs.ProbeMembers.{init_name, init_type}
 use Rattle.jc_methods.specs.declared.insn.Insn.{Insn}
 use Rattle.jc_methods.specs.declared.insn.Insn.TheVariants as insns
 use Rattle.jc_methods.specs.declared.body.Body.{Body}
+use Rattle.jc_methods.specs.declared.probe_members.Fetch.TheVariants as fetches
 use Rattle.jc_programs.specs.declared.program.Program.{Program}
 use Rattle.jc_programs.specs.declared.program.ProbeInit.{ProbeInit}
 use Rattle.jc_programs.specs.declared.run_end.Entry.{Entry}
 use Rattle.jc_programs.specs.declared.run_end.Thrown.TheVariants as thrown
 use Rattle.jc_programs.specs.Members.{class_named, class_at}
 use Rattle.jc_emit.specs.Items.{Item, start, image, probe_array, probe_id, probe_one, probe_store, hop, at_of, own_of, extra_of}
-use Rattle.jc_emit.specs.Local.{Ok, due_of, early_of}
+use Rattle.jc_emit.specs.Added.{init_code, IsPlainMethod}
+use Rattle.jc_emit.specs.Local.{Ok, StartsOn, due_of, early_of}
+use Rattle.jc_emit.specs.Marks.{prelude_size}
 use Rattle.jc_emit.specs.Seen.{IsPlain}
 use Rattle.jc_plan.specs.Probed.{probe_count}
 use Rattle.std.specs.List.{sum_by}
@@ -35,9 +38,9 @@ use Rattle.jc_twin_simulation.specs.Probes.{hit_of, item_hit, Passes, nothing, a
 use Rattle.jc_twin_simulation.specs.Mid.{pushed_of, SameLocals, SameFrame, SameWaits, InitStep, reads_field, gives_back, step_place, step_stack, init_method, Inside, SameShared, SameThread}
 use Rattle.jc_twin_simulation.proofs.LocalLaws.{stays_unready}
 use Rattle.jc_twin_simulation.proofs.MemberLaws.{enter_by}
-use Rattle.jc_twin_simulation.proofs.ClassLaws.{class_same, class_again, init_found}
+use Rattle.jc_twin_simulation.proofs.ClassLaws.{class_same, class_again, init_found, changed_init, changed_probes}
 use Rattle.jc_twin_simulation.proofs.OwnLaws.{AtImage}
-use Rattle.jc_twin_simulation.proofs.FrameLaws.{location, result_is, init_is, twin_insn, own_result}
+use Rattle.jc_twin_simulation.proofs.FrameLaws.{location, result_is, init_is, no_constant, twin_insn, own_result}
 use Rattle.jc_twin_simulation.proofs.ThrowLaws.{SameAfter}
 use Rattle.jc_twin_simulation.proofs.OwnTurnLaws.{new_no_init, after_same}
 use Rattle.jc_twin_simulation.proofs.AsideLaws.{aside_result, aside_hits, Alone, aside_turn}
@@ -55,21 +58,25 @@ place_small other = omega arith
 module _ (p p' : Program) (sides : Entry → Side) where
   -- ---- how many turns there are at most before the next own instruction
 
-  abbrev pub item_rank : Side → Item → ℕ
-  item_rank t x = rank t.body.code t.ids x
+  abbrev pub item_rank : Side → (q : ℕ) → Item → ℕ
+  item_rank t q x = rank t.body.code t.ids t.items q x
 
-  abbrev pub rank_at : Side → Option Item → ℕ
-  rank_at t None = 0
-  rank_at t (Some x) = item_rank t x
+  abbrev pub rank_at : Side → (q : ℕ) → Option Item → ℕ
+  rank_at t q None = 0
+  rank_at t q (Some x) = item_rank t q x
+
+  -- the probe in front of the first instruction
+  abbrev pub first_size : Side → ℕ
+  first_size t = early_size t.body.code t.ids t.items 0
 
   -- inside of `$jacocoInit`, where this frame waits
   abbrev pub inside_rank : ℕ → List Frame → ℕ
   inside_rank place [] = 0
-  inside_rank place (g ∷ fs) = 12 + early_size (sides g.method).body.code (sides g.method).ids 0 - place
+  inside_rank place (g ∷ fs) = 12 + first_size (sides g.method) - place
 
   abbrev pub frames_rank : Bool → Frame → List Frame → ℕ
   frames_rank true f fs = inside_rank f.place fs
-  frames_rank false f fs = rank_at (sides f.method) (slice_get (sides f.method).items f.place)
+  frames_rank false f fs = rank_at (sides f.method) f.place (slice_get (sides f.method).items f.place)
 
   abbrev pub thread_rank : Thread → ℕ
   thread_rank (running f fs) = frames_rank (is_init_method p' f.method) f fs
@@ -77,10 +84,10 @@ module _ (p p' : Program) (sides : Entry → Side) where
 
   -- ---- where a thread stands
 
-  pub rank_top : (f f' : Frame) (fs' : List Frame) (h : SameFrame p p' sides f f') → thread_rank (running f' fs') ≡ item_rank (sides f.method) h.item
+  pub rank_top : (f f' : Frame) (fs' : List Frame) (h : SameFrame p p' sides f f') → thread_rank (running f' fs') ≡ item_rank (sides f.method) f'.place h.item
   rank_top f f' fs' h =
       ap (λ b. frames_rank b f' fs') (new_no_init p p' sides f f' h.one)
-      ∙ ap (λ m. rank_at (sides m) (slice_get (sides m).items f'.place)) h.one.method ∙ ap (rank_at (sides f.method)) h.here
+      ∙ ap (λ m. rank_at (sides m) f'.place (slice_get (sides m).items f'.place)) h.one.method ∙ ap (rank_at (sides f.method) f'.place) h.here
 
   pub hit_top : (id_by : Item → Option ℕ) (f f' : Frame) (h : SameFrame p p' sides f f')
       → frame_hit p' sides id_by (is_init_method p' f'.method) f' ≡ option_map (hit_of f.method.class) (id_by h.item)
@@ -103,31 +110,32 @@ module _ (p p' : Program) (sides : Entry → Side) where
       nothing none (ap (λ i. option_map (hit_of class) (due_of i)) same ∙ ap (option_map (hit_of class)) due)
       (ap (λ i. option_map (hit_of class) (early_of i)) same ∙ ap (option_map (hit_of class)) early)
 
-  item_passes : (t : Side) (class q : ℕ) (x y : Item) → Ok t.body.code t.slot t.ids t.items q x → own_of x ≡ false → (x ≡ start 0 → ⊥)
+  item_passes : (t : Side) (class q : ℕ) (x y : Item) → Ok t.body.code t.slot t.ids t.items q x → own_of x ≡ false
       → slice_get t.items (after_place q x) ≡ Some y → Between class x y
-  item_passes t class q (start zero) y ok own other e = absurd (other refl)
-  item_passes t class q (start (suc zero)) y ok own other e =
-      let lands = ok.next in
-      quiet class (start (suc zero)) y lands.stands.item (same_item t (q + 1) y lands.stands.item e lands.stands.here) lands.stands.due_is
-      lands.stands.no_early refl
-  item_passes t class q (start (suc (suc k))) y ok own other e = let within = ok.within in absurd (omega (arith, within))
-  item_passes t class q (image insn at early) y ok own other e = absurd (true≢false own)
-  item_passes t class q (probe_array id at late) y ok own other e =
+  item_passes t class q (start fetch k) y ok own e = by (nat_lt (suc k) (prelude_size fetch)) ok.next
+    where
+      by : (more : Bool) → StartsOn t.body.code t.slot t.ids t.items more q fetch k → Between class (start fetch k) y
+      by true next = quiet class (start fetch k) y (start fetch (suc k)) (same_item t (q + 1) y (start fetch (suc k)) e next) refl refl refl
+      by false lands =
+          quiet class (start fetch k) y lands.stands.item (same_item t (q + 1) y lands.stands.item e lands.stands.here) lands.stands.due_is
+          lands.stands.no_early refl
+  item_passes t class q (image insn at early) y ok own e = absurd (true≢false own)
+  item_passes t class q (probe_array id at late) y ok own e =
       quiet class (probe_array id at late) y (probe_id id at late) (same_item t (q + 1) y (probe_id id at late) e ok.1) refl refl refl
-  item_passes t class q (probe_id id at late) y ok own other e =
+  item_passes t class q (probe_id id at late) y ok own e =
       quiet class (probe_id id at late) y (probe_one id at late) (same_item t (q + 1) y (probe_one id at late) e ok.1) refl refl refl
-  item_passes t class q (probe_one id at late) y ok own other e =
+  item_passes t class q (probe_one id at late) y ok own e =
       quiet class (probe_one id at late) y (probe_store id at late) (same_item t (q + 1) y (probe_store id at late) e ok.1) refl refl refl
-  item_passes t class q (probe_store id at true) y ok own other e =
+  item_passes t class q (probe_store id at true) y ok own e =
       let same = same_item t (q + 1) y ok.1.item e ok.1.here in
       a_late_one (hit_of class id) refl refl (ap (λ i. option_map (hit_of class) (due_of i)) same ∙ ap (option_map (hit_of class)) ok.1.due_is)
       (ap (λ i. option_map (hit_of class) (early_of i)) same ∙ ap (option_map (hit_of class)) ok.1.no_early)
-  item_passes t class q (probe_store id at false) y ok own other e =
+  item_passes t class q (probe_store id at false) y ok own e =
       let same = same_item t (q + 1) y (image ok.1.0 at (Some id)) e ok.1.1 in
       an_early_one (hit_of class id) refl (ap (λ i. option_map (hit_of class) (due_of i)) same) refl
       (ap (λ i. option_map (hit_of class) (early_of i)) same)
-  item_passes t class q (hop to at due) y ok own other e =
-      quiet class (hop to at due) y ok.stands.item (same_item t to y ok.stands.item e ok.stands.here) ok.stands.due_is ok.stands.no_early refl
+  item_passes t class q (hop to at due) y ok own e =
+      let stands = ok.0.stands in quiet class (hop to at due) y stands.item (same_item t to y stands.item e stands.here) stands.due_is stands.no_early refl
 
   -- the item of a frame that isn't changed is an image
   in_changed : (f f' : Frame) (h : SameFrame p p' sides f f') → own_of h.item ≡ false → (v : ℕ) × ((sides f.method).slot ≡ Some v)
@@ -149,10 +157,10 @@ module _ (p p' : Program) (sides : Entry → Side) where
 
     alone_after : (x : Item) (class : ℕ) (g f' : Frame) (fs' : List Frame)
         → after_result p' (aside_result x class s' g) s' f' fs' ≡ record { thread = running g fs'; shared = s'; hits = aside_hits x class }
-    alone_after (start k) class g f' fs' = refl
+    alone_after (start fetch k) class g f' fs' = refl
     alone_after other class g f' fs' = refl
 
-    alone_turned : (f f' : Frame) (fs fs' : List Frame) (h : SameFrame p p' sides f f') → SameWaits p p' sides fs fs' → own_of h.item ≡ false → (h.item ≡ start 0 → ⊥)
+    alone_turned : (f f' : Frame) (fs fs' : List Frame) (h : SameFrame p p' sides f f') → SameWaits p p' sides fs fs' → own_of h.item ≡ false → (h.item ≡ start fetches.Member 0 → ⊥)
         → (r : Result) → Alone p p' sides f f' h.item s' r → AsideTurned (running f fs) (running f' fs') (after_result p' r s' f' fs')
     alone_turned f f' fs fs' h w aside other r a =
         let t = sides f.method in
@@ -160,20 +168,21 @@ module _ (p p' : Program) (sides : Entry → Side) where
         let lower = h.one.side.ranked.falls f'.place h.item a.same.item h.here aside to in
         let before = rank_top f f' fs' h in
         let behind = rank_top f a.frame fs' a.same in
+        let place = ap (λ q. item_rank t q a.same.item) a.to in
         subst (AsideTurned (running f fs) (running f' fs')) (sym (ap (λ x. after_result p' x s' f' fs') a.is ∙ alone_after h.item f.method.class a.frame f' fs'))
         (record {
           shared = ss;
           thread = inl (a.same, w);
-          falls = omega (arith, lower, before, behind);
+          falls = omega (arith, lower, before, behind, place);
           passes = subst₂ (λ d e. Passes d e (aside_hits h.item f.method.class) (due_in p' sides (running a.frame fs')) (early_in p' sides (running a.frame fs')))
               (sym (hit_top due_of f f' h)) (sym (hit_top early_of f f' h))
               (subst₂ (λ d e. Passes (option_map (hit_of f.method.class) (due_of h.item)) (option_map (hit_of f.method.class) (early_of h.item))
               (aside_hits h.item f.method.class) d e) (sym (hit_top due_of f a.frame a.same)) (sym (hit_top early_of f a.frame a.same))
-              (item_passes t f.method.class f'.place h.item a.same.item (h.one.side.ok.ok f'.place h.item h.here) aside other to));
+              (item_passes t f.method.class f'.place h.item a.same.item (h.one.side.ok.ok f'.place h.item h.here) aside to));
         })
 
     plain_turned : (f f' : Frame) (fs fs' : List Frame) (h : SameFrame p p' sides f f') → SameWaits p p' sides fs fs' → own_of h.item ≡ false
-        → (h.item ≡ start 0 → ⊥)
+        → (h.item ≡ start fetches.Member 0 → ⊥)
         → AsideTurned (running f fs) (running f' fs') (after_result p' (result_of p' s' f') s' f' fs')
     plain_turned f f' fs fs' h w aside other =
         let slot = in_changed f f' h aside in
@@ -182,7 +191,7 @@ module _ (p p' : Program) (sides : Entry → Side) where
 
     -- ---- the call of `$jacocoInit`
 
-    module _ (f f' : Frame) (h : SameFrame p p' sides f f') (call : h.item ≡ start 0) (v : ℕ) (c : IsChanged p p' (sides f.method) v) where
+    module _ (f f' : Frame) (h : SameFrame p p' sides f f') (call : h.item ≡ start fetches.Member 0) (v : ℕ) (c : IsChanged p p' (sides f.method) v) where
       abbrev t : Side
       t = sides f.method
 
@@ -195,10 +204,13 @@ module _ (p p' : Program) (sides : Entry → Side) where
       abbrev here_at : Location
       here_at = location f.method f'.place t.new t.twin
 
+      added : IsPlainMethod t.class.name init_type 0 0 (init_code (changed_init p.names p'.names t.class t.new c.pair).places (sum_by probe_count t.class.bodies)) b
+      added = (changed_init p.names p'.names t.class t.new c.pair).method
+
       first : f'.place ≡ 0
       first = (subst (λ x. Ok t.body.code t.slot t.ids t.items f'.place x) call (h.one.side.ok.ok f'.place h.item h.here)).place
 
-      pub next_item : slice_get t.items (f'.place + 1) ≡ Some (start 1)
+      pub next_item : slice_get t.items (f'.place + 1) ≡ Some (start fetches.Member 1)
       next_item = (subst (λ x. Ok t.body.code t.slot t.ids t.items f'.place x) call (h.one.side.ok.ok f'.place h.item h.here)).next
 
       not_in_init : in_init here_at ≡ false
@@ -210,10 +222,10 @@ module _ (p p' : Program) (sides : Entry → Side) where
 
       enterable : is_enterable t.new b ≡ true
       enterable =
-          ap (λ x. enter_by x t.new.has_clinit (is_wide t.new b)) c.pair.added_is.flags
+          ap (λ x. enter_by x t.new.has_clinit (is_wide t.new b)) added.flags
           ∙ ap (λ x. enter_by 0x100a x (is_wide t.new b)) (h.one.side.has_clinit ∙ h.one.entered)
           ∙ ap (λ x. enter_by 0x100a false (nat_lt (if x then 1004 else 1000) (b.max_locals + b.max_stack))) c.declares
-          ∙ ap₂ (λ x y. enter_by 0x100a false (nat_lt 1004 (x + y))) c.pair.added_is.max_locals c.pair.added_is.max_stack
+          ∙ ap₂ (λ x y. enter_by 0x100a false (nat_lt 1004 (x + y))) added.max_locals_is added.max_stack
 
       may_name : may_name_method here_at f.method.class b.name ≡ true
       may_name =
@@ -229,7 +241,7 @@ module _ (p p' : Program) (sides : Entry → Side) where
       operation : operation_of p' here_at (insns.Member opcode.invokestatic t.places.giver) ≡ invokes e [] 0
       unfolding operation_of
       operation =
-          ap (member_operation opcode.invokestatic here_at p') c.calls
+          ap (member_operation opcode.invokestatic here_at p') c.gets.giver_is
           ∙ ap (λ x. if x then profile.init_call here_at (is_fetch t.class.name init_name init_type) (init_of here_at) else method_entered here_at p'
           (callee_named p' t.class.name init_name init_type)) not_in_init
           ∙ ap (method_entered here_at p') called
@@ -237,22 +249,22 @@ module _ (p p' : Program) (sides : Entry → Side) where
           ∙ ap (body_entered here_at e t.new) c.added_at
           ∙ ap (λ x. entered_if (x && may_name_method here_at f.method.class b.name) e b) enterable
           ∙ ap (λ x. entered_if x e b) may_name
-          ∙ ap (λ (d : List ℕ). invokes e (method_type_in d).parameters b.max_locals) c.pair.added_is.desc
-          ∙ ap₂ (λ x y. invokes e x y) no_parameters c.pair.added_is.max_locals
+          ∙ ap (λ (d : List ℕ). invokes e (method_type_in d).parameters b.max_locals) added.desc_is
+          ∙ ap₂ (λ x y. invokes e x y) no_parameters added.max_locals_is
 
       pub enters_init : result_of p' s' f' ≡ calls e [] f'
       unfolding perform
       enters_init =
-          let i = twin_insn p p' sides f.method h.one.side f'.place (start 0) (h.here ∙ ap Some call) in
+          let i = twin_insn p p' sides f.method h.one.side f'.place (start fetches.Member 0) (h.here ∙ ap Some call) in
           result_is p' s' f' f.method f'.place t.new t.twin i.0 h.one.method refl h.one.side.new_is h.one.side.twin_is i.1
           ∙ ap (λ x. perform (operation_of p' here_at x) s' f') i.2
           ∙ ap (λ x. perform x s' f') operation
 
       pub init_named : is_init_method p' e ≡ true
-      init_named = init_is p' e t.new b h.one.side.new_is c.added_at ∙ same_bytes b.name init_name c.pair.added_is.name
+      init_named = init_is p' e t.new b h.one.side.new_is c.added_at ∙ same_bytes b.name init_name added.name
 
     -- a frame at the prelude's call
-    calls_turned : (f f' : Frame) (fs fs' : List Frame) (h : SameFrame p p' sides f f') → SameWaits p p' sides fs fs' → h.item ≡ start 0
+    calls_turned : (f f' : Frame) (fs fs' : List Frame) (h : SameFrame p p' sides f f') → SameWaits p p' sides fs fs' → h.item ≡ start fetches.Member 0
         → AsideTurned (running f fs) (running f' fs') (after_result p' (result_of p' s' f') s' f' fs')
     calls_turned f f' fs fs' h w call =
         let t = sides f.method in
@@ -262,9 +274,9 @@ module _ (p p' : Program) (sides : Entry → Side) where
         let g = new_frame e [] in
         let named = init_named f f' h call slot.0 c in
         let before = rank_top f f' fs' h in
-        let at_call = ap (item_rank t) call in
-        let behind : thread_rank (running g (f' ∷ fs')) ≡ 12 + early_size t.body.code t.ids 0 =
-        ap (λ b. frames_rank b g (f' ∷ fs')) named ∙ ap (λ m. 12 + early_size (sides m).body.code (sides m).ids 0 - 0) h.one.method ∙ omega arith in
+        let at_call = ap (item_rank t f'.place) call in
+        let behind : thread_rank (running g (f' ∷ fs')) ≡ 12 + first_size t =
+        ap (λ b. frames_rank b g (f' ∷ fs')) named ∙ ap (λ m. 12 + first_size (sides m) - 0) h.one.method ∙ omega arith in
         subst (λ r. AsideTurned (running f fs) (running f' fs') (after_result p' r s' f' fs')) (sym (enters_init f f' h call slot.0 c))
         (subst (λ b. AsideTurned (running f fs) (running f' fs')
         (if not b && nat_le 128 (counted_frames p' (f' ∷ fs')) then thrown_in p' (placed thrown.StackOverflowError s') (f' ∷ fs') else after
@@ -280,7 +292,7 @@ module _ (p p' : Program) (sides : Entry → Side) where
             waits = w;
             method = refl;
             init = _;
-            has = c.pair.probes;
+            has = changed_probes p.names p'.names t.class t.new c.pair;
             step = reads_field;
             place = refl;
             stack = refl;
@@ -306,12 +318,12 @@ module _ (p p' : Program) (sides : Entry → Side) where
       inside_named = ap (is_init_method p') i.method ∙ init_named f i.below i.base i.at_call base_changed.0 change
 
       inside_rank_is : (g : Frame) (step : InitStep) → g.method ≡ f'.method → g.place ≡ step_place step
-          → thread_rank (running g fs') ≡ 12 + early_size under.body.code under.ids 0 - step_place step
+          → thread_rank (running g fs') ≡ 12 + first_size under - step_place step
       inside_rank_is g step m e =
           ap (λ b. frames_rank b g fs') (ap (is_init_method p') m ∙ inside_named)
           ∙ ap (λ l. inside_rank g.place l) i.waiting
-          ∙ ap (λ x. 12 + early_size (sides x).body.code (sides x).ids 0 - g.place) i.base.one.method
-          ∙ ap (λ x. 12 + early_size under.body.code under.ids 0 - x) e
+          ∙ ap (λ x. 12 + first_size (sides x) - g.place) i.base.one.method
+          ∙ ap (λ x. 12 + first_size under - x) e
 
       pub inside_none : (id_by : Item → Option ℕ) (g : Frame) → g.method ≡ f'.method → frame_hit p' sides id_by (is_init_method p' g.method) g ≡ None
       inside_none id_by g m = ap (λ b. frame_hit p' sides id_by b g) (ap (is_init_method p') m ∙ inside_named)
@@ -323,7 +335,7 @@ module _ (p p' : Program) (sides : Entry → Side) where
       its_init = record { id = change.pair.id; count = sum_by probe_count under.class.bodies; bootstrap = None }
 
       which_init : its_init ≡ i.init
-      which_init = init_same its_init i.init (sym change.pair.probes ∙ i.has)
+      which_init = init_same its_init i.init (sym (changed_probes p.names p'.names under.class under.new change.pair) ∙ i.has)
 
       turned : Stepped p p' sides s s' f' f.method.class i.init i.step (result_of p' s' f')
       turned =
@@ -368,11 +380,11 @@ module _ (p p' : Program) (sides : Entry → Side) where
       abbrev below_goes : SameFrame p p' sides f back
       below_goes = record {
         one = record { method = i.base.one.method; side = i.base.one.side; entered = i.base.one.entered };
-        item = start 1;
+        item = start fetches.Member 1;
         here = next_item f i.below i.base i.at_call base_changed.0 change;
         at = ap at_of (sym i.at_call) ∙ i.base.at;
         stack = ap₂ (λ x l. x ∷ l) array_same (i.base.stack ∙ ap (λ y. pushed_of (array_of under f.method.class) y ++ f.stack) i.at_call);
-        locals = stays_unready (array_of under f.method.class) under.slot f.locals i.below.locals (start 0) (start 1) (λ b. b)
+        locals = stays_unready (array_of under f.method.class) under.slot f.locals i.below.locals (start fetches.Member 0) (start fetches.Member 1) (λ b. b)
             (subst (λ y. SameLocals (array_of under f.method.class) under.slot f.locals i.below.locals y) i.at_call i.base.locals);
       }
 
@@ -399,31 +411,32 @@ module _ (p p' : Program) (sides : Entry → Side) where
     pub aside_turned : (f f' : Frame) (fs fs' : List Frame) (h : SameFrame p p' sides f f') → SameWaits p p' sides fs fs' → (x : Item) → h.item ≡ x
         → own_of x ≡ false
         → AsideTurned (running f fs) (running f' fs') (after_result p' (result_of p' s' f') s' f' fs')
-    aside_turned f f' fs fs' h w (start zero) e aside = calls_turned f f' fs fs' h w e
-    aside_turned f f' fs fs' h w (start (suc k)) e aside = plain_turned f f' fs fs' h w (ap own_of e) (λ q. apart (sym e ∙ q))
+    aside_turned f f' fs fs' h w (start fetches.Member zero) e aside = calls_turned f f' fs fs' h w e
+    aside_turned f f' fs fs' h w (start fetches.Member (suc k)) e aside = plain_turned f f' fs fs' h w (ap own_of e) (λ q. apart (sym e ∙ q))
       where
-        apart : start (suc k) ≡ start 0 → ⊥
+        apart : start fetches.Member (suc k) ≡ start fetches.Member 0 → ⊥
         apart q = let one : 1 ≡ 0 = ap extra_of q in omega (arith, one)
+    aside_turned f f' fs fs' h w (start fetches.Constant k) e aside = absurd (no_constant p p' sides f.method h.one.side k f'.place (h.here ∙ ap Some e))
     aside_turned f f' fs fs' h w (image insn at early) e aside = absurd (true≢false aside)
     aside_turned f f' fs fs' h w (probe_array id at late) e aside = plain_turned f f' fs fs' h w (ap own_of e) (λ q. apart (sym e ∙ q))
       where
-        apart : probe_array id at late ≡ start 0 → ⊥
+        apart : probe_array id at late ≡ start fetches.Member 0 → ⊥
         apart q = cc
     aside_turned f f' fs fs' h w (probe_id id at late) e aside = plain_turned f f' fs fs' h w (ap own_of e) (λ q. apart (sym e ∙ q))
       where
-        apart : probe_id id at late ≡ start 0 → ⊥
+        apart : probe_id id at late ≡ start fetches.Member 0 → ⊥
         apart q = cc
     aside_turned f f' fs fs' h w (probe_one id at late) e aside = plain_turned f f' fs fs' h w (ap own_of e) (λ q. apart (sym e ∙ q))
       where
-        apart : probe_one id at late ≡ start 0 → ⊥
+        apart : probe_one id at late ≡ start fetches.Member 0 → ⊥
         apart q = cc
     aside_turned f f' fs fs' h w (probe_store id at late) e aside = plain_turned f f' fs fs' h w (ap own_of e) (λ q. apart (sym e ∙ q))
       where
-        apart : probe_store id at late ≡ start 0 → ⊥
+        apart : probe_store id at late ≡ start fetches.Member 0 → ⊥
         apart q = cc
     aside_turned f f' fs fs' h w (hop to at due) e aside = plain_turned f f' fs fs' h w (ap own_of e) (λ q. apart (sym e ∙ q))
       where
-        apart : hop to at due ≡ start 0 → ⊥
+        apart : hop to at due ≡ start fetches.Member 0 → ⊥
         apart q = cc
 
     -- ---- an own turn

@@ -3,6 +3,7 @@ use Rattle.std.specs.Prelude.{◌≡◌, ◌⊎◌, ℕ, suc, ◌+◌, ◌≤◌
 use Rattle.std.specs.Int.{w64, cast_signed}
 use Rattle.std.specs.List.{list_any}
 use Rattle.jc_methods.specs.ProbeMembers.{data_name}
+use Rattle.jc_methods.specs.declared.probe_members.Fetch.TheVariants as fetches
 use Rattle.jc_methods.specs.declared.insn.Insn.{Insn}
 use Rattle.jc_programs.specs.declared.program.Program.{Program}
 use Rattle.jc_programs.specs.declared.program.Linked.{Linked}
@@ -21,7 +22,7 @@ use Rattle.jc_twin_simulation.specs.Sides.{Side, count_in, array_of, GoesOnAt, I
 
 -- what the prelude or a probe has pushed in front of an item
 abbrev pub pushed_of : (array : Value) → Item → List Value
-pushed_of array (start (suc k)) = array ∷ []
+pushed_of array (start fetch (suc k)) = array ∷ []
 pushed_of array (probe_id id at late) = array ∷ []
 pushed_of array (probe_one id at late) = int (pos id) ∷ array ∷ []
 pushed_of array (probe_store id at late) = int (pos 1) ∷ int (pos id) ∷ array ∷ []
@@ -151,7 +152,7 @@ module _ (p p' : Program) (sides : Entry → Side) where
     pub rest : List Frame
     pub waiting : fs' ≡ below ∷ rest
     pub base : SameFrame f below
-    pub at_call : base.item ≡ start 0
+    pub at_call : base.item ≡ start fetches.Member 0
     pub waits : SameWaits fs rest
     pub method : f'.method ≡ init_method f.method
     pub init : ProbeInit

@@ -1,26 +1,28 @@
 -- A method of a program beside that of its twin, and the classes of the two.
 use Rattle.std.specs.Prelude.{◌≡◌, ℕ, ◌<◌, true, false, List, length, map, Option, Some, None, slice_get}
-use Rattle.jc_methods.specs.WellMade.{IsWellMadeOfAnySize, what_used}
+use Rattle.jc_methods.specs.WellMade.{IsWellMadeOfAnySize}
 use Rattle.jc_methods.specs.declared.body.Body.{Body}
+use Rattle.jc_methods.specs.declared.probe_members.Fetch.TheVariants as fetches
 use Rattle.jc_programs.specs.declared.program.Program.{Program}
 use Rattle.jc_programs.specs.declared.program.Linked.{Linked}
 use Rattle.jc_programs.specs.declared.program.ProbeInit.{ProbeInit}
 use Rattle.jc_programs.specs.declared.run_end.Entry.{Entry}
 use Rattle.jc_plan.specs.declared.branch.Branch.{Branch}
 use Rattle.jc_plan.specs.Probed.{first_id, probe_of}
+use Rattle.jc_emit.specs.Added.{giver_of}
 use Rattle.jc_emit.specs.Items.{Item, at_of, own_of, extra_of}
 use Rattle.jc_emit.specs.Local.{AllOk, OkRow, Stands, id_in, no_ids}
 use Rattle.jc_emit.specs.Marks.{TwinPlaces, Marks}
 use Rattle.jc_emit.specs.Ranks.{IsRanked}
-use Rattle.jc_emit.specs.Seen.{OkRows, IsPlain, AreInsnsOf, with_more}
-use Rattle.jc_emit.specs.Twin.{IsSameMethod, KeepsUses, probe_init}
+use Rattle.jc_emit.specs.Seen.{OkRows, IsPlain, AreInsnsOf, GetsArray, with_more}
+use Rattle.jc_emit.specs.Twin.{IsSameMethod, KeepsUses}
 use Rattle.jc_emit.specs.TwinProgram.{IsPair, IsChangedPair, IsUnchangedPair, DifferInName}
 use Rattle.jc_machine_model.specs.Values.{Value, probes}
 use Rattle.jc_twin_simulation.specs.ProbeRuns.{AreRuns}
 use Rattle.jc_machine_model.specs.Methods.{is_init_name, declares_init}
 
 -- the two bodies with their classes, and what the twin is made of: the local variable of the probe array, the ids of the
--- branches, the items, and where the method that the prelude calls stands in the pool
+-- branches, the items, and where the pool has what it names
 pub record Side : Type 0 where
   pub class : Linked
   pub new : Linked
@@ -49,7 +51,7 @@ pub record IsChanged (p p' : Program) (t : Side) (v : ℕ) : Type 0 where
   pub pair : IsChangedPair p.names p'.names t.class t.new
   pub added_at : slice_get t.new.bodies (length t.class.bodies) ≡ Some pair.added
   pub declares : declares_init t.new ≡ true
-  pub calls : what_used t.twin.uses t.places.giver ≡ Some (probe_init t.class.name)
+  pub gets : GetsArray fetches.Member (giver_of fetches.Member t.class.name pair.bootstrap) t.twin.uses t.items t.places
   pub within : (q id : ℕ) (x : Item) → slice_get t.items q ≡ Some x → id_in x ≡ Some id → id < count_in t.new.probes
 
 -- a method of an unchanged class

@@ -5,6 +5,7 @@ use Rattle.jc_methods.specs.declared.insn.Insn.{Insn}
 use Rattle.jc_methods.specs.declared.insn.Insn.TheVariants as insns
 use Rattle.jc_methods.specs.declared.body.Body.{Body}
 use Rattle.jc_methods.specs.declared.body.Use.{Use}
+use Rattle.jc_methods.specs.declared.probe_members.Fetch.TheVariants as fetches
 use Rattle.jc_programs.specs.declared.program.Program.{Program}
 use Rattle.jc_programs.specs.declared.program.Linked.{Linked}
 use Rattle.jc_programs.specs.declared.program.ProbeInit.{ProbeInit}
@@ -52,7 +53,7 @@ abbrev pub ArePushed : (array : Value) → Body → (q extra : ℕ) → List Val
 ArePushed array b q zero stack = ⊤
 ArePushed array b q (suc n) [] = ⊥
 ArePushed array b q (suc n) (v ∷ stack) =
-    (r : ℕ) × (insn : Insn) × (q ≡ suc r) × (slice_get b.code r ≡ Some insn) × IsPushedIn (nat_lt r prelude_size) b.uses array insn v
+    (r : ℕ) × (insn : Insn) × (q ≡ suc r) × (slice_get b.code r ≡ Some insn) × IsPushedIn (nat_lt r (prelude_size fetches.Member)) b.uses array insn v
     × ArePushed array b r n stack
 
 module _ (p' : Program) (marks : Entry → Marks) where
@@ -64,7 +65,7 @@ module _ (p' : Program) (marks : Entry → Marks) where
     pub held : Option Value
     pub there : slice_get f'.locals v ≡ Some held
     pub narrow : is_pair_there held ≡ false
-    pub ready : prelude_size ≤ f'.place → held ≡ Some (array_in p' f'.method.class)
+    pub ready : prelude_size fetches.Member ≤ f'.place → held ≡ Some (array_in p' f'.method.class)
     pub apart : (k : ℕ) → v ≡ suc k → is_pair_there (slice_index_or f'.locals k None) ≡ false
 
   -- of a method that isn't `$jacocoInit`

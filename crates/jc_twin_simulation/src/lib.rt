@@ -9,7 +9,8 @@ ghost use Rattle.jc_twin_simulation.specs.Together.{EachBeginsTogether, EachTurn
 
 /// A run of a twin leaves the same output, heap, static fields and ends of threads as the run of the original under the kept
 /// turns, and the frames of running threads are the same up to the instruction that is next, the local variable of the probe
-/// array and what a probe has pushed. This holds for every schedule, every number of threads and both layouts of the code.
+/// array and what a probe has pushed. This holds for every schedule, every number of threads and every set of wide jumps, and for
+/// ids that are Integers of the pool.
 pub fn each_run_is_the_same()
     ensures { RunsAreSame }
 {}
