@@ -1,5 +1,5 @@
 -- A file of a report, the class that is linked of it, and that of what was written of it.
-use Rattle.std.proofs.Common.{◌≡◌, ◌⊎◌, inl, inr, ℕ, ◌+◌, Bool, true, false, ◌||◌, List, [], ◌∷◌, map, Some, None, Contains, refl, sym, ◌∙◌, ap, subst}
+use Rattle.std.proofs.Common.{◌≡◌, ◌⊎◌, inl, inr, ℕ, ℤ, ◌+◌, Bool, true, false, ◌||◌, List, [], ◌∷◌, map, Some, None, Contains, refl, sym, ◌∙◌, ap, subst}
 use Rattle.std.specs.List.{AllByRecursion, list_any, sum_by}
 use Rattle.std.proofs.lemmas.Bool.{or_left, or_right}
 use Rattle.std.proofs.lemmas.Option.{same_Some}
@@ -7,17 +7,21 @@ use Rattle.std.proofs.lemmas.Slice.Eq.{bytes_eq-Decides}
 use Rattle.jc_bytes.specs.ByteLists.{AreBytes}
 use Rattle.jc_bytes.specs.declared.refusal.Refusal.{Refusal}
 use Rattle.jc_bytes.proofs.BooleanLaws.{first_in, later_in, which_in, none_in}
-use Rattle.jc_methods.specs.ProbeMembers.{init_name}
+use Rattle.jc_methods.specs.ProbeMembers.{init_name, fetch_of}
 use Rattle.jc_methods.specs.VerificationTypes.{Names}
 use Rattle.jc_methods.specs.declared.analysed.Analysed.{Analysed}
 use Rattle.jc_methods.specs.declared.body.Body.{Body}
 use Rattle.jc_programs.specs.declared.program.Linked.{Linked}
 use Rattle.jc_programs.specs.declared.program.ProbeInit.{ProbeInit}
+use Rattle.jc_methods.specs.declared.body.What.{What}
+use Rattle.jc_methods.specs.declared.probe_members.Fetch.{Fetch}
+use Rattle.jc_methods.specs.declared.probe_members.Fetch.TheVariants as fetches
 use Rattle.jc_class.specs.ClassId.{class_id}
 use Rattle.jc_class.specs.declared.class_file.ClassFile.{ClassFile}
 use Rattle.jc_class.proofs.FirstBadLaws.{one_class_of}
 use Rattle.jc_plan.specs.Probed.{probe_count}
 use Rattle.jc_pool.specs.Lookup.{class_name_of}
+use Rattle.jc_emit.specs.Added.{IsAddedBody}
 use Rattle.jc_emit.specs.TwinProgram.{AreTwinBodies}
 use Rattle.jc_instrument.specs.Analysis.{IsAnalysis}
 use Rattle.jc_instrument.specs.Bodies.{AreBodies, AreBodiesUnless}
@@ -57,11 +61,16 @@ no_init (x ∷ bodies) none = by (is_init_name x.name) refl (no_init bodies (λ 
     by true is later = absurd (none x (first_in x bodies) ((bytes_eq-Decides x.name init_name).0 is))
     by false is later = later
 
-last_in : (names new_names : Names) (owner : List ℕ) (first : ℕ) (bodies others : List Body) (added : Body)
-    → AreTwinBodies names new_names owner first bodies others added → Contains others added
-last_in names new_names owner first [] others added are = subst (λ (l : List Body). Contains l added) (sym are) (first_in added [])
-last_in names new_names owner first (b ∷ bodies) [] added are = absurd are
-last_in names new_names owner first (b ∷ bodies) (x ∷ others) added are = later_in x others added (last_in names new_names owner (first + probe_count b) bodies others added are.1)
+last_in : (names new_names : Names) (fetch : Fetch) (giver : What) (first : ℕ) (bodies others : List Body) (added : Body)
+    → AreTwinBodies names new_names fetch giver first bodies others added → Contains others added
+last_in names new_names fetch giver first [] others added are = subst (λ (l : List Body). Contains l added) (sym are) (first_in added [])
+last_in names new_names fetch giver first (b ∷ bodies) [] added are = absurd are
+last_in names new_names fetch giver first (b ∷ bodies) (x ∷ others) added are = later_in x others added (last_in names new_names fetch giver (first + probe_count b) bodies others added are.1)
+
+-- the added method has its name, whatever it does
+added_name : (fetch : Fetch) (names : Names) (class : List ℕ) (id : ℤ) (count : ℕ) (b : Body) → IsAddedBody fetch names class id count b → b.name ≡ init_name
+added_name fetches.Member names class id count b is = is.method.name
+added_name fetches.Constant names class id count b is = is.method.name
 
 -- ---- one file
 
@@ -124,7 +133,8 @@ module _ (names new_names : Names) (o w : List ℕ) (l n : Linked) (short : IsSh
       of_twin twin =
           let pair = changed_pair o w short.0 are_new twin names new_names l n p q in
           record {
-            declares = has_init n.bodies pair.added (last_in names new_names l.name 0 l.bodies n.bodies pair.added pair.bodies) pair.added_is.name;
+            declares = has_init n.bodies pair.added (last_in names new_names _ _ 0 l.bodies n.bodies pair.added pair.bodies)
+                (added_name (fetch_of l.version) new_names l.name _ _ pair.added pair.added_is);
             init = record { id = class_id o; count = sum_by probe_count l.bodies; bootstrap = None };
             probes = probes_new o w short.0 are_new twin names new_names l n p q;
             id = sym is.described.id;

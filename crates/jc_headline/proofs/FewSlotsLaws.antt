@@ -7,6 +7,8 @@ use Rattle.std.proofs.lemmas.Option.{none-some, same_Some, slice_get_within}
 use Rattle.jc_bytes.proofs.ListLaws.{all_at}
 use Rattle.jc_methods.specs.WellMade.{most_slots}
 use Rattle.jc_methods.specs.declared.body.Body.{Body}
+use Rattle.jc_methods.specs.declared.body.What.{What}
+use Rattle.jc_methods.specs.declared.probe_members.Fetch.{Fetch}
 use Rattle.jc_class.specs.ClassId.{class_id}
 use Rattle.jc_class.specs.declared.class_file.ClassFile.{ClassFile}
 use Rattle.jc_class.specs.declared.class_file.Member.{Member}
@@ -19,7 +21,6 @@ use Rattle.jc_body.proofs.SizeLaws.{insns_short}
 use Rattle.jc_plan.specs.Probed.{probe_count}
 use Rattle.jc_emit.specs.TwinProgram.{AreTwinBodies}
 use Rattle.jc_instrument.specs.Bodies.{IsListed}
-use Rattle.jc_instrument.specs.Needed.{name_of}
 use Rattle.jc_instrument_laws.specs.TwinClass.{TwinClass}
 use Rattle.jc_link_programs.specs.declared.link_refusal.LinkRefusal.{LinkRefusal}
 use Rattle.jc_link_laws.specs.SecondLinking.{IsTooWide, IsSecondRefusal, too_wide, one_id}
@@ -50,25 +51,25 @@ module _ (original text : List ℕ) (few : UsesFewSlots original) (w : IsWritten
       let parts = body.is.parts in
       subst FitsIn (λ j. sym parts.max_locals j + sym parts.max_stack j + 4) (few c w.twin.file_is b.method body.method body.at body.is.coded body.is.is)
 
-  twin_fits : (owner : List ℕ) (first : ℕ) (bs ys : List Body) → AreTwinBodies h.names h.new_names owner first bs ys h.added → HaveRoom bs
+  twin_fits : (fetch : Fetch) (giver : What) (first : ℕ) (bs ys : List Body) → AreTwinBodies h.names h.new_names fetch giver first bs ys h.added → HaveRoom bs
       → (i : ℕ) (y : Body) → slice_get ys i ≡ Some y → FitsIn (y.max_locals + y.max_stack)
-  twin_fits owner first [] ys twins sources i y at = by i (sym (ap (λ (l : List Body). slice_get l i) twins) ∙ at)
+  twin_fits fetch giver first [] ys twins sources i y at = by i (sym (ap (λ (l : List Body). slice_get l i) twins) ∙ at)
     where
       by : (i : ℕ) → slice_get (h.added ∷ []) i ≡ Some y → FitsIn (y.max_locals + y.max_stack)
       by zero there =
           let same : h.added ≡ y = same_Some h.added y there in
-          let locals : y.max_locals ≡ 0 = ap (λ (b : Body). b.max_locals) (sym same) ∙ h.added_is.max_locals in
-          let stack : y.max_stack ≡ 4 = ap (λ (b : Body). b.max_stack) (sym same) ∙ h.added_is.max_stack in
+          let locals : y.max_locals ≡ 0 = ap (λ (b : Body). b.max_locals) (sym same) ∙ h.added_is.method.max_locals_is in
+          let stack : y.max_stack ≡ 4 = ap (λ (b : Body). b.max_stack) (sym same) ∙ h.added_is.method.max_stack in
           omega (arith, locals, stack)
       by (suc i) there = absurd (none-some y there)
-  twin_fits owner first (b ∷ bs) [] twins sources i y at = absurd twins
-  twin_fits owner first (b ∷ bs) (z ∷ ys) twins sources zero y at =
+  twin_fits fetch giver first (b ∷ bs) [] twins sources i y at = absurd twins
+  twin_fits fetch giver first (b ∷ bs) (z ∷ ys) twins sources zero y at =
       let same : z ≡ y = same_Some z y at in
       let locals : y.max_locals ≡ b.max_locals + 1 = ap (λ (x : Body). x.max_locals) (sym same) ∙ twins.0.twin.max_locals in
       let stack : y.max_stack ≡ b.max_stack + 3 = ap (λ (x : Body). x.max_stack) (sym same) ∙ twins.0.twin.max_stack in
       let slots : b.max_locals + b.max_stack + 4 ≡ y.max_locals + y.max_stack = omega (arith, locals, stack) in
       subst FitsIn slots (sources zero b refl)
-  twin_fits owner first (b ∷ bs) (z ∷ ys) twins sources (suc i) y at = twin_fits owner (first + probe_count b) bs ys twins.1 (λ j x there. sources (suc j) x there) i y at
+  twin_fits fetch giver first (b ∷ bs) (z ∷ ys) twins sources (suc i) y at = twin_fits fetch giver (first + probe_count b) bs ys twins.1 (λ j x there. sources (suc j) x there) i y at
 
   not_wide : (number : ℕ) → IsTooWide t number → ⊥
   not_wide number wide = by (h.read.all number (slice_get_within t.methods number wide.method wide.at))
@@ -92,7 +93,7 @@ module _ (original text : List ℕ) (few : UsesFewSlots original) (w : IsWritten
           no_items t.pool wide.method (subst (HasNoCode t.pool) same none.none) wide.coded.items wide.is.items
       by (inr k) =
           of_body k.body (subst (λ (n : ℕ). BodyOfAnySize h.new_names t n k.body) k.number_is (h.read.each k.index k.body k.stands))
-          (twin_fits (name_of c) 0 h.bodies (h.twins ++ h.added ∷ []) h.each source_fits k.index k.body k.stands)
+          (twin_fits _ _ 0 h.bodies (h.twins ++ h.added ∷ []) h.each source_fits k.index k.body k.stands)
 
 pub not_refused : (originals written : List (List ℕ)) → AllByRecursion UsesFewSlots originals → DifferInId originals → (r : LinkRefusal) → IsSecondRefusal originals written r → ⊥
 not_refused originals written few differ _ (too_wide {index = i} {number = number} original text twin at class wide) =

@@ -1,6 +1,7 @@
 -- A class, and what is linked of the text of a twin of it, are a changed pair.
 use Rattle.std.proofs.Common.{◌≡◌, ◌⊎◌, inl, inr, ℕ, ℤ, ◌+◌, ◌<◌, ◌≤◌, Bool, true, false, cond, ◌&&◌, List, [], ◌∷◌, ◌++◌, map, Contains, Option, Some, None, bytes_eq, refl, sym, ◌∙◌, ap, ap₂, subst}
 use Rattle.std.specs.Prelude.{unwrap_or}
+use Rattle.std.specs.Int.{w64, cast_signed}
 use Rattle.std.specs.List.{list_any, sum_by}
 use Rattle.std.proofs.lemmas.Bool.{cases_lt}
 use Rattle.std.proofs.lemmas.Grind.{flat_map-append}
@@ -12,11 +13,14 @@ use Rattle.jc_bytes.specs.ByteLists.{AreBytes}
 use Rattle.jc_bytes.proofs.BooleanLaws.{first_in, later_in}
 use Rattle.jc_bytes.proofs.ListLaws.{stands_at}
 use Rattle.jc_methods.specs.VerificationTypes.{Names, TypeStateAt, type_state_at}
-use Rattle.jc_methods.specs.ProbeMembers.{data_name, data_type, init_name, init_type, most_probes}
+use Rattle.jc_methods.specs.ProbeMembers.{data_name, data_type, init_name, init_type, most_probes, fetch_of}
 use Rattle.jc_methods.specs.WellMade.{what_used}
 use Rattle.jc_methods.specs.declared.body.Body.{Body}
 use Rattle.jc_methods.specs.declared.body.FrameAt.{FrameAt}
+use Rattle.jc_methods.specs.declared.body.What.{What}
 use Rattle.jc_methods.specs.declared.body.What.TheVariants as whats
+use Rattle.jc_methods.specs.declared.probe_members.Fetch.{Fetch}
+use Rattle.jc_methods.specs.declared.probe_members.Fetch.TheVariants as fetches
 use Rattle.jc_programs.specs.declared.program.Linked.{Linked}
 use Rattle.jc_programs.specs.declared.program.StaticField.{StaticField}
 use Rattle.jc_pool.specs.Lookup.{class_name_of, string_of}
@@ -33,8 +37,8 @@ use Rattle.jc_body.specs.Coded.{IsBodiless}
 use Rattle.jc_body.proofs.AnswerLaws.{bodiless_or_body}
 use Rattle.jc_plan.specs.Analysed.{all_probes}
 use Rattle.jc_plan.specs.Probed.{probe_count}
-use Rattle.jc_emit.specs.Added.{HasInitFrame, IsInitBody, init_code}
-use Rattle.jc_emit.specs.TwinProgram.{IsSameBody, AreSameBodies, AreTwinBodies, IsChangedPair, data_static}
+use Rattle.jc_emit.specs.Added.{HasInitFrame, IsInitBody, IsAddedBody, init_code, giver_of, bootstrap_of, data_static, added_statics}
+use Rattle.jc_emit.specs.TwinProgram.{IsSameBody, AreSameBodies, AreTwinBodies, IsChangedPair}
 use Rattle.jc_instrument_reread.proofs.OneBodyLaws.{same_bodies}
 use Rattle.jc_instrument.specs.Bodies.{AreBodies, IsListed}
 use Rattle.jc_instrument.specs.Causes.{NoCause, unless}
@@ -48,10 +52,11 @@ use Rattle.jc_instrument.proofs.EachAnalysisLaws.{bodies_checked}
 use Rattle.jc_instrument.proofs.FrameCauseLaws.{each_at}
 use Rattle.jc_instrument.proofs.PoolTextLaws.{class_pool}
 use Rattle.jc_instrument.proofs.RoomDecidedLaws.{none_straddles}
+use Rattle.jc_instrument.proofs.VersionLaws.{fetched_by_member}
 use Rattle.jc_instrument_laws.proofs.ReadCodeLaws.{id_below}
 use Rattle.jc_instrument_laws.specs.TwinClass.{AreBodiesOfAnySize, TwinClass}
 use Rattle.jc_instrument.specs.Steps.{HasStates}
-use Rattle.jc_link_programs.specs.Linking.{IsLinkedOf, IsLinkedClass}
+use Rattle.jc_link_programs.specs.Linking.{IsLinkedOf, IsLinkedClass, link_causes}
 use Rattle.jc_link_programs.specs.ProbeInits.{init_of, is_init}
 use Rattle.jc_link_programs.specs.Statics.{is_clinit, static_of, statics_among}
 use Rattle.jc_link_programs.proofs.PairedLaws.{AreThere, IsThere, AreSameWhere, paired}
@@ -134,34 +139,34 @@ init_there : (names others : Names) (class : List ℕ) (id : ℤ) (count : ℕ) 
     → IsInitBody others class id count d
 init_there names others class id count b d same h = subst (IsInitBody others class id count) (sym same.others) (record {
   places = h.places;
-  owner = h.owner;
-  name = h.name;
-  desc = h.desc;
-  flags = h.flags;
-  arg_slots = h.arg_slots;
-  max_stack = h.max_stack;
-  max_locals = h.max_locals;
-  code = h.code;
-  handlers = h.handlers;
-  lines = h.lines;
-  vars = h.vars;
-  kind_vars = h.kind_vars;
+  method = record {
+    owner = h.method.owner;
+    name = h.method.name;
+    desc_is = h.method.desc_is;
+    flags = h.method.flags;
+    arguments = h.method.arguments;
+    max_stack = h.method.max_stack;
+    max_locals_is = h.method.max_locals_is;
+    code_is = h.method.code_is;
+    handlers = h.method.handlers;
+    lines = h.method.lines;
+    vars = h.method.vars;
+    kind_vars = h.method.kind_vars;
+  };
   frames = frames_there names others b.frames d.frames same.frames h.frames;
   field_is = h.field_is;
-  id_is = h.id_is;
-  name_is = h.name_is;
-  fetch_is = h.fetch_is;
+  names_count = h.names_count;
 })
 
 -- the twins have the names of their bodies, and so the added method is the first of its name
-first_init : (names others : Names) (owner : List ℕ) (first : ℕ) (bs ys : List Body) (added : Body) → AreTwinBodies names others owner first bs ys added
+first_init : (names others : Names) (fetch : Fetch) (giver : What) (first : ℕ) (bs ys : List Body) (added : Body) → AreTwinBodies names others fetch giver first bs ys added
     → ((b : Body) → Contains bs b → b.name ≡ init_name → ⊥) → is_init added ≡ true → init_of ys ≡ Some added
-first_init names others owner first [] ys added twins none is =
+first_init names others fetch giver first [] ys added twins none is =
     ap init_of twins ∙ ap (λ (t : Bool). cond t (Some added) None) is
-first_init names others owner first (b ∷ bs) [] added twins none is = absurd twins
-first_init names others owner first (b ∷ bs) (y ∷ ys) added twins none is =
+first_init names others fetch giver first (b ∷ bs) [] added twins none is = absurd twins
+first_init names others fetch giver first (b ∷ bs) (y ∷ ys) added twins none is =
     ap (λ (t : Bool). cond t (Some y) (init_of ys)) (not_init y (λ e. none b (first_in b bs) (sym twins.0.twin.method.name ∙ e)))
-    ∙ first_init names others owner (first + probe_count b) bs ys added twins.1 (λ x c. none x (later_in b bs x c)) is
+    ∙ first_init names others fetch giver (first + probe_count b) bs ys added twins.1 (λ x c. none x (later_in b bs x c)) is
   where
     not_init : (y : Body) → (y.name ≡ init_name → ⊥) → is_init y ≡ false
     not_init y other = by (bytes_eq y.name init_name) refl
@@ -198,6 +203,9 @@ module _ (original written : List ℕ) (are : AreBytes original) (are_new : AreB
   changes : is_left_alone c ≡ false
   changes = ap is_left_alone (sym (one_class_of original w.changed.1.0 c w.changed.1.1 w.twin.file_is)) ∙ w.changed.1.2
 
+  no_link_cause : NoCause (link_causes c)
+  no_link_cause = subst (λ (x : ClassFile). NoCause (link_causes x)) (one_class_of original p.file c p.text w.twin.file_is) p.no_cause
+
   class : IsClassFile c
   class = class_holds original c are w.twin.file_is
 
@@ -217,9 +225,13 @@ module _ (original written : List ℕ) (are : AreBytes original) (are_new : AreB
   twins_same : AreSameBodies h.new_names new_names (h.twins ++ h.added ∷ []) n.bodies
   twins_same = any_lists h.new_names new_names t (h.twins ++ h.added ∷ []) n.bodies h.read q_is.bodies.are
 
-  moved : AreMovedTwins h.names names h.new_names new_names (name_of c) 0 l.bodies n.bodies h.added
+  -- what gives the array to the twins
+  abbrev giver : What
+  giver = giver_of fetches.Member (name_of c) 0
+
+  moved : AreMovedTwins h.names names h.new_names new_names fetches.Member giver 0 l.bodies n.bodies h.added
   moved =
-      moved_twins h.names names h.new_names new_names (name_of c) 0 h.bodies l.bodies (h.twins ++ h.added ∷ []) n.bodies h.added bodies_same twins_same
+      moved_twins h.names names h.new_names new_names fetches.Member giver 0 h.bodies l.bodies (h.twins ++ h.added ∷ []) n.bodies h.added bodies_same twins_same
       (λ i d at. each_at (HasStates names) l.bodies p_is.states i d at) h.each
 
   count_is : all_probes h.bodies ≡ sum_by probe_count l.bodies
@@ -280,11 +292,11 @@ module _ (original written : List ℕ) (are : AreBytes original) (are_new : AreB
   -- ---- probes
 
   last_init : is_init moved.last ≡ true
-  last_init = ap₂ (λ (a b : List ℕ). bytes_eq a init_name && bytes_eq b init_type) added_is.name added_is.desc
+  last_init = ap₂ (λ (a b : List ℕ). bytes_eq a init_name && bytes_eq b init_type) added_is.method.name added_is.method.desc_is
 
   last_first : init_of n.bodies ≡ Some moved.last
   last_first =
-      first_init names new_names (name_of c) 0 l.bodies n.bodies moved.last moved.twins
+      first_init names new_names fetches.Member giver 0 l.bodies n.bodies moved.last moved.twins
       (λ b there e. (has_neither names c l p_is not_added).bodies b there (inl e)) last_init
 
   last_body : BodyOf new_names t moved.last.method moved.last
@@ -295,11 +307,11 @@ module _ (original written : List ℕ) (are : AreBytes original) (are_new : AreB
   named : string_of t.pool added_is.places.name ≡ Some n.name
   named =
       let owner = q_is.name ∙ ap Some (name_new ∙ sym name_is) in
-      let name = last_body.is.parts.name ∙ ap Some added_is.name in
+      let name = last_body.is.parts.name ∙ ap Some added_is.method.name in
       text_is t (class_pool written t are_new w.twin.twin_is).few (name_of c) (signed_id id) (all_probes h.bodies) (subst (λ (m : ℕ). m ≤ most_probes) (sym count_is) few)
       owner h.outside.method h.outside.method_is new_names moved.last.method moved.last added_is.places last_body
       (added_at id (all_probes h.bodies) _ c t class not_added h.outside moved.last.method last_body.method last_body.at name)
-      (added_is.code ∙ ap (init_code added_is.places) (sym count_is))
+      (added_is.method.code_is ∙ ap (init_code added_is.places) (sym count_is))
       ∙ ap Some (name_is ∙ sym name_new)
 
   pub probes_new : n.probes ≡ Some (record { id = id; count = sum_by probe_count l.bodies; bootstrap = None })
@@ -310,23 +322,43 @@ module _ (original written : List ℕ) (are : AreBytes original) (are_new : AreB
       text = added_is.places.name;
       code = record {
         places = added_is.places;
-        code = added_is.code;
+        code = added_is.method.code_is;
         count_fits = few;
         field_is = subst (λ (o : List ℕ). what_used moved.last.uses added_is.places.field ≡ Some (whats.Field o data_name data_type)) (sym name_new) added_is.field_is;
-        id_is = added_is.id_is;
+        id_is = added_is.names_count.id_is;
         id_fits = id_below original are;
         text_is = refl;
-        fetch_is = added_is.fetch_is;
+        fetch_is = added_is.names_count.fetch_is;
         bootstrap_is = refl;
       };
       name_is = named;
     };
   }) q_is.probes
 
+  -- ---- how the array is got
+
+  by_member : fetch_of l.version ≡ fetches.Member
+  by_member = ap fetch_of p_is.version ∙ fetched_by_member c.major (λ outside. no_link_cause.0 _ (record { outside = outside; refusal = refl }))
+
+  -- what a pair says of it
+  abbrev GetsArray : Fetch → Type 0
+  GetsArray fetch =
+      AreTwinBodies names new_names fetch (giver_of fetch l.name 0) 0 l.bodies n.bodies moved.last
+      × (IsAddedBody fetch new_names l.name (cast_signed w64 id) (sum_by probe_count l.bodies) moved.last
+      × ((n.statics ≡ l.statics ++ added_statics fetch)
+      × (n.probes ≡ Some (record { id = id; count = sum_by probe_count l.bodies; bootstrap = bootstrap_of fetch 0 }))))
+
+  gets_array : GetsArray (fetch_of l.version)
+  gets_array = subst GetsArray (sym by_member) (
+    subst (λ (o : List ℕ). AreTwinBodies names new_names fetches.Member (giver_of fetches.Member o 0) 0 l.bodies n.bodies moved.last) name_is moved.twins,
+    (added_is, (statics_new, probes_new)),
+  )
+
   pub changed_pair : IsChangedPair names new_names l n
   changed_pair = record {
     name = name_new;
     version = version_new;
+    by_member = by_member;
     has_clinit = clinit_new;
     none_added = has_neither names c l p_is not_added;
     no_probes = no_probes names c l p_is not_added;
@@ -334,9 +366,10 @@ module _ (original written : List ℕ) (are : AreBytes original) (are_new : AreB
         let at = stands_at l.bodies b there in
         none_straddles c class room.0 names b.method b (p_is.bodies.are.each at.0 b at.1);
     id = id;
+    bootstrap = 0;
     added = moved.last;
-    bodies = subst (λ (o : List ℕ). AreTwinBodies names new_names o 0 l.bodies n.bodies moved.last) name_is moved.twins;
-    added_is = added_is;
-    statics = statics_new;
-    probes = probes_new;
+    bodies = gets_array.0;
+    added_is = gets_array.1.0;
+    statics = gets_array.1.1.0;
+    probes = gets_array.1.1.1;
   }

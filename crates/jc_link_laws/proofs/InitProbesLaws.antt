@@ -22,7 +22,7 @@ use Rattle.jc_class.specs.declared.class_file.ClassFile.{ClassFile}
 use Rattle.jc_class.specs.declared.class_file.Member.{Member}
 use Rattle.jc_body.specs.Attributes.{bodies_of, is_text}
 use Rattle.jc_body.specs.BodyOf.{BodyOf, IsBody}
-use Rattle.jc_instrument_code.specs.InitText.{init_text, named_places}
+use Rattle.jc_instrument_code.specs.InitText.{init_bytes, init_text, named_places}
 use Rattle.jc_instrument_code.specs.declared.init.AddedPlaces.{AddedPlaces}
 use Rattle.jc_emit.specs.Added.{InitPlaces, init_code}
 use Rattle.jc_instrument_reread.specs.Written.{IsAddedMethod}
@@ -75,7 +75,9 @@ module _ (t : ClassFile) (few_places : length t.pool < 65536) (owner : List ℕ)
     frames = m.frames;
   }
 
+  -- the text of its code is the same for each place of the number, which it pushes without one
   added : IsAddedMethod t owner id count places method
+  unfolding init_bytes
   added = record {
     code = record {
       few = few;

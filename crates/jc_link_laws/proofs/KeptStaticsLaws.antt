@@ -29,7 +29,7 @@ use Rattle.jc_class.specs.Writable.{IsAttribute, IsMember, NamesItsConstants}
 use Rattle.jc_class.specs.declared.class_file.Attribute.{Attribute}
 use Rattle.jc_class.specs.declared.class_file.Member.{Member}
 use Rattle.jc_body.specs.Attributes.{bodies_of, has_name, is_text}
-use Rattle.jc_emit.specs.TwinProgram.{data_static}
+use Rattle.jc_emit.specs.Added.{data_static}
 use Rattle.jc_instrument.specs.SameOutside.{IsKeptMethod, AreKeptMethods, IsDataField}
 use Rattle.jc_instrument.proofs.TwinLaws.{text_is}
 use Rattle.jc_link_programs.specs.Statics.{int_in, long_in, int_at, long_at, number_at, first_by, first_number, single, place_in, constant_place, static_with, as_static, static_of, statics_among, is_clinit}

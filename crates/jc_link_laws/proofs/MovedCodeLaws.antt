@@ -58,22 +58,22 @@ module _ (b : Body) (fs gs : List FrameAt) (first : ℕ) where
 
   -- ---- the sentences
 
-  module _ (form : TwinForm) (code : List Insn) (m : Marks) (image land lead : ℕ → ℕ) where
-    arm_same : (i : ℕ) → arm one first form code m image land lead i ≡ arm other first form code m image land lead i
+  module _ (form : TwinForm) (named : TwinPlaces) (code : List Insn) (m : Marks) (image land lead : ℕ → ℕ) where
+    arm_same : (i : ℕ) → arm one first form named code m image land lead i ≡ arm other first form named code m image land lead i
     arm_same i = λ k to. arm_place (probes_same k) land (image i + 1) (arms_at b.code i) to
 
     place_by_same : (way : Way) (flow : Flow) (i : ℕ)
-        → probe_place_by one first form code m image land lead way flow i ≡ probe_place_by other first form code m image land lead way flow i
+        → probe_place_by one first form named code m image land lead way flow i ≡ probe_place_by other first form named code m image land lead way flow i
     place_by_same (ways.Falls to) flow i = refl
     place_by_same ways.Exits flow i = refl
     place_by_same (ways.Switches to) flow i = ap (λ (f : ℕ → ℕ). f to) (arm_same i)
     place_by_same x y i = refl
 
-    place_same : (x : Branch) → probe_place one first form code m image land lead x ≡ probe_place other first form code m image land lead x
+    place_same : (x : Branch) → probe_place one first form named code m image land lead x ≡ probe_place other first form named code m image land lead x
     place_same x = place_by_same x.way (flow_of (insn_at b.code x.at)) x.at
 
     owner_by_same : (way : Way) (flow : Flow) (i : ℕ)
-        → probe_owner_by one first form code m image land lead way flow i ≡ probe_owner_by other first form code m image land lead way flow i
+        → probe_owner_by one first form named code m image land lead way flow i ≡ probe_owner_by other first form named code m image land lead way flow i
     owner_by_same (ways.Falls to) flow i = refl
     owner_by_same ways.Exits flow i = refl
     owner_by_same (ways.Switches to) flow i = refl
@@ -84,10 +84,10 @@ module _ (b : Body) (fs gs : List FrameAt) (first : ℕ) where
     owner_by_same (ways.Jumps to) flows.Returns i = refl
     owner_by_same (ways.Jumps to) flows.Throws i = refl
 
-    owner_same : (x : Branch) → probe_owner one first form code m image land lead x ≡ probe_owner other first form code m image land lead x
+    owner_same : (x : Branch) → probe_owner one first form named code m image land lead x ≡ probe_owner other first form named code m image land lead x
     owner_same x = owner_by_same x.way (flow_of (insn_at b.code x.at)) x.at
 
-    goto_there : (way : Way) (flow : Flow) → HasGotoBehind one first form code m image land lead way flow → HasGotoBehind other first form code m image land lead way flow
+    goto_there : (way : Way) (flow : Flow) → HasGotoBehind one first form named code m image land lead way flow → HasGotoBehind other first form named code m image land lead way flow
     goto_there (ways.Falls to) flow h = h
     goto_there ways.Exits flow h = h
     goto_there (ways.Switches to) flow h = h
@@ -98,13 +98,13 @@ module _ (b : Body) (fs gs : List FrameAt) (first : ℕ) where
     goto_there (ways.Jumps to) flows.Returns h = h
     goto_there (ways.Jumps to) flows.Throws h = h
 
-    abbrev edge_there : ProbedEdge one first form code m image land lead → ProbedEdge other first form code m image land lead
+    abbrev edge_there : ProbedEdge one first form named code m image land lead → ProbedEdge other first form named code m image land lead
     edge_there e = record { branch = e.branch; listed = e.listed; id = e.id; probed = sym (probe_same e.branch) ∙ e.probed }
 
-    abbrev edge_back : ProbedEdge other first form code m image land lead → ProbedEdge one first form code m image land lead
+    abbrev edge_back : ProbedEdge other first form named code m image land lead → ProbedEdge one first form named code m image land lead
     edge_back e = record { branch = e.branch; listed = e.listed; id = e.id; probed = probe_same e.branch ∙ e.probed }
 
-    in_probe_there : (q : ℕ) → InProbe one first form code m image land lead q → InProbe other first form code m image land lead q
+    in_probe_there : (q : ℕ) → InProbe one first form named code m image land lead q → InProbe other first form named code m image land lead q
     in_probe_there q h = record {
       edge = edge_there h.edge;
       step = h.step;
@@ -112,39 +112,39 @@ module _ (b : Body) (fs gs : List FrameAt) (first : ℕ) where
       place = h.place ∙ ap (λ n. n + h.step) (place_same h.edge.branch);
     }
 
-    hop_there : (q : ℕ) → IsHop one first form code m image land lead q → IsHop other first form code m image land lead q
+    hop_there : (q : ℕ) → IsHop one first form named code m image land lead q → IsHop other first form named code m image land lead q
     hop_there q h = record {
       edge = edge_there h.edge;
       with_goto = goto_there h.edge.branch.way (flow_of (insn_at b.code h.edge.branch.at)) h.with_goto;
       place = h.place ∙ ap (λ n. n + 4) (place_same h.edge.branch);
     }
 
-    wide_there : (q : ℕ) → IsWideGoto one first form code m image land lead q → IsWideGoto other first form code m image land lead q
+    wide_there : (q : ℕ) → IsWideGoto one first form named code m image land lead q → IsWideGoto other first form named code m image land lead q
     wide_there q h = record { test = h.test; layout = h.layout; tests = h.tests; place = h.place }
 
-    added_there : (q : ℕ) → IsAdded one first form code m image land lead q → IsAdded other first form code m image land lead q
+    added_there : (q : ℕ) → IsAdded one first form named code m image land lead q → IsAdded other first form named code m image land lead q
     added_there q (inl h) = inl (in_probe_there q h)
     added_there q (inr (inl h)) = inr (inl (hop_there q h))
     added_there q (inr (inr h)) = inr (inr (wide_there q h))
 
-    test_there : (t : Bool) (i : ℕ) (insn : Insn) (on : ℕ) → HasTest one first form code m image land lead t i insn on → HasTest other first form code m image land lead t i insn on
+    test_there : (t : Bool) (i : ℕ) (insn : Insn) (on : ℕ) → HasTest one first form named code m image land lead t i insn on → HasTest other first form named code m image land lead t i insn on
     test_there false i insn on h = h
     test_there true i insn on h = h
 
-    arm_at_there : (here to : ℕ) (o : Option ℕ) → HasArm one first form code m image land lead here to o → HasArm other first form code m image land lead here to o
+    arm_at_there : (here to : ℕ) (o : Option ℕ) → HasArm one first form named code m image land lead here to o → HasArm other first form named code m image land lead here to o
     arm_at_there here to None h = h
     arm_at_there here to (Some id) h = h
 
-    arms_there : (xs : List Branch) (here : ℕ) → HasArms one first form code m image land lead here xs → HasArms other first form code m image land lead here xs
+    arms_there : (xs : List Branch) (here : ℕ) → HasArms one first form named code m image land lead here xs → HasArms other first form named code m image land lead here xs
     arms_there [] here h = h
     arms_there (x ∷ xs) here h = (
-      subst (HasArm other first form code m image land lead here (to_of x)) (probe_same x) (arm_at_there here (to_of x) (probe_of one first x) h.0),
-      subst (λ (o : Option ℕ). HasArms other first form code m image land lead (here + hop_size o) xs) (probe_same x)
+      subst (HasArm other first form named code m image land lead here (to_of x)) (probe_same x) (arm_at_there here (to_of x) (probe_of one first x) h.0),
+      subst (λ (o : Option ℕ). HasArms other first form named code m image land lead (here + hop_size o) xs) (probe_same x)
           (arms_there xs (here + hop_size (probe_of one first x)) h.1),
     )
 
-    sentences_there : (named : TwinPlaces) → Sentences one first form code m image land lead named → Sentences other first form code m image land lead named
-    sentences_there named s = record {
+    sentences_there : Sentences one first form named code m image land lead → Sentences other first form named code m image land lead
+    sentences_there s = record {
       lengths = record { at_length = s.lengths.at_length; own_length = s.lengths.own_length; extra_length = s.lengths.extra_length };
       prelude = record { first_insns = s.prelude.first_insns };
       images = record { single = s.images.single; plain = s.images.plain; returns = s.images.returns; throws = s.images.throws };
@@ -171,19 +171,19 @@ module _ (b : Body) (fs gs : List FrameAt) (first : ℕ) where
       };
     }
       where
-        by_place : (e : ProbedEdge other first form code m image land lead)
-            → IsProbe code m b.arg_slots (probe_place one first form code m image land lead e.branch) e.id (probe_owner one first form code m image land lead e.branch)
-            → IsProbe code m b.arg_slots (probe_place other first form code m image land lead e.branch) e.id (probe_owner other first form code m image land lead e.branch)
+        by_place : (e : ProbedEdge other first form named code m image land lead)
+            → IsProbe code m named.integer b.arg_slots (probe_place one first form named code m image land lead e.branch) e.id (probe_owner one first form named code m image land lead e.branch)
+            → IsProbe code m named.integer b.arg_slots (probe_place other first form named code m image land lead e.branch) e.id (probe_owner other first form named code m image land lead e.branch)
         by_place e h =
-            subst (λ (q : ℕ). IsProbe code m b.arg_slots q e.id (probe_owner other first form code m image land lead e.branch)) (place_same e.branch)
-            (subst (λ (at : ℕ). IsProbe code m b.arg_slots (probe_place one first form code m image land lead e.branch) e.id at) (owner_same e.branch) h)
+            subst (λ (q : ℕ). IsProbe code m named.integer b.arg_slots q e.id (probe_owner other first form named code m image land lead e.branch)) (place_same e.branch)
+            (subst (λ (at : ℕ). IsProbe code m named.integer b.arg_slots (probe_place one first form named code m image land lead e.branch) e.id at) (owner_same e.branch) h)
 
-        by_arm : (i : ℕ) → HasInsn code m (image i) (with_places (arm one first form code m image land lead i) (insn_at b.code i)) i true 0
-            → HasInsn code m (image i) (with_places (arm other first form code m image land lead i) (insn_at b.code i)) i true 0
+        by_arm : (i : ℕ) → HasInsn code m (image i) (with_places (arm one first form named code m image land lead i) (insn_at b.code i)) i true 0
+            → HasInsn code m (image i) (with_places (arm other first form named code m image land lead i) (insn_at b.code i)) i true 0
         by_arm i h = subst (λ (f : ℕ → ℕ). HasInsn code m (image i) (with_places f (insn_at b.code i)) i true 0) (arm_same i) h
 
-        by_cases : (q : ℕ) → (q < prelude_size) ⊎ ((slice_get m.own q ≡ Some true) ⊎ IsAdded one first form code m image land lead q)
-            → (q < prelude_size) ⊎ ((slice_get m.own q ≡ Some true) ⊎ IsAdded other first form code m image land lead q)
+        by_cases : (q : ℕ) → (q < prelude_size form.fetch) ⊎ ((slice_get m.own q ≡ Some true) ⊎ IsAdded one first form named code m image land lead q)
+            → (q < prelude_size form.fetch) ⊎ ((slice_get m.own q ≡ Some true) ⊎ IsAdded other first form named code m image land lead q)
         by_cases q (inl prelude) = inl prelude
         by_cases q (inr (inl own)) = inr (inl own)
         by_cases q (inr (inr added)) = inr (inr (added_there q added))
@@ -192,9 +192,9 @@ module _ (b : Body) (fs gs : List FrameAt) (first : ℕ) where
 
   pub code_there : (form : TwinForm) (named : TwinPlaces) (code : List Insn) (m : Marks) → IsTwinCode one first form named code m → IsTwinCode other first form named code m
   code_there form named code m s =
-      subst (λ (land : ℕ → ℕ). Sentences other first form code m (image_place m.own) land (lead_place other first m.own) named) (land_place_same m.own)
-      (subst (λ (lead : ℕ → ℕ). Sentences other first form code m (image_place m.own) (land_place one first m.own) lead named) (lead_place_same m.own)
-      (sentences_there form code m (image_place m.own) (land_place one first m.own) (lead_place one first m.own) named s))
+      subst (λ (land : ℕ → ℕ). Sentences other first form named code m (image_place m.own) land (lead_place other first m.own)) (land_place_same m.own)
+      (subst (λ (lead : ℕ → ℕ). Sentences other first form named code m (image_place m.own) (land_place one first m.own) lead) (lead_place_same m.own)
+      (sentences_there form named code m (image_place m.own) (land_place one first m.own) (lead_place one first m.own) s))
 
   pub tables_there : (own : List Bool) (handlers : List Handler) (lines : List LineAt) (vars kind_vars : List VarAt)
       → AreMovedTables one (lead_place one first own) (land_place one first own) handlers lines vars kind_vars

@@ -10,14 +10,16 @@ use Rattle.jc_methods.specs.FrameOrder.{RiseFrom}
 use Rattle.jc_methods.specs.VerificationTypes.{Names, verification_type, TypeState, type_state, TypeStateAt, type_state_at}
 use Rattle.jc_methods.specs.declared.body.Body.{Body}
 use Rattle.jc_methods.specs.declared.body.FrameAt.{FrameAt}
+use Rattle.jc_methods.specs.declared.body.What.{What}
+use Rattle.jc_methods.specs.declared.probe_members.Fetch.{Fetch}
 use Rattle.jc_methods.specs.declared.insn.Insn.{Insn}
 use Rattle.jc_methods.specs.declared.kind.State.{State}
 use Rattle.jc_kinds_after.specs.Shift.{shifted}
 use Rattle.jc_kinds.specs.Answers.{AreStates}
 use Rattle.jc_plan.specs.Probed.{probe_of, probe_count}
-use Rattle.jc_emit.specs.Marks.{image_place, land_place, lead_place}
+use Rattle.jc_emit.specs.Marks.{TwinPlaces, image_place, land_place, lead_place}
 use Rattle.jc_emit.specs.Sizes.{TwinForm, insn_at, arms_at, late_probe}
-use Rattle.jc_emit.specs.Twin.{Twin, AreFramesOf}
+use Rattle.jc_emit.specs.Twin.{NamesProbes, Twin, AreFramesOf}
 use Rattle.jc_emit.specs.TwinCode.{arm_place, to_of}
 use Rattle.jc_emit.specs.TwinFrames.{no_state, state_at, operands_of, left_by, state_behind, IsOldFrame, IsInverseFrame, IsArmFrame, IsWideFrame, IsFrame}
 use Rattle.jc_emit.specs.TwinProgram.{IsSameBody, AreSameBodies, HasTwinBody, AreTwinBodies}
@@ -216,13 +218,19 @@ module _ (names others new_names new_others : Names) (b : Body) (gs : List Frame
         (g.0, g.1, g.2 ∙ f.2, g.3 ∙ f.3 ∙ ap (shifted (image_place own) b.arg_slots) a.2);
   }
 
-  twin_there : (owner : List ℕ) → Twin names new_names states owner first b y → Twin others new_others more owner first (record b { frames = gs }) (record y { frames = hs })
-  twin_there owner t = record {
+  -- the body has as many probes, so the same Integers are asked for
+  probes_there : {fetch : Fetch} {giver : What} {p : TwinPlaces} → NamesProbes fetch giver first (probe_count b) y.uses p
+      → NamesProbes fetch giver first (probe_count (record b { frames = gs })) y.uses p
+  probes_there {fetch} {giver} {p} h = subst (λ n. NamesProbes fetch giver first n y.uses p) (same_count b ∙ sym (same_count (record b { frames = gs }))) h
+
+  twin_there : (fetch : Fetch) (giver : What) → Twin names new_names states fetch giver first b y
+      → Twin others new_others more fetch giver first (record b { frames = gs }) (record y { frames = hs })
+  twin_there fetch giver t = record {
     marks = t.marks;
     form = t.form;
-    uniform = t.uniform;
+    fetch_is = t.fetch_is;
     places = t.places;
-    calls = t.calls;
+    names_probes = probes_there t.names_probes;
     method = record {
       method = t.method.method;
       owner = t.method.owner;
@@ -244,15 +252,16 @@ module _ (names others new_names new_others : Names) where
   abbrev HasStates : Body → Type 0
   HasStates d = (more : List State) × AreStates others d more
 
-  twin_body_there : (owner : List ℕ) (first : ℕ) (b d y z : Body) → IsSameBody names others b d → IsSameBody new_names new_others y z → HasStates d
-      → HasTwinBody names new_names owner first b y → HasTwinBody others new_others owner first d z
-  twin_body_there owner first b d y z same same_new states twin =
+  twin_body_there : (fetch : Fetch) (giver : What) (first : ℕ) (b d y z : Body) → IsSameBody names others b d → IsSameBody new_names new_others y z
+      → HasStates d → HasTwinBody names new_names fetch giver first b y → HasTwinBody others new_others fetch giver first d z
+  twin_body_there fetch giver first b d y z same same_new states twin =
       let more = subst HasStates same.others states in
-      subst (λ (x : Body). HasTwinBody others new_others owner first x z) (sym same.others)
-      (subst (HasTwinBody others new_others owner first (record b { frames = d.frames })) (sym same_new.others) (record {
+      subst (λ (x : Body). HasTwinBody others new_others fetch giver first x z) (sym same.others)
+      (subst (HasTwinBody others new_others fetch giver first (record b { frames = d.frames })) (sym same_new.others) (record {
         states = more.0;
         are = more.1;
-        twin = twin_there names others new_names new_others b d.frames same.frames twin.states more.0 twin.are more.1 first y z.frames same_new.frames owner twin.twin;
+        twin = twin_there names others new_names new_others b d.frames same.frames twin.states more.0 twin.are more.1 first y z.frames same_new.frames
+            fetch giver twin.twin;
       }))
 
   -- a body has as many probes, whatever its frames are
@@ -260,31 +269,31 @@ module _ (names others new_names new_others : Names) where
   count_same b d same = ap probe_count same.others ∙ same_count (record b { frames = d.frames }) ∙ sym (same_count b)
 
   -- the twins of bodies, in order, and the body behind them
-  pub record AreMovedTwins (owner : List ℕ) (first : ℕ) (ds zs : List Body) (added : Body) : Type 0 where
+  pub record AreMovedTwins (fetch : Fetch) (giver : What) (first : ℕ) (ds zs : List Body) (added : Body) : Type 0 where
     pub last : Body
-    pub twins : AreTwinBodies others new_others owner first ds zs last
+    pub twins : AreTwinBodies others new_others fetch giver first ds zs last
     pub same : IsSameBody new_names new_others added last
 
-  moved_last : (owner : List ℕ) (first : ℕ) (zs : List Body) (added : Body) → AreSameBodies new_names new_others (added ∷ []) zs
-      → AreMovedTwins owner first [] zs added
-  moved_last owner first [] added same = absurd same
-  moved_last owner first (z ∷ []) added same = record { last = z; twins = refl; same = same.0 }
-  moved_last owner first (z ∷ y ∷ zs) added same = absurd same.1
+  moved_last : (fetch : Fetch) (giver : What) (first : ℕ) (zs : List Body) (added : Body) → AreSameBodies new_names new_others (added ∷ []) zs
+      → AreMovedTwins fetch giver first [] zs added
+  moved_last fetch giver first [] added same = absurd same
+  moved_last fetch giver first (z ∷ []) added same = record { last = z; twins = refl; same = same.0 }
+  moved_last fetch giver first (z ∷ y ∷ zs) added same = absurd same.1
 
-  pub moved_twins : (owner : List ℕ) (first : ℕ) (bs ds ys zs : List Body) (added : Body) → AreSameBodies names others bs ds → AreSameBodies new_names new_others ys zs
-      → ((i : ℕ) (d : Body) → slice_get ds i ≡ Some d → HasStates d) → AreTwinBodies names new_names owner first bs ys added → AreMovedTwins owner first ds zs added
-  moved_twins owner first [] [] ys zs added same same_new states twins = moved_last owner first zs added (subst (λ (l : List Body). AreSameBodies new_names new_others l zs) twins same_new)
-  moved_twins owner first [] (d ∷ ds) ys zs added same same_new states twins = absurd same
-  moved_twins owner first (b ∷ bs) [] ys zs added same same_new states twins = absurd same
-  moved_twins owner first (b ∷ bs) (d ∷ ds) [] zs added same same_new states twins = absurd twins
-  moved_twins owner first (b ∷ bs) (d ∷ ds) (y ∷ ys) [] added same same_new states twins = absurd same_new
-  moved_twins owner first (b ∷ bs) (d ∷ ds) (y ∷ ys) (z ∷ zs) added same same_new states twins =
+  pub moved_twins : (fetch : Fetch) (giver : What) (first : ℕ) (bs ds ys zs : List Body) (added : Body) → AreSameBodies names others bs ds → AreSameBodies new_names new_others ys zs
+      → ((i : ℕ) (d : Body) → slice_get ds i ≡ Some d → HasStates d) → AreTwinBodies names new_names fetch giver first bs ys added → AreMovedTwins fetch giver first ds zs added
+  moved_twins fetch giver first [] [] ys zs added same same_new states twins = moved_last fetch giver first zs added (subst (λ (l : List Body). AreSameBodies new_names new_others l zs) twins same_new)
+  moved_twins fetch giver first [] (d ∷ ds) ys zs added same same_new states twins = absurd same
+  moved_twins fetch giver first (b ∷ bs) [] ys zs added same same_new states twins = absurd same
+  moved_twins fetch giver first (b ∷ bs) (d ∷ ds) [] zs added same same_new states twins = absurd twins
+  moved_twins fetch giver first (b ∷ bs) (d ∷ ds) (y ∷ ys) [] added same same_new states twins = absurd same_new
+  moved_twins fetch giver first (b ∷ bs) (d ∷ ds) (y ∷ ys) (z ∷ zs) added same same_new states twins =
       let count : first + probe_count b ≡ first + probe_count d = ap (λ n. first + n) (sym (count_same b d same.0)) in
-      let rest = moved_twins owner (first + probe_count d) bs ds ys zs added same.1 same_new.1 (λ i x at. states (suc i) x at)
-      (subst (λ (n : ℕ). AreTwinBodies names new_names owner n bs ys added) count twins.1) in
+      let rest = moved_twins fetch giver (first + probe_count d) bs ds ys zs added same.1 same_new.1 (λ i x at. states (suc i) x at)
+      (subst (λ (n : ℕ). AreTwinBodies names new_names fetch giver n bs ys added) count twins.1) in
       record {
         last = rest.last;
-        twins = (twin_body_there owner first b d y z same.0 same_new.0 (states 0 d refl) twins.0, rest.twins);
+        twins = (twin_body_there fetch giver first b d y z same.0 same_new.0 (states 0 d refl) twins.0, rest.twins);
         same = rest.same;
       }
 

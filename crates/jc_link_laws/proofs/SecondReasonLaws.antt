@@ -22,9 +22,12 @@ use Rattle.jc_body.specs.BodyOf.{Bodiless, BodyOf, BodyOfAnySize, IsBodyOfAnySiz
 use Rattle.jc_body.specs.Faults.{HasSubroutine, OfCode, TooWide, faults, faults_of_any_size}
 use Rattle.jc_body.specs.First.{AreNowhere, Fault, IsFirstFault}
 use Rattle.jc_body.proofs.AnswerLaws.{bodiless_or_body, bodiless_or_fault}
+use Rattle.jc_methods.specs.declared.probe_members.Fetch.{Fetch}
+use Rattle.jc_methods.specs.declared.probe_members.Fetch.TheVariants as fetches
 use Rattle.jc_kinds.specs.Checked.{Checked}
 use Rattle.jc_kinds.proofs.CheckLaws.{checked_not_missing, checked_not_clash}
 use Rattle.jc_plan.specs.Probed.{probe_count}
+use Rattle.jc_emit.specs.Added.{giver_of}
 use Rattle.jc_emit.specs.Straddling.{NoneStraddles}
 use Rattle.jc_emit.specs.TwinProgram.{AreTwinBodies}
 use Rattle.jc_emit.proofs.InitLaws as inits
@@ -74,21 +77,22 @@ record IsSource (names : Names) (b : Body) : Type 0 where
   free : NoneStraddles b
 
 module _ (names new_names : Names) (added : Body) (last : Checked new_names added) where
-  each_passes : (owner : List ℕ) (first : ℕ) (bs ys : List Body) → AreTwinBodies names new_names owner first bs ys added
+  each_passes : (fetch : Fetch) (owner : List ℕ) (bootstrap first : ℕ) (bs ys : List Body)
+      → AreTwinBodies names new_names fetch (giver_of fetch owner bootstrap) first bs ys added
       → ((i : ℕ) (b : Body) → slice_get bs i ≡ Some b → IsSource names b)
       → (i : ℕ) (y : Body) → slice_get ys i ≡ Some y → Checked new_names y
-  each_passes owner first [] ys twins sources i y at = by i (sym (ap (λ (l : List Body). slice_get l i) twins) ∙ at)
+  each_passes fetch owner bootstrap first [] ys twins sources i y at = by i (sym (ap (λ (l : List Body). slice_get l i) twins) ∙ at)
     where
       by : (i : ℕ) → slice_get (added ∷ []) i ≡ Some y → Checked new_names y
       by zero there = subst (Checked new_names) (same_Some added y there) last
       by (suc i) there = absurd (none-some y there)
-  each_passes owner first (b ∷ bs) [] twins sources i y at = absurd twins
-  each_passes owner first (b ∷ bs) (z ∷ ys) twins sources zero y at =
+  each_passes fetch owner bootstrap first (b ∷ bs) [] twins sources i y at = absurd twins
+  each_passes fetch owner bootstrap first (b ∷ bs) (z ∷ ys) twins sources zero y at =
       let s = sources 0 b refl in
       let t = twins.0 in
-      subst (Checked new_names) (same_Some z y at) (checks.verified names new_names t.states owner first b z s.well_made s.checked t.are s.free t.twin)
-  each_passes owner first (b ∷ bs) (z ∷ ys) twins sources (suc i) y at =
-      each_passes owner (first + probe_count b) bs ys twins.1 (λ j x there. sources (suc j) x there) i y at
+      subst (Checked new_names) (same_Some z y at) (checks.verified names new_names t.states fetch owner bootstrap first b z s.well_made s.checked t.are s.free t.twin)
+  each_passes fetch owner bootstrap first (b ∷ bs) (z ∷ ys) twins sources (suc i) y at =
+      each_passes fetch owner bootstrap (first + probe_count b) bs ys twins.1 (λ j x there. sources (suc j) x there) i y at
 
 -- ---- the reason
 
@@ -129,7 +133,7 @@ module _ (original text : List ℕ) (short : IsShortFile original) (w : IsWritte
 
   twin_passes : (i : ℕ) (y : Body) → slice_get (h.twins ++ h.added ∷ []) i ≡ Some y → Checked h.new_names y
   twin_passes =
-      each_passes h.names h.new_names h.added (inits.verified h.new_names _ _ _ h.added h.added_is) (name_of c) 0 h.bodies (h.twins ++ h.added ∷ []) h.each source
+      each_passes h.names h.new_names h.added (inits.verified fetches.Member h.new_names _ _ _ h.added h.added_is) fetches.Member (name_of c) 0 0 h.bodies (h.twins ++ h.added ∷ []) h.each source
 
   -- ---- each method
 

@@ -1,20 +1,22 @@
 -- What code names where the method that gives the probe array names it.
-use Rattle.std.proofs.Common.{◌≡◌, ℕ, ℤ, ◌+◌, ◌-◌, ◌≤◌, ◌<◌, ◌^◌, Bool, true, false, cond, ◌&&◌, nat_le, pos, List, Some, None, refl, sym, ap, ◌∙◌, subst, arith}
+use Rattle.std.proofs.Common.{◌≡◌, ℕ, ℤ, ◌+◌, ◌-◌, ◌≤◌, ◌<◌, ◌^◌, Bool, true, false, cond, ◌&&◌, nat_le, pos, List, [], ◌∷◌, Some, None, refl, sym, ap, ◌∙◌, subst, arith}
 use Rattle.std.proofs.lemmas.Bool.{leb-true, le-leb}
+use Rattle.std.specs.Prelude.{slice_index_or}
 use Rattle.std.specs.Bool.{Decides}
 use Rattle.std.specs.Cmp.Lexicographic.{pointwise, pointwise_decides}
 use Rattle.std.specs.Int.{w64, cast_signed, cast_unsigned}
 use Rattle.std.proofs.lemmas.Int.{of_z-to_z}
 use Rattle.std.proofs.lemmas.Option.{same_Some}
 use Rattle.jc_bytes.proofs.OptionLaws.{none_some}
-use Rattle.jc_methods.specs.ProbeMembers.{most_probes}
+use Rattle.jc_methods.specs.ProbeMembers.{most_probes, most_short}
+use Rattle.jc_methods.specs.Opcode as opcode
 use Rattle.jc_methods.specs.declared.insn.Insn.{Insn}
 use Rattle.jc_methods.specs.declared.insn.Insn.TheVariants as insns
 use Rattle.jc_methods.specs.WellMade.{what_used}
 use Rattle.jc_methods.specs.declared.body.Body.{Body}
 use Rattle.jc_methods.specs.declared.body.What.TheVariants as whats
 use Rattle.jc_programs.specs.declared.program.ProbeInit.{ProbeInit}
-use Rattle.jc_emit.specs.Added.{InitPlaces, init_code}
+use Rattle.jc_emit.specs.Added.{InitPlaces, push_count, init_code, end_place}
 use Rattle.jc_emit.specs.Marks.{push}
 use Rattle.jc_link_programs.specs.declared.probe_inits.Asked.{Asked}
 use Rattle.jc_link_programs.specs.ProbeInits.{places_of, pushed, asked_by, asked_in, NamesMembers, CodeAsks}
@@ -38,19 +40,47 @@ pushed_again n = by (nat_le n 5) (nat_le n 127) refl
 asked_of : InitPlaces → ℕ → Asked
 asked_of p count = record { field = p.field; id = p.id; name = p.name; count = count; fetch = p.fetch }
 
-asked_again : (p : InitPlaces) (count : ℕ) → asked_in (init_code p count) ≡ Some (asked_of p count)
+-- such a number is pushed without a place
+pushed_short : (p : InitPlaces) (count : ℕ) → count ≤ most_probes → push_count p count ≡ push count
+pushed_short p count few = ap (λ t. cond t (push count) (insns.Constant p.count)) (le-leb count most_short few)
+
+asked_again : (p : InitPlaces) (count : ℕ) → count ≤ most_probes → asked_in (init_code p count) ≡ Some (asked_of p count)
 unfolding asked_of
-asked_again p count = ap (λ o. asked_by (Some p.field) (Some p.id) (Some p.name) o (Some p.fetch)) (pushed_again count)
+asked_again p count few =
+    ap (λ o. asked_by (Some p.field) (Some p.id) (Some p.name) o (Some p.fetch)) (ap pushed (pushed_short p count few) ∙ pushed_again count)
+
+-- the places that stay in the code
+code_again : (p : InitPlaces) (count : ℕ) → count ≤ most_probes → init_code p count ≡ init_code (places_of (asked_of p count)) count
+unfolding asked_of
+code_again p count few =
+    ap (with_push p) (pushed_short p count few) ∙ sym (ap (with_push p) (pushed_short (places_of (asked_of p count)) count few))
+  where
+    with_push : InitPlaces → Insn → List Insn
+    with_push p insn =
+        insns.Member opcode.getstatic p.field
+        ∷ insns.Simple opcode.dup
+        ∷ insns.Jump opcode.ifnonnull end_place
+        ∷ insns.Simple opcode.pop
+        ∷ insns.Constant2 p.id
+        ∷ insns.Constant p.name
+        ∷ insn
+        ∷ insns.Member opcode.invokestatic p.fetch
+        ∷ insns.Simple opcode.dup
+        ∷ insns.Member opcode.putstatic p.field
+        ∷ insns.Simple opcode.areturn
+        ∷ []
 
 -- two codes that are one name the class at one place
 pub same_name_place : (p q : InitPlaces) (m n : ℕ) → init_code p m ≡ init_code q n → p.name ≡ q.name
-unfolding asked_of
-same_name_place p q m n same =
-    ap (λ (a : Asked). a.name) (same_Some (asked_of p m) (asked_of q n) (sym (asked_again p m) ∙ ap asked_in same ∙ asked_again q n))
+same_name_place p q m n same = ap (λ code. name_by (slice_index_or code 5 (insns.Simple 0))) same
+  where
+    name_by : Insn → ℕ
+    name_by (insns.Constant place) = place
+    name_by _ = 0
 
 -- the code asks only for what stands there
 asked_there : (class : List ℕ) (b : Body) (init : ProbeInit) (text : ℕ) (c : CodeAsks class b init text) → asked_in b.code ≡ Some (asked_of c.places init.count)
-asked_there class b init text c = ap asked_in c.code ∙ asked_again c.places init.count
+asked_there class b init text c = ap asked_in c.code ∙ asked_again c.places init.count c.count_fits
 
 pub none_asked : (class : List ℕ) (b : Body) → asked_in b.code ≡ None → (init : ProbeInit) (text : ℕ) → CodeAsks class b init text → ⊥
 none_asked class b none init text c = none_some (sym none ∙ asked_there class b init text c)
@@ -71,7 +101,7 @@ asks_meant class b a there init text c =
     subst (λ x. Meant class b x init text) (sym e) (record {
       count = refl;
       few = c.count_fits;
-      code = c.code;
+      code = c.code ∙ code_again c.places init.count c.count_fits;
       members = record { field_is = c.field_is; fetch_is = c.fetch_is };
       id = c.id_is;
       name = c.text_is;

@@ -18,9 +18,9 @@ use Rattle.jc_link_programs.specs.declared.probe_inits.Asked.{Asked}
 
 -- ---- what code asks for
 
--- what the code names in the pool, and the number that it pushes
+-- What the code names in the pool. The number of probes is pushed without a place there.
 abbrev pub places_of : Asked → InitPlaces
-places_of a = record { field = a.field; id = a.id; name = a.name; fetch = a.fetch }
+places_of a = record { field = a.field; id = a.id; name = a.name; count = 0; fetch = a.fetch }
 
 -- The code is that of the method that instrumentation adds: it gives the array in `$jacocoData`, or fetches it by the
 -- class's id, its name, which is the String at a place of the pool, and the number of its probes.
