@@ -1,5 +1,5 @@
 -- Twins that were worked by hand from the JVM Specification, chapter 6, and JaCoCo's documentation on control flow.
-use Rattle.std.specs.Prelude.{ℕ, ℤ, Bool, true, false, pos, negsuc, List, [], ◌∷◌}
+use Rattle.std.specs.Prelude.{ℕ, ℤ, Bool, true, false, pos, negsuc, List, [], ◌∷◌, map, nat_eq}
 use Rattle.jc_methods.specs.Opcode as opcode
 use Rattle.jc_methods.specs.declared.insn.Arm.{Arm}
 use Rattle.jc_methods.specs.declared.insn.Insn.{Insn}
@@ -12,6 +12,12 @@ use Rattle.jc_methods.specs.declared.body.Handler.{Handler}
 use Rattle.jc_methods.specs.declared.body.LineAt.{LineAt}
 use Rattle.jc_methods.specs.declared.body.VarAt.{VarAt}
 use Rattle.jc_methods.specs.declared.body.Body.{Body}
+use Rattle.jc_methods.specs.declared.probe_members.Fetch.TheVariants as fetches
+use Rattle.jc_methods.specs.Widened.{WideSet, all_wide}
+use Rattle.jc_emit.specs.Marks.{unplaced}
+use Rattle.jc_emit.specs.Sizes.{TwinForm}
+use Rattle.jc_emit.specs.Items.{insn_of, twin_items}
+use Rattle.jc_emit.specs.Emission.{Emitting}
 
 -- ---- instructions
 
@@ -83,6 +89,36 @@ arm key to = record { key = key; to = to }
 
 abbrev pub lookup : ℕ → List Arm → Insn
 lookup default arms = insns.Lookup default arms
+
+abbrev pub ldc : ℕ → Insn
+ldc place = insns.Constant place
+
+abbrev pub checkcast : ℕ → Insn
+checkcast place = insns.OfClass opcode.checkcast place
+
+abbrev pub sipush : ℕ → Insn
+sipush number = insns.Push opcode.sipush (pos number)
+
+-- ---- how the array is got
+
+-- where the class of the array has this number
+abbrev pub by_member : ℕ → Emitting
+by_member array = record { fetch = fetches.Member; array = array; integer = λ id. 0 }
+
+abbrev pub by_constant : ℕ → Emitting
+by_constant array = record { fetch = fetches.Constant; array = array; integer = λ id. 0 }
+
+-- the Integers of ids stand at the place 9
+abbrev pub by_integers : Emitting
+by_integers = record { fetch = fetches.Member; array = 0; integer = λ id. 9 }
+
+-- the code of the twin of a body whose first id is 0, in this form
+abbrev pub code_in_form : Body → TwinForm → List Insn
+code_in_form b form = map (insn_of (unplaced (λ id. 0)) b.arg_slots) (twin_items b 0 form)
+
+-- all conditional jumps are wide
+abbrev pub widest : TwinForm
+widest = record { fetch = fetches.Member; wide = all_wide }
 
 -- ---- tables and states
 
@@ -163,6 +199,37 @@ abs_new_frames = frame_at 11 (state int_and_array []) ∷ []
 
 abbrev pub abs_wide_frames : List FrameAt
 abs_wide_frames = frame_at 4 (state int_and_array []) ∷ []
+
+-- ---- the same method, which gets its array by a constant: three instructions stand in front
+
+abbrev pub abs_by_constant_code : List Insn
+abs_by_constant_code =
+    ldc 0 ∷ checkcast 0 ∷ astore 1 ∷ iload 0 ∷ ifge 12 ∷ iload 0 ∷ ineg ∷ aload 1 ∷ iconst_0 ∷ iconst_1 ∷ bastore ∷ ireturn
+    ∷ iload 0 ∷ aload 1 ∷ iconst_1 ∷ iconst_1 ∷ bastore ∷ ireturn ∷ []
+
+abbrev pub abs_by_constant_at : List ℕ
+abs_by_constant_at = 0 ∷ 0 ∷ 0 ∷ 0 ∷ 1 ∷ 2 ∷ 3 ∷ 4 ∷ 4 ∷ 4 ∷ 4 ∷ 4 ∷ 5 ∷ 6 ∷ 6 ∷ 6 ∷ 6 ∷ 6 ∷ []
+
+abbrev pub abs_by_constant_own : List Bool
+abs_by_constant_own =
+    false ∷ false ∷ false ∷ true ∷ true ∷ true ∷ true ∷ false ∷ false ∷ false ∷ false ∷ true ∷ true ∷ false ∷ false ∷ false
+    ∷ false ∷ true ∷ []
+
+abbrev pub abs_by_constant_extra : List ℕ
+abs_by_constant_extra = 0 ∷ 1 ∷ 1 ∷ 0 ∷ 0 ∷ 0 ∷ 0 ∷ 0 ∷ 1 ∷ 2 ∷ 3 ∷ 0 ∷ 0 ∷ 0 ∷ 1 ∷ 2 ∷ 3 ∷ 0 ∷ []
+
+abbrev pub abs_by_constant_frames : List FrameAt
+abs_by_constant_frames = frame_at 12 (state int_and_array []) ∷ []
+
+abbrev pub abs_by_constant_wide_frames : List FrameAt
+abs_by_constant_wide_frames = frame_at 5 (state int_and_array []) ∷ []
+
+-- ---- the same method with the probes 32767 and 32768
+
+abbrev pub abs_late_code : List Insn
+abs_late_code =
+    invokestatic 0 ∷ astore 1 ∷ iload 0 ∷ ifge 11 ∷ iload 0 ∷ ineg ∷ aload 1 ∷ sipush 32767 ∷ iconst_1 ∷ bastore ∷ ireturn
+    ∷ iload 0 ∷ aload 1 ∷ ldc 9 ∷ iconst_1 ∷ bastore ∷ ireturn ∷ []
 
 -- ---- a loop that counts down: probe 0 on its goto, probe 1 on its return
 
@@ -329,6 +396,23 @@ abbrev pub wide_own : List Bool
 wide_own =
     false ∷ false ∷ true ∷ true ∷ false ∷ false ∷ false ∷ false ∷ false ∷ false ∷ false ∷ false ∷ false ∷ false ∷ false
     ∷ false ∷ false ∷ false ∷ true ∷ []
+
+-- ---- two conditional jumps, of which the second is wide: probes 0, 1 and 2 on the returns
+
+abbrev pub jumps_twice_code : List Insn
+jumps_twice_code = iload 0 ∷ ifeq 5 ∷ iload 0 ∷ iflt 6 ∷ return ∷ return ∷ return ∷ []
+
+abbrev pub jumps_twice : Body
+jumps_twice = body jumps_twice_code [] (frame_at 5 (state int []) ∷ frame_at 6 (state int []) ∷ []) 1
+
+-- its image is the sixth instruction
+abbrev pub second_wide : WideSet
+second_wide place = nat_eq place 5
+
+abbrev pub second_wide_code : List Insn
+second_wide_code =
+    invokestatic 0 ∷ astore 1 ∷ iload 0 ∷ ifeq 12 ∷ iload 0 ∷ ifge 7 ∷ goto 17 ∷ aload 1 ∷ iconst_0 ∷ iconst_1 ∷ bastore
+    ∷ return ∷ aload 1 ∷ iconst_1 ∷ iconst_1 ∷ bastore ∷ return ∷ aload 1 ∷ iconst_2 ∷ iconst_1 ∷ bastore ∷ return ∷ []
 
 -- ---- the loop with lines and variables; its new code has 15 instructions
 

@@ -17,6 +17,7 @@ pub use reports::{
 };
 pub use slow_union::{text, union};
 pub use twins::{
-    worked_abs, worked_catches, worked_counts_down, worked_jumps_to_next, worked_shift,
-    worked_switches, worked_tables, worked_wide,
+    worked_abs, worked_abs_by_constant, worked_catches, worked_counts_down, worked_ids,
+    worked_jumps_to_next, worked_second_wide, worked_shift, worked_switches, worked_tables,
+    worked_wide,
 };
