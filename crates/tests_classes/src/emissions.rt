@@ -1,84 +1,117 @@
 //! Instrumented code of bodies, and its layouts.
 ghost use Rattle.std.specs.Prelude.{◌≡◌, ◌≤◌, true, length, IfOk};
 ghost use Rattle.jc_methods.specs.FrameOrder.{RiseFrom};
-ghost use Rattle.jc_methods.specs.ProbeMembers.{most_probes};
+ghost use Rattle.jc_methods.specs.ProbeMembers.{most_ids};
 ghost use Rattle.jc_methods.specs.VerificationTypes.{AreNumberedFrames};
 ghost use Rattle.jc_methods.specs.WellMade.{IsWellMade};
 ghost use Rattle.jc_instrument_code.specs.Given.{AreFrames, IsLaid};
 ghost use Rattle.jc_instrument_code.specs.TwinCode.{chosen_frames};
 ghost use Rattle.jc_layout.specs.Layable.{IsLayable};
 ghost use Rattle.jc_layout.specs.Merged.{merged};
-ghost use Rattle.jc_plan.specs.Plan.{plan_of};
 ghost use Rattle.tests_classes.specs.Instrumented.{IsInstrumented, FitsInLayout};
 
 use crate::codes::{LaidCode, coded};
 use crate::shown::{put_emitted, put_layout};
-use jc_bytes::{Fail, List, Memory, Names, Refusal, RefusalKind};
+use crate::ways::{Asked, planned};
+use jc_bytes::{Fail, List, Memory, Names, Refusal};
 use jc_emit::emit;
 use jc_instrument_code::{each_layout_can_be_written, frames_of, merged_frames};
 use jc_kinds::states;
 use jc_layout::{Laid, layout};
-use jc_methods::{Body, Emitted, FrameAt, MOST_PROBES, Plan};
-use jc_plan::plan;
+use jc_methods::{Body, Emitted, Fetch, FrameAt};
 use jc_pool::Pool;
 use std::alloc::Global;
 use tests_lines::Answer;
 
-/// The plan of a body, with ids of probes from 0 on.
-fn planned(alloc: Global, body: &Body) -> Result<Plan, Fail<Refusal>>
-    requires { IsWellMade body.now }
-    ensures plan { IfOk result (λ p. p ≡ plan_of body.now 0) }
-    ensures few { IfOk result (λ p. p.next ≤ most_probes) }
-{
-    let plan = plan(alloc, body, 0)?;
-    if plan.next > MOST_PROBES {
-        return Err(Fail::Said(Refusal {
-            kind: RefusalKind::TooManyProbes,
-            method: None,
-            place: plan.next,
-        }));
-    }
-    Ok(plan)
-}
-
-/// The instrumented code of a body, with ids of probes from 0 on.
-fn emission(alloc: Global, body: &Body, names: &mut Names) -> Result<Emitted, Fail<Refusal>>
+/// The instrumented code of a body, with ids of probes from `first` on.
+fn emission(
+    alloc: Global,
+    body: &Body,
+    names: &mut Names,
+    fetch: Fetch,
+    first: u32,
+    constants: &[u16],
+) -> Result<Emitted, Fail<Refusal>>
     requires body { IsWellMade body.now }
     requires frames { AreNumberedFrames (length names.old) body.now.frames }
-    ensures instrumented { IfOk result (IsInstrumented names.new body.now) }
+    requires first { first ≤ most_ids }
+    ensures instrumented { IfOk result (IsInstrumented names.new body.now fetch first constants.now) }
     ensures locals { IfOk result (λ e. e.max_locals ≤ 65535) }
     ensures stack { IfOk result (λ e. e.max_stack ≤ 65535) }
 {
     let states = states(alloc, body, names)?;
-    let plan = planned(alloc, body)?;
-    let emitted = emit(alloc, body, &plan, &states, names)?;
+    let plan = planned(alloc, body, first, constants)?;
+    let emitted = emit(alloc, body, &plan, &states, fetch, constants, names)?;
     Ok(emitted)
 }
 
 /// Puts all of the instrumented code but the instructions, whose bytes the layout tells.
-pub fn emitted(alloc: Global, body: &Body, names: &mut Names, out: &mut Answer) -> Option<()>
+pub fn emitted(
+    alloc: Global,
+    body: &Body,
+    names: &mut Names,
+    asked: &Asked,
+    out: &mut Answer,
+) -> Option<()>
     requires body { IsWellMade body.now }
     requires frames { AreNumberedFrames (length names.old) body.now.frames }
+    requires first { asked.now.first ≤ most_ids }
 {
-    let emitted = out.accepted(emission(alloc, body, names))?;
+    let emission = emission(
+        alloc,
+        body,
+        names,
+        asked.fetch,
+        asked.first,
+        &asked.constants,
+    );
+    let emitted = out.accepted(emission)?;
     put_emitted(&emitted, names, out);
     Some(())
 }
 
-/// Puts the layout of the instrumented code, or the Code attribute in which the method at a place of the pool is called.
-#[tactic(auto, using(crate::proofs::InstrumentedLaws::layable, crate::proofs::InstrumentedLaws::frames_rise, crate::proofs::InstrumentedLaws::wide_frames_rise, crate::proofs::InstrumentedLaws::fits_in_layout))]
+/// Puts the layout of the instrumented code.
+#[tactic(auto, using(crate::proofs::InstrumentedLaws::layable, crate::proofs::InstrumentedLaws::frames_rise, crate::proofs::InstrumentedLaws::wide_frames_rise))]
 pub fn laid(
     alloc: Global,
     body: &Body,
     names: &mut Names,
+    asked: &Asked,
+    out: &mut Answer,
+) -> Option<()>
+    requires body { IsWellMade body.now }
+    requires frames { AreNumberedFrames (length names.old) body.now.frames }
+    requires first { asked.now.first ≤ most_ids }
+{
+    let emission = emission(
+        alloc,
+        body,
+        names,
+        asked.fetch,
+        asked.first,
+        &asked.constants,
+    );
+    let emitted = out.accepted(emission)?;
+    let laid = out.accepted(laid_out(alloc, &emitted))?;
+    let merged = out.got(merged(alloc, &emitted, laid.wide))?;
+    put_layout(&laid, frames_of(&emitted, &merged, laid.wide), out)
+}
+
+/// Puts the Code attribute in which the method at this place of the pool is called for the array of probes.
+#[tactic(auto, using(crate::proofs::InstrumentedLaws::layable, crate::proofs::InstrumentedLaws::frames_rise, crate::proofs::InstrumentedLaws::wide_frames_rise, crate::proofs::InstrumentedLaws::fits_in_layout))]
+pub fn attribute(
+    alloc: Global,
+    body: &Body,
+    names: &mut Names,
     pool: &mut Pool,
-    method: Option<u16>,
+    method: u16,
     out: &mut Answer,
 ) -> Option<()>
     requires body { IsWellMade body.now }
     requires frames { AreNumberedFrames (length names.old) body.now.frames }
 {
-    let emitted = out.accepted(emission(alloc, body, names))?;
+    let emission = emission(alloc, body, names, Fetch::Member, 0, &[]);
+    let emitted = out.accepted(emission)?;
     in_layout(alloc, &emitted, names, pool, method, out)
 }
 
@@ -92,13 +125,13 @@ fn laid_out(alloc: Global, emitted: &Emitted) -> Result<Laid, Fail<Refusal>>
     Ok(laid)
 }
 
-/// Puts the layout of instrumented code, or its Code attribute.
+/// Puts the Code attribute of instrumented code.
 fn in_layout(
     alloc: Global,
     emitted: &Emitted,
     names: &Names,
     pool: &mut Pool,
-    method: Option<u16>,
+    method: u16,
     out: &mut Answer,
 ) -> Option<()>
     requires layable { IsLayable emitted.now.code }
@@ -128,12 +161,12 @@ fn merged(alloc: Global, emitted: &Emitted, wide: bool) -> Result<List<FrameAt>,
     }
 }
 
-/// Puts a layout of instrumented code with its frames, or its Code attribute.
+/// Puts the Code attribute of instrumented code in this layout.
 fn with_frames(
     alloc: Global,
     code: LaidCode<'_>,
     pool: &mut Pool,
-    method: Option<u16>,
+    method: u16,
     out: &mut Answer,
 ) -> Option<()>
     requires laid { IsLaid code.emitted.now code.laid.now }
@@ -144,8 +177,5 @@ fn with_frames(
     let LaidCode { emitted, laid, .. } = code;
     let merged = out.got(merged(alloc, emitted, laid.wide))?;
     let frames = frames_of(emitted, &merged, laid.wide);
-    match method {
-        None => put_layout(emitted, laid, frames, out),
-        Some(method) => coded(alloc, code, frames, method, pool, out),
-    }
+    coded(alloc, code, frames, method, pool, out)
 }

@@ -13,6 +13,7 @@ mod methods;
 mod reports;
 mod shown;
 mod texts;
+mod ways;
 
 use kept::Kept;
 use std::io;

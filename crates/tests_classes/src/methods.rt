@@ -5,8 +5,9 @@ ghost use Rattle.jc_bytes.specs.Reader.{most_read};
 ghost use Rattle.jc_methods.specs.WellMade.{IsWellMade};
 ghost use Rattle.jc_class.specs.Writable.{IsClassFile};
 
-use crate::emissions::{emitted, laid};
+use crate::emissions::{attribute, emitted, laid};
 use crate::texts::text;
+use crate::ways::{asked_for, parts};
 use jc_body::read_body;
 use jc_bytes::Names;
 use jc_class::ClassFile;
@@ -29,7 +30,7 @@ struct Call<'a> {
 pub fn is_command(word: &str) -> bool {
     matches!(
         word,
-        "first" | "states" | "straddles" | "emit" | "layout" | "code"
+        "first" | "states" | "straddles" | "emit" | "layout" | "parts" | "code"
     )
 }
 
@@ -102,11 +103,18 @@ fn in_body(
     match (call.command, call.rest) {
         ("states", []) => state_count(alloc, body, names, out),
         ("straddles", []) => straddling(body, out),
-        ("emit", []) => emitted(alloc, body, names, out),
-        ("layout", []) => laid(alloc, body, names, pool, None, out),
+        ("emit", way) => {
+            let asked = asked_for(alloc, way, out)?;
+            emitted(alloc, body, names, &asked, out)
+        }
+        ("layout", way) => {
+            let asked = asked_for(alloc, way, out)?;
+            laid(alloc, body, names, &asked, out)
+        }
+        ("parts", [wide, way @ ..]) => parts(alloc, body, names, wide, way, out),
         ("code", [place]) => {
             let method = number::<u16>(place, out)?;
-            laid(alloc, body, names, pool, Some(method), out)
+            attribute(alloc, body, names, pool, method, out)
         }
         (command, _) => out.unknown_word(command),
     }

@@ -117,7 +117,7 @@ fn put_frame(frame: &FrameAt, names: &Names, out: &mut Answer) {
 }
 
 /// Puts frames, with a word in front.
-fn put_frames(word: &str, frames: &[FrameAt], names: &Names, out: &mut Answer) {
+pub fn put_frames(word: &str, frames: &[FrameAt], names: &Names, out: &mut Answer) {
     out.put(word);
     for frame in frames {
         put_frame(frame, names, out);
@@ -181,19 +181,13 @@ fn put_offset(laid: &Laid, at: usize, out: &mut Answer) {
 }
 
 /// Puts the form of the layout, the offsets of its frames and of its end, and its bytes.
-pub fn put_layout(
-    emitted: &Emitted,
-    laid: &Laid,
-    frames: &[FrameAt],
-    out: &mut Answer,
-) -> Option<()> {
+pub fn put_layout(laid: &Laid, frames: &[FrameAt], out: &mut Answer) -> Option<()> {
     out.put(if laid.wide { "wide" } else { "narrow" });
     out.put("; frames");
     for frame in frames {
         put_offset(laid, frame.at as usize, out);
     }
-    out.put("; end");
-    put_offset(laid, emitted.code.len(), out);
+    out.label("; end ", &laid.code.len());
     out.put("; code ");
     put_bytes(&laid.code, out);
     Some(())

@@ -13,5 +13,6 @@ returns-clause-instrumented c =
     let b = c.args.body.now in
     let plan = c.in_ok-plan.ensures.plan in
     let are = subst (AreStates c.states.new.names b) (sym c.deref.ensures.value) c.in_ok-states.ensures.states.1 in
-    instrumented_is c.args.names.now c.states.new.names c.emit.new.names b c.deref.result.now _ c.in_ok-states.ensures.names
-    c.in_ok-emitted.ensures.names c.requires.frames are (c.in_ok-emitted.ensures.emitted 0 plan) (c.in_ok-emitted.ensures.twin 0 plan)
+    instrumented_is c.args.names.now c.states.new.names c.emit.new.names b c.deref.result.now c.args.fetch c.args.first c.args.constants.now _
+    c.in_ok-states.ensures.names c.in_ok-emitted.ensures.names c.requires.frames are (c.in_ok-emitted.ensures.emitted c.args.first plan)
+    (c.in_ok-emitted.ensures.twin c.args.first plan)
