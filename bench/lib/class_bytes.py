@@ -16,6 +16,8 @@ The lines of METHODS make a class file (JVM Specification 4.1), which is printed
     frame AT TYPES | TYPES  a stack map frame: its instruction, the local variables, and the stack
     handler START END TARGET CLASS     a row of the exception table, with `any` for all exceptions
     line AT LINE            an entry of a LineNumberTable
+    var START END NAME DESCRIPTOR SLOT     an entry of a LocalVariableTable
+    type START END NAME SIGNATURE SLOT     an entry of a LocalVariableTypeTable
     # a comment
 
 Places in the code are numbers of instructions. A jump has its target as its operand, `tableswitch` its default, its
@@ -140,7 +142,7 @@ class Method:
     def __init__(self, words):
         self.flags, self.max_stack, self.max_locals = int(words[0], 0), int(words[3]), int(words[4])
         self.name, self.desc = words[1], words[2]
-        self.insns, self.frames, self.handlers, self.lines = [], [], [], []
+        self.insns, self.frames, self.handlers, self.lines, self.vars, self.types = [], [], [], [], [], []
 
     def is_wide(self, name, operands):
         """Whether an instruction on a local variable needs its wide form (JVM Specification 6.5, wide)."""
@@ -233,6 +235,14 @@ class Method:
             base = starts[at] + 1
         return table
 
+    def variables(self, pool, entries, starts):
+        """A table of local variables, or of their types (JVM Specification 4.7.13, 4.7.14)."""
+        table = u2(len(entries))
+        for start, end, name, desc, slot in entries:
+            first = starts[int(start)]
+            table += u2(first) + u2(starts[int(end)] - first) + u2(pool.utf8(name)) + u2(pool.utf8(desc)) + u2(int(slot))
+        return table
+
     def code(self, pool):
         """What a Code attribute holds (JVM Specification 4.7.3)."""
         starts = self.starts()
@@ -244,6 +254,9 @@ class Method:
         if self.lines:
             entries = b"".join(u2(starts[int(at)]) + u2(int(line)) for at, line in self.lines)
             tables.append(attribute(pool, "LineNumberTable", u2(len(self.lines)) + entries))
+        for name, entries in (("LocalVariableTable", self.vars), ("LocalVariableTypeTable", self.types)):
+            if entries:
+                tables.append(attribute(pool, name, self.variables(pool, entries, starts)))
         if self.frames:
             tables.append(attribute(pool, "StackMapTable", self.stack_map(pool, starts)))
         return u2(self.max_stack) + u2(self.max_locals) + u4(len(code)) + code + rows + u2(len(tables)) + b"".join(tables)
@@ -280,8 +293,8 @@ def class_bytes(lines, pool=None):
             methods.append(Method(words[1:]))
         elif words[0] == "pad":
             methods[-1].insns += [["nop"]] * int(words[1])
-        elif words[0] in ("frame", "handler", "line"):
-            {"frame": methods[-1].frames, "handler": methods[-1].handlers, "line": methods[-1].lines}[words[0]].append(words[1:])
+        elif words[0] in ("frame", "handler", "line", "var", "type"):
+            getattr(methods[-1], words[0] + "s").append(words[1:])
         else:
             methods[-1].insns.append(words)
     if probes:

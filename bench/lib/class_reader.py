@@ -84,11 +84,12 @@ class Field:
 
 
 class Method:
-    """A method: `code` is None where it has none, and `wide` says whether it has a `goto_w`."""
+    """A method: `code` is None where it has none, and `wide` says whether it has a `goto_w`. Variables have their names and
+    descriptors as places of the pool."""
 
     def __init__(self, data, pool):
         self.flags, self.name, self.desc = data.u2(), pool.utf8(data.u2()), pool.utf8(data.u2())
-        self.code, self.wide, self.handlers, self.lines = None, False, [], []
+        self.code, self.wide, self.handlers, self.lines, self.vars, self.types = None, False, [], [], [], []
         for name, body in attributes(data, pool):
             if name == "Code":
                 self.read_code(Bytes(body), pool)
@@ -110,6 +111,8 @@ class Method:
             if name == "LineNumberTable":
                 table = Bytes(body)
                 self.lines += [(places[table.u2()], table.u2()) for _ in range(table.u2())]
+            if name in ("LocalVariableTable", "LocalVariableTypeTable"):
+                (self.vars if name == "LocalVariableTable" else self.types).extend(variables(Bytes(body), places))
 
     def instruction(self, code, pool):
         """The next instruction, with offsets where others have places."""
@@ -163,6 +166,15 @@ def aimed(insn, places):
     if insn[0].endswith("switch"):
         return [insn[0], places[insn[1]], [(key, places[to]) for key, to in insn[2]]]
     return insn
+
+
+def variables(table, places):
+    """The entries of a table of local variables: where each begins and ends, the places of its texts, and its number."""
+    found = []
+    for _ in range(table.u2()):
+        start, length, name, desc, slot = (table.u2() for _ in range(5))
+        found.append((places[start], places[start + length], name, desc, slot))
+    return found
 
 
 def attributes(data, pool):
