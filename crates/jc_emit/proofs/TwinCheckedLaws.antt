@@ -86,7 +86,8 @@ module _ (names new_names : Names) (states : List State) (first : ℕ) (form : T
       ⊎_elim
       (λ below.
       let g = begun.others k below in
-      begun_sound k g.0 g.1 (subst (λ q. FitsThere (Some g.0) (N q)) (sym (add-one k)) (fit_there (N (suc k)) g.0 g.0 g.2 (state_itself g.0))))
+      let after : TypeState = record { locals = (entry_of b').locals; stack = g.0 } in
+      begun_sound k after g.1 (subst (λ q. FitsThere (Some after) (N q)) (sym (add-one k)) (fit_there (N (suc k)) after after g.2 (state_itself after))))
       (λ above.
       let last : begun.last ≡ k = omega (arith, size, above, lt) in
       subst SoundAt last (begun_sound begun.last (moved (entry_of b)) begun.store store_fits))

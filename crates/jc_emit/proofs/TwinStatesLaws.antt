@@ -424,12 +424,12 @@ module _ (names new_names : Names) (states : List State) (first : ℕ) (form : T
   begun_next k t g none = next_state new_names b' k g.insn g.before t none g.stands (inl g.goes_on) g.state_is g.after_is
 
   -- Behind the last instruction the twin has the state in which the method begins, with the array in its place. Behind each other
-  -- one stands the next, which finds the state that it leaves.
+  -- one stands the next, which finds the state that it leaves: the local variables are as where the method begins.
   pub record IsBegun (fetch : Fetch) : Type 0 where
     pub last : ℕ
     pub size : suc last ≡ prelude_size fetch
     pub store : Begun last (moved (entry_of b))
-    pub others : (k : ℕ) → k < last → (after : TypeState) × Begun k after × (N (suc k) ≡ Some after)
+    pub others : (k : ℕ) → k < last → (stack : List VerificationType) × Begun k (state E.locals stack) × (N (suc k) ≡ Some (state E.locals stack))
 
   array_stored : (k : ℕ) (fetch : Fetch) → insn_of named v (start fetch k) ≡ astore v → Step k (start fetch k) E_array (moved (entry_of b))
   array_stored k fetch is =
@@ -478,8 +478,8 @@ module _ (names new_names : Names) (states : List State) (first : ℕ) (form : T
       state_1 : N 1 ≡ Some E_array
       state_1 = begun_next 0 E_array call (no_frame_first 1 fetches.Member 1 h.1.0)
 
-      others : (k : ℕ) → k < 1 → (after : TypeState) × Begun k after × (N (suc k) ≡ Some after)
-      others zero lt = (E_array, call, state_1)
+      others : (k : ℕ) → k < 1 → (stack : List VerificationType) × Begun k (state E.locals stack) × (N (suc k) ≡ Some (state E.locals stack))
+      others zero lt = (probes ∷ [], call, state_1)
       others (suc k) lt = absurd (omega (arith, lt))
   begun_by fetches.Constant h names_probes = record {
     last = 2;
@@ -500,9 +500,9 @@ module _ (names new_names : Names) (states : List State) (first : ℕ) (form : T
       state_2 : N 2 ≡ Some E_array
       state_2 = begun_next 1 E_array cast (no_frame_first 2 fetches.Constant 2 h.1.1.0)
 
-      others : (k : ℕ) → k < 2 → (after : TypeState) × Begun k after × (N (suc k) ≡ Some after)
-      others zero lt = (E_constant, load, state_1)
-      others (suc zero) lt = (E_array, cast, state_2)
+      others : (k : ℕ) → k < 2 → (stack : List VerificationType) × Begun k (state E.locals stack) × (N (suc k) ≡ Some (state E.locals stack))
+      others zero lt = (anything ∷ [], load, state_1)
+      others (suc zero) lt = (probes ∷ [], cast, state_2)
       others (suc (suc k)) lt = absurd (omega (arith, lt))
 
   pub all_begun : IsBegun form.fetch
@@ -510,3 +510,8 @@ module _ (names new_names : Names) (states : List State) (first : ℕ) (form : T
 
   pub state_0 : N 0 ≡ Some E
   state_0 = state_first form.fetch (starts_at b first form)
+
+  -- the state before each instruction of the prelude has the local variables with which the method begins
+  pub prelude_state : (q : ℕ) → q < prelude_size form.fetch → (stack : List VerificationType) × (N q ≡ Some (state E.locals stack))
+  prelude_state zero lt = ([], state_0)
+  prelude_state (suc k) lt = let size = all_begun.size in let o = all_begun.others k (omega (arith, size, lt)) in (o.0, o.2)
