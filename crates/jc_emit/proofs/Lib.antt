@@ -21,6 +21,7 @@ pub mod FrameLaws
 pub mod WideFrameLaws
 pub mod RankLaws
 pub mod WidenedLaws
+pub mod WidenedPartsLaws
 pub mod WideTwinLaws
 pub mod StateLaws
 pub mod StepLaws
@@ -30,6 +31,7 @@ pub mod TwinPlacesLaws
 pub mod TwinStatesLaws
 pub mod TwinLeadsLaws
 pub mod TwinSoundLaws
+pub mod TwinSegmentLaws
 pub mod TwinCheckedLaws
 pub mod InitLaws
 pub mod TwinBodyLaws

@@ -37,7 +37,8 @@ use Rattle.jc_emit.proofs.TwinPremisesLaws.{Premises, premises, code_long, asked
 use Rattle.jc_emit.proofs.TwinPlacesLaws.{state_b}
 use Rattle.jc_emit.proofs.TwinStatesLaws.{there_fit, fit_there, after_there, all_fit_on, Begun, IsBegun, all_begun, state_0}
 use Rattle.jc_emit.proofs.TwinLeadsLaws.{framed, landing_frame, all_led, all_landed}
-use Rattle.jc_emit.proofs.TwinSoundLaws.{Sound, Near, Fine, segment_fine}
+use Rattle.jc_emit.proofs.TwinSegmentLaws.{segment_fine}
+use Rattle.jc_emit.proofs.TwinSoundLaws.{Sound, Near, Fine}
 
 module _ (names new_names : Names) (states : List State) (first : ℕ) (form : TwinForm) (named : TwinPlaces) (b b' : Body) (p : Premises names new_names states first form named b b') where
   abbrev land : ℕ → ℕ

@@ -31,13 +31,12 @@ use Rattle.jc_emit.specs.Marks.{TwinPlaces}
 use Rattle.jc_emit.proofs.PlacedLaws.{flow_push_by, no_fall_goto, never, only, inverse_targets, placed_targets, no_targets, goto_stops, switch_stops}
 use Rattle.jc_methods.proofs.PlacedInsnLaws.{targets_placed}
 use Rattle.jc_emit.proofs.StateLaws.{slots-renamed}
-use Rattle.jc_emit.specs.Sizes.{TwinForm, is_wide, early_probe, late_probe, arms_at, probe_size, hop_size, arm_sizes, wide_by}
+use Rattle.jc_emit.specs.Sizes.{TwinForm, is_wide, early_probe, late_probe, arms_at, hop_size, arm_sizes, wide_by}
 use Rattle.jc_emit.specs.TwinCode.{to_of, here_or, arm_place}
 use Rattle.jc_emit.specs.TwinFrames.{state_at, left_by, state_behind}
-use Rattle.jc_emit.specs.Items.{Item, image, probe_array, probe_id, probe_one, probe_store, hop, insn_of, probe, lead_part, early_part, hop_part, arm_parts, test_part, tests_part, lead_of, land_of, image_of, image_part, segment, twin_items}
+use Rattle.jc_emit.specs.Items.{Item, image, probe_array, probe_id, probe_one, probe_store, hop, insn_of, probe, hop_part, arm_parts, test_part, tests_part, lead_of, land_of, image_of, image_part, twin_items}
 use Rattle.jc_emit.proofs.PiecesLaws.{HasAt, has_front, has_back, Each, each_append}
-use Rattle.jc_emit.proofs.BuiltLaws.{size_is, size_switches, length-lead, length-early, length-hop}
-use Rattle.jc_emit.proofs.ToldLaws.{lead_at, early_at, main_at}
+use Rattle.jc_emit.proofs.BuiltLaws.{size_is, size_switches, length-hop}
 use Rattle.jc_emit.proofs.OthersLaws.{Arms, Agrees, agrees_first, agrees_rest, arms_by_list, arm_listed, tests_target}
 use Rattle.jc_emit.proofs.InverseLaws.{inverse_tests_too, twice_inverse}
 use Rattle.jc_emit.proofs.LocalLaws.{test_is, placed_target, inverted_target, next_within}
@@ -45,8 +44,8 @@ use Rattle.jc_emit.proofs.StepLaws.{moves_nothing}
 use Rattle.jc_emit.proofs.ConditionalBranchLaws.{left_is}
 use Rattle.jc_emit.proofs.TwinPremisesLaws.{Premises, stands, code_long, asked_frame, asked_has, frame_asked, old_at, leads_grow}
 use Rattle.jc_emit.proofs.TwinPlacesLaws.{no_frame, narrow, tests_size, asked_piece, arms_switch, arms_are}
-use Rattle.jc_emit.proofs.TwinStatesLaws.{fit_there, frame_state_is, next_state, fits_same, after_b, A, image_after, S_low, A_low, S_long, goes, next_is, probe_runs, with_array, with_id, with_one}
-use Rattle.jc_emit.proofs.TwinLeadsLaws.{slot_flow, placed_flow, framed, fits_branch, landing_frame, led_long, stopped_frame, inverse_frame, wide_frame, all_led, all_landed, all_imaged}
+use Rattle.jc_emit.proofs.TwinStatesLaws.{fit_there, frame_state_is, next_state, fits_same, after_b, A, image_after, A_low, S_long, goes, next_is, probe_runs, with_array, with_id, with_one}
+use Rattle.jc_emit.proofs.TwinLeadsLaws.{slot_flow, placed_flow, framed, fits_branch, landing_frame, stopped_frame, inverse_frame, wide_frame, all_led, all_landed, all_imaged}
 use Rattle.jc_methods.specs.declared.insn.Insn.TheVariants as insns
 use Rattle.jc_methods.specs.declared.insn.Flow.TheVariants as flows
 use Rattle.jc_emit.specs.Sizes as sizes
@@ -105,7 +104,7 @@ module _ (names new_names : Names) (states : List State) (first : ℕ) (form : T
   abbrev pub Fine : ℕ → ℕ → Item → Type 0
   Fine i q x = (w : Sound q) × Near i w.before
 
-  same_fits : (o : Option TypeState) (s : TypeState) → o ≡ Some s → FitsThere (Some s) o
+  pub same_fits : (o : Option TypeState) (s : TypeState) → o ≡ Some s → FitsThere (Some s) o
   same_fits o s e = fit_there o s s e (state_itself s)
 
   -- one that goes on
@@ -126,7 +125,7 @@ module _ (names new_names : Names) (states : List State) (first : ℕ) (form : T
     near,
   )
 
-  probe_fine : (i q id at : ℕ) (late : Bool) (X : TypeState) → HasAt items q (probe id at late) → N q ≡ Some (moved X)
+  pub probe_fine : (i q id at : ℕ) (late : Bool) (X : TypeState) → HasAt items q (probe id at late) → N q ≡ Some (moved X)
       → slots X.stack ≤ b.max_stack → v ≤ length X.locals → Near i (moved X)
       → FitsThere (Some (moved X)) (N (q + 1 + 1 + 1 + 1)) → Each (Fine i) q (probe id at late)
   probe_fine i q id at late X h before low long near last =
@@ -545,7 +544,7 @@ module _ (names new_names : Names) (states : List State) (first : ℕ) (form : T
       leading i lt (old i) (early_probe b first i) here (λ falls. absurd (never (old i) flow e f g falls)) (λ halts short. alone i lt flow e f g place short)
       (λ r c. absurd (none_in r (subst (λ l. Contains l r) (no_targets (old i) (inr (⊎_elim (λ x. inl (e ∙ x)) (λ x. inr (e ∙ x)) which))) c)))
 
-  main_fine : (i : ℕ) (flow : Flow) (lt : i < length b.code) → flow_of (old i) ≡ flow
+  pub main_fine : (i : ℕ) (flow : Flow) (lt : i < length b.code) → flow_of (old i) ≡ flow
       → HasAt items (q_of i) (image_part b first form i (old i) flow) → Each (Fine i) (q_of i) (image_part b first form i (old i) flow)
   main_fine i flows.GoesOn lt e h =
       let size = size_is b first form i flows.GoesOn e in
@@ -582,40 +581,3 @@ module _ (names new_names : Names) (states : List State) (first : ℕ) (form : T
       let size = size_is b first form i flows.Returns e in (exit_fine i lt flows.Returns e (inl refl) (λ x. cc) (λ x. cc) (omega (arith, size)) h.0, tt)
   main_fine i flows.Throws lt e h =
       let size = size_is b first form i flows.Throws e in (exit_fine i lt flows.Throws e (inr refl) (λ x. cc) (λ x. cc) (omega (arith, size)) h.0, tt)
-
-  -- ---- probes in front of images
-
-  lead_fine : (i : ℕ) (lt : i < length b.code) → Each (Fine i) (lead i) (lead_part (lead_probe b first i) i)
-  lead_fine i lt = by (lead_probe b first i) refl (lead_at b first form named i lt)
-    where
-      by : (o : Option ℕ) → lead_probe b first i ≡ o → HasAt items (lead i) (lead_part o i) → Each (Fine i) (lead i) (lead_part o i)
-      by None none h = tt
-      by (Some id) some h =
-          let l = all_led names new_names states first form named b b' p i lt in
-          let size = ap probe_size some in
-          let place : lead i + 1 + 1 + 1 + 1 ≡ land i = omega (arith, size) in
-          let fits = fits_shift (image_of b first form) v l.before (S i) l.fits in
-          probe_fine i (lead i) id i true l.before h l.state_is l.low (led_long names new_names states first form named b b' p i lt l) fits.locals
-          (subst (λ k. FitsThere (Some (moved l.before)) (N k)) (sym place)
-          (fit_there (N (land i)) (moved l.before) (moved (S i)) (all_landed names new_names states first form named b b' p i lt) fits))
-
-  early_fine : (i : ℕ) (lt : i < length b.code) → Each (Fine i) (land i) (early_part (early_probe b first i) i)
-  early_fine i lt = by (early_probe b first i) refl (early_at b first form named i lt)
-    where
-      by : (o : Option ℕ) → early_probe b first i ≡ o → HasAt items (land i) (early_part o i) → Each (Fine i) (land i) (early_part o i)
-      by None none h = tt
-      by (Some id) some h =
-          let size = ap probe_size some in
-          let place : land i + 1 + 1 + 1 + 1 ≡ q_of i = omega (arith, size) in
-          probe_fine i (land i) id i false (S i) h (all_landed names new_names states first form named b b' p i lt)
-          (S_low names new_names states first form named b b' p i lt) (S_long names new_names states first form named b b' p i lt)
-          (fits_same (moved (S i)).locals)
-          (subst (λ k. FitsThere (Some (moved (S i))) (N k)) (sym place) (same_fits (N (q_of i)) (moved (S i)) (all_imaged names new_names states first form named b b' p i lt)))
-
-  pub segment_fine : (i : ℕ) (lt : i < length b.code) → Each (Fine i) (lead i) (segment b first form i)
-  segment_fine i lt =
-      each_append (Fine i) (lead i) (lead_part (lead_probe b first i) i) _ (lead_fine i lt)
-      (subst (λ k. Each (Fine i) (lead i + k) (early_part (early_probe b first i) i ++ image_part b first form i (old i) (flow_of (old i)))) (sym (length-lead (lead_probe b first i) i))
-      (each_append (Fine i) (land i) (early_part (early_probe b first i) i) _ (early_fine i lt)
-      (subst (λ k. Each (Fine i) (land i + k) (image_part b first form i (old i) (flow_of (old i)))) (sym (length-early (early_probe b first i) i))
-      (main_fine i (flow_of (old i)) lt refl (main_at b first form named i lt)))))

@@ -23,7 +23,7 @@ use Rattle.jc_emit.specs.Sizes.{TwinForm, narrow, is_wide, insn_at, early_probe,
 use Rattle.jc_emit.specs.TwinCode.{to_of}
 use Rattle.jc_emit.specs.Items.{Item, start, probe_id, insn_of, prelude, lead_part, early_part, hop_part, arm_parts, test_part, lead_of, land_of, image_of, tests_part, image_part, segment, twin_items}
 use Rattle.jc_emit.specs.Local.{IsBehind}
-use Rattle.jc_emit.proofs.WidenedLaws.{widened_is}
+use Rattle.jc_emit.proofs.WidenedPartsLaws.{widened_is}
 use Rattle.jc_layout.specs.LaidBody.{with_prelude, laid_form}
 use Rattle.jc_layout.specs.Layout.{laid_code}
 
