@@ -192,8 +192,6 @@ module _ (id : ℕ) (names : Names) (array : ℕ) (c : ClassFile) (works : List 
       let body : BodyOf names c b.method b = w.are.bodies.each i b there in
       let only = (all_at IsOfBytes c.methods b.method body.method bytes body.at).attributes in
       let first = (w.are.each i x at).first in
-      let ids = ids_among (bodies_of works) i b there in
-      let few = room.probes in
       let short = body_short (faults c.major c.pool b.owner body.method) names c b.method body.method b body.is only in
       let stack = stack_few (bodies_of works) room i b there in
       let locals = locals_few (bodies_of works) room i b there short.locals in
@@ -204,7 +202,7 @@ module _ (id : ℕ) (names : Names) (array : ℕ) (c : ClassFile) (works : List 
       let call = member_within w.pool w.places.method (init_method (name_of c)) call_is in
       let pool_few = w.few in
       code_written (faults c.major c.pool b.owner body.method) names c b.method body.method b x.first x.states (by_method array) w.pool places body.is only well
-      (omega (arith, first, ids, few))
+      (λ id. omega arith)
       (record {
         named = work_named names c w.pool extends places (text_places w.pool w.places) array x body;
         frames_named = frames_is;

@@ -1,8 +1,8 @@
 -- The numbers of instrumented code fit their types, so its layout spells it.
-use Rattle.std.proofs.Common.{◌≡◌, ◌⊎◌, inl, inr, ℕ, zero, suc, ◌+◌, ◌<◌, ◌≤◌, Bool, true, false, ◌&&◌, List, [], ◌∷◌, ◌++◌, length, map, get_or, nat_le, nat_lt, pos, w16, All, Option, Some, None, if◌then◌else◌, refl, sym, subst, arith}
-use Rattle.std.specs.Prelude.{⊤, slice_index}
+use Rattle.std.proofs.Common.{◌≡◌, ◌⊎◌, inl, inr, ℕ, zero, suc, ◌+◌, ◌<◌, ◌≤◌, Bool, true, false, List, [], ◌∷◌, ◌++◌, length, map, get_or, nat_le, nat_lt, pos, w16, All, Option, Some, None, if◌then◌else◌, refl, sym, subst, arith}
+use Rattle.std.specs.Prelude.{slice_index}
 use Rattle.std.specs.List.{AllByRecursion}
-use Rattle.std.proofs.lemmas.Bool.{and_parts, cases_lt}
+use Rattle.std.proofs.lemmas.Bool.{cases_lt, leb-true}
 use Rattle.std.proofs.lemmas.Int.{fits_signed_from_abs}
 use Rattle.std.proofs.lemmas.List.{get_or_past}
 use Rattle.std.proofs.lemmas.List.Elements.{All-map}
@@ -11,7 +11,7 @@ use Rattle.jc_methods.specs.Flow.{flow_of, jump_target, targets_of}
 use Rattle.jc_methods.specs.Insn.{with_places}
 use Rattle.jc_methods.specs.InsnUse.{LocalsWithin, is_of_two_slots}
 use Rattle.jc_bytes.specs.PlainLists.{pieces}
-use Rattle.jc_methods.specs.ProbeMembers.{most_probes, most_short}
+use Rattle.jc_methods.specs.ProbeMembers.{most_short}
 use Rattle.jc_methods.specs.WellMade.{IsWellMadeOfAnySize}
 use Rattle.jc_methods.specs.Widened.{none_wide, inverted}
 use Rattle.jc_methods.specs.declared.body.Body.{Body}
@@ -25,10 +25,8 @@ use Rattle.jc_methods.specs.declared.probe_members.Fetch.TheVariants as fetches
 use Rattle.jc_methods.specs.Opcode as opcode
 use Rattle.jc_kinds_after.specs.Shift.{slot_of, with_slot}
 use Rattle.jc_plan.specs.declared.branch.Branch.{Branch}
-use Rattle.jc_plan.specs.Edges.{branches, exit, jump}
 use Rattle.jc_plan.specs.Plan.{lead_probe}
-use Rattle.jc_plan.specs.Probed.{Position, id_if, is_before, is_probed, position_of, probe_count, probe_of, probes_before}
-use Rattle.jc_plan.proofs.CountLaws.{count_le}
+use Rattle.jc_plan.specs.Probed.{probe_of}
 use Rattle.jc_frames.proofs.ReadLaws.{each_of}
 use Rattle.jc_insn.specs.Spells.{Spells}
 use Rattle.jc_insn.specs.Writing.{AllNear, IsInRange, code_text}
@@ -38,13 +36,12 @@ use Rattle.jc_insn.proofs.WideCodeLaws.{spells_wide}
 use Rattle.jc_emit.specs.Emission.{Emitting, emission}
 use Rattle.jc_emit.specs.Items.{Item, arm_parts, prelude, early_part, hop_part, image_part, insn_of, lead_part, probe, segment, test_part, tests_part, twin_items, image_of, land_of, lead_of}
 use Rattle.jc_emit.specs.Marks.{unplaced, push, push_by}
-use Rattle.jc_emit.specs.Sizes.{narrow, arms_at, early_by, early_probe, insn_at, late_by, late_probe}
+use Rattle.jc_emit.specs.Sizes.{narrow, arms_at, early_probe, insn_at, late_probe}
 use Rattle.jc_emit.specs.TwinCode.{arm_place, to_of}
 use Rattle.jc_layout.specs.Layout.{layout_set, laid_code, laid_starts, chosen_length, chosen_starts, chosen_text, is_wide}
 use Rattle.jc_layout.proofs.AllOrNoneLaws.{near_so, layout_says, spells_laid}
 use Rattle.jc_layout.proofs.ChoiceLaws.{chosen_stand, near}
 use Rattle.jc_layout.proofs.LayableLaws.{all_formed, all_within}
-use Rattle.jc_instrument_reread.proofs.PushLaws.{pushed_so}
 
 -- ---- numbers of instructions
 
@@ -76,45 +73,16 @@ push_range n le = by (nat_le n 5) (nat_le n 127)
     by false true = fits_signed_from_abs w16 (pos n) (omega (arith, le))
     by false false = fits_signed_from_abs w16 (pos n) (omega (arith, le))
 
--- ---- ids
-
--- an id can be pushed
-abbrev IsFewId : Option ℕ → Type 0
-IsFewId None = ⊤
-IsFewId (Some id) = id ≤ most_short
-
-few_if : (test : Bool) (id : ℕ) → id ≤ most_short → IsFewId (id_if test id)
-few_if true id le = le
-few_if false id le = tt
-
 module _ (b : Body) (first : ℕ) (states : List State) (given : Emitting) (well : IsWellMadeOfAnySize b) (ranges : All IsInRange b.code)
-    (locals : b.max_locals + 1 ≤ 65535) (ids : first + probe_count b ≤ most_probes) where
-  few_before : (p : Position) → first + probes_before b p ≤ most_probes
-  few_before p =
-      let less = count_le (λ (x : Branch). is_probed b x && is_before (position_of x) p) (is_probed b) (branches b.code)
-      (λ x both. (and_parts (is_probed b x) (is_before (position_of x) p) both).0) in
-      omega (arith, less, ids)
-
-  lead_few : (i : ℕ) → IsFewId (lead_probe b first i)
-  lead_few i = few_if _ _ (few_before (record { at = i; number = 0 }))
-
-  probe_few : (x : Branch) → IsFewId (probe_of b first x)
-  probe_few x = few_if (is_probed b x) _ (few_before (position_of x))
-
-  early_few : (i : ℕ) (insn : Insn) (flow : Flow) → IsFewId (early_by (probe_of b first) i insn flow)
-  early_few i insn flows.Jumps = probe_few (jump i (jump_target insn))
-  early_few i insn flows.Returns = probe_few (exit i)
-  early_few i insn flows.Throws = probe_few (exit i)
-  early_few i insn flow = tt
-
-  late_few : (i : ℕ) (insn : Insn) (flow : Flow) → IsFewId (late_by (probe_of b first) i insn flow)
-  late_few i insn flows.Branches = probe_few (jump i (jump_target insn))
-  late_few i insn flow = tt
-
+    (locals : b.max_locals + 1 ≤ 65535) (integers : (id : ℕ) → given.integer id < 65536) where
   -- ---- items
 
-  id_range : (id : ℕ) → id ≤ most_short → IsInRange (push_by given.integer id)
-  id_range id le = subst IsInRange (sym (pushed_so given.integer id le)) (push_range id le)
+  id_range : (id : ℕ) → IsInRange (push_by given.integer id)
+  id_range id = by (nat_le id most_short) refl
+    where
+      by : (t : Bool) → nat_le id most_short ≡ t → IsInRange (if t then push id else insns.Constant (given.integer id))
+      by true e = push_range id (leb-true id most_short e)
+      by false e = integers id
 
   abbrev Fits : Item → Type 0
   Fits x = IsInRange (insn_of (unplaced given.integer) b.arg_slots x)
@@ -125,48 +93,48 @@ module _ (b : Body) (first : ℕ) (states : List State) (given : Emitting) (well
   slot_fits : b.arg_slots < 65536
   slot_fits = let le = well.arguments_fit in omega (arith, le, locals)
 
-  probe_fits : (id at : ℕ) (late : Bool) → id ≤ most_short → All_fit (probe id at late)
-  probe_fits id at late le = (slot_fits, (id_range id le, (tt, (tt, tt))))
+  probe_fits : (id at : ℕ) (late : Bool) → All_fit (probe id at late)
+  probe_fits id at late = (slot_fits, (id_range id, (tt, (tt, tt))))
 
-  lead_fits : (o : Option ℕ) (i : ℕ) → IsFewId o → All_fit (lead_part o i)
-  lead_fits None i few = tt
-  lead_fits (Some id) i few = probe_fits id i true few
+  lead_fits : (o : Option ℕ) (i : ℕ) → All_fit (lead_part o i)
+  lead_fits None i = tt
+  lead_fits (Some id) i = probe_fits id i true
 
-  early_fits : (o : Option ℕ) (i : ℕ) → IsFewId o → All_fit (early_part o i)
-  early_fits None i few = tt
-  early_fits (Some id) i few = probe_fits id i false few
+  early_fits : (o : Option ℕ) (i : ℕ) → All_fit (early_part o i)
+  early_fits None i = tt
+  early_fits (Some id) i = probe_fits id i false
 
-  hop_fits : (land : ℕ → ℕ) (o : Option ℕ) (to : ℕ) → IsFewId o → All_fit (hop_part land o to)
-  hop_fits land None to few = tt
-  hop_fits land (Some id) to few = (slot_fits, (id_range id few, (tt, (tt, (tt, tt)))))
+  hop_fits : (land : ℕ → ℕ) (o : Option ℕ) (to : ℕ) → All_fit (hop_part land o to)
+  hop_fits land None to = tt
+  hop_fits land (Some id) to = (slot_fits, (id_range id, (tt, (tt, (tt, tt)))))
 
   arms_fit : (land : ℕ → ℕ) (xs : List Branch) → All_fit (arm_parts land (probe_of b first) xs)
   arms_fit land [] = tt
   arms_fit land (x ∷ xs) =
       all_both Fits (hop_part land (probe_of b first x) (to_of x)) (arm_parts land (probe_of b first) xs)
-      (hop_fits land (probe_of b first x) (to_of x) (probe_few x)) (arms_fit land xs)
+      (hop_fits land (probe_of b first x) (to_of x)) (arms_fit land xs)
 
   test_fits : (w : Bool) (q : ℕ) (insn : Insn) (i on : ℕ) (due : Option ℕ) → IsInRange insn → All_fit (test_part w q insn i on due)
   test_fits false q insn i on due h = (h, tt)
   test_fits true q insn i on due h = (inverted_range (q + 2) insn h, (tt, tt))
 
-  tests_fit : (i : ℕ) (insn : Insn) (o : Option ℕ) → IsInRange insn → IsFewId o → All_fit (tests_part b first (narrow given.fetch) i insn o)
-  tests_fit i insn None h few =
+  tests_fit : (i : ℕ) (insn : Insn) (o : Option ℕ) → IsInRange insn → All_fit (tests_part b first (narrow given.fetch) i insn o)
+  tests_fit i insn None h =
       test_fits false (image_of b first (narrow given.fetch) i) (with_places (land_of b first (narrow given.fetch)) insn) i (jump_target insn) None
       (in_range_with (land_of b first (narrow given.fetch)) insn h)
-  tests_fit i insn (Some id) h few =
+  tests_fit i insn (Some id) h =
       all_both Fits (test_part false (image_of b first (narrow given.fetch) i) (inverted (lead_of b first (narrow given.fetch) (i + 1)) insn) i (i + 1) (lead_probe b first (i + 1)))
       (hop_part (land_of b first (narrow given.fetch)) (Some id) (jump_target insn))
       (test_fits false (image_of b first (narrow given.fetch) i) (inverted (lead_of b first (narrow given.fetch) (i + 1)) insn) i (i + 1) (lead_probe b first (i + 1))
       (inverted_range (lead_of b first (narrow given.fetch) (i + 1)) insn h))
-      (hop_fits (land_of b first (narrow given.fetch)) (Some id) (jump_target insn) few)
+      (hop_fits (land_of b first (narrow given.fetch)) (Some id) (jump_target insn))
 
   abbrev old : ℕ → Insn
   old i = insn_at b.code i
 
   image_fits : (i : ℕ) (flow : Flow) → IsInRange (old i) → LocalsWithin b.max_locals (old i) → All_fit (image_part b first (narrow given.fetch) i (old i) flow)
   image_fits i flows.GoesOn h within = (slot_range b.arg_slots b.max_locals (old i) locals within h, tt)
-  image_fits i flows.Branches h within = tests_fit i (old i) (late_probe b first i) h (late_few i (old i) (flow_of (old i)))
+  image_fits i flows.Branches h within = tests_fit i (old i) (late_probe b first i) h
   image_fits i flows.Jumps h within = (in_range_with (land_of b first (narrow given.fetch)) (old i) h, tt)
   image_fits i flows.Switches h within = (
     in_range_with (arm_place (probe_of b first) (land_of b first (narrow given.fetch)) (image_of b first (narrow given.fetch) i + 1) (arms_at b.code i)) (old i) h,
@@ -185,8 +153,8 @@ module _ (b : Body) (first : ℕ) (states : List State) (given : Emitting) (well
   segment_fits : (i : ℕ) → All_fit (segment b first (narrow given.fetch) i)
   segment_fits i =
       let main = image_part b first (narrow given.fetch) i (old i) (flow_of (old i)) in
-      all_both Fits (lead_part (lead_probe b first i) i) (early_part (early_probe b first i) i ++ main) (lead_fits (lead_probe b first i) i (lead_few i))
-      (all_both Fits (early_part (early_probe b first i) i) main (early_fits (early_probe b first i) i (early_few i (old i) (flow_of (old i))))
+      all_both Fits (lead_part (lead_probe b first i) i) (early_part (early_probe b first i) i ++ main) (lead_fits (lead_probe b first i) i)
+      (all_both Fits (early_part (early_probe b first i) i) main (early_fits (early_probe b first i) i)
       (image_fits i (flow_of (old i)) (old_is IsInRange tt ranges i) (old_is (LocalsWithin b.max_locals) tt well.locals i)))
 
   pieces_fit : (n : ℕ) → All_fit (pieces (segment b first (narrow given.fetch)) n)
@@ -229,14 +197,14 @@ spelled_by code starts wide out near =
     (spells_wide (layout_set wide) code starts out
     (near_so wide (layout_set wide) (slice_index starts) 0 code starts (layout_says wide 0 code) near))
 
--- the layout that is chosen spells the instrumented code of a body whose instructions fit their types, where its ids can be pushed
+-- the layout that is chosen spells the instrumented code of a body whose instructions fit their types, where the places of Integers do
 pub chosen_spelled : (b : Body) (first : ℕ) (states : List State) (given : Emitting) → IsWellMadeOfAnySize b → All IsInRange b.code → b.max_locals + 1 ≤ 65535
-    → first + probe_count b ≤ most_probes → chosen_length (emission b first states given).code ≤ 65535
+    → ((id : ℕ) → given.integer id < 65536) → chosen_length (emission b first states given).code ≤ 65535
     → Spells (chosen_text (emission b first states given).code) (laid_code (is_wide (emission b first states given).code) (emission b first states given).code)
     (laid_starts (is_wide (emission b first states given).code) (emission b first states given).code (chosen_starts (emission b first states given).code))
 unfolding chosen_text emission
-chosen_spelled b first states given well ranges locals ids few =
-    let laid = code b first states given well ranges locals ids in
+chosen_spelled b first states given well ranges locals integers few =
+    let laid = code b first states given well ranges locals integers in
     let wide = is_wide laid in
     let starts = chosen_starts laid in
     spelled_by laid starts wide
@@ -244,7 +212,7 @@ chosen_spelled b first states given well ranges locals ids few =
       starts_at = chosen_stand laid;
       end = omega (arith, few);
       well_formed = all_formed b first given.fetch given.integer well.code;
-      in_range = all_fit b first states given well ranges locals ids;
-      places = places_fit b first states given well ranges locals ids;
+      in_range = all_fit b first states given well ranges locals integers;
+      places = places_fit b first states given well ranges locals integers;
     })
     (near laid starts wide refl refl)

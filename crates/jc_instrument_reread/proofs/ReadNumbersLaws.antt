@@ -5,7 +5,6 @@ use Rattle.std.proofs.lemmas.List.{length-map}
 use Rattle.jc_bytes.specs.ByteLists.{AreBytes}
 use Rattle.jc_bytes.specs.Counted.{counted}
 use Rattle.jc_bytes.specs.Grammar.{Grammar}
-use Rattle.jc_methods.specs.ProbeMembers.{most_probes}
 use Rattle.jc_methods.specs.VerificationTypes.{Names}
 use Rattle.jc_methods.specs.Starts.{insn_number}
 use Rattle.jc_methods.specs.WellMade.{IsWellMadeOfAnySize}
@@ -33,7 +32,6 @@ use Rattle.jc_body.specs.declared.items.Row.{Row}
 use Rattle.jc_body.specs.declared.items.VarEntry.{VarEntry}
 use Rattle.jc_insn.specs.Spells.{Spells}
 use Rattle.jc_insn.specs.Writing.{IsInRange}
-use Rattle.jc_plan.specs.Probed.{probe_count}
 use Rattle.jc_emit.specs.Sizes.{narrow}
 use Rattle.jc_emit.specs.Emission.{Emitting, emission}
 use Rattle.jc_emit.specs.Items.{land_of, lead_of}
@@ -259,11 +257,11 @@ pub record IsSpelled (e : Emitted) : Type 0 where
 
 pub is_spelled : (Faults : List Fault) (names : Names) (c : ClassFile) (number : ℕ) (method : Member) (b : Body) (first : ℕ) (states : List State) (given : Emitting)
     → HasBody Faults names c number method b → AllByRecursion HasBytes method.attributes → IsWellMadeOfAnySize b → b.max_locals + 1 ≤ 65535
-    → first + probe_count b ≤ most_probes → chosen_length (emission b first states given).code ≤ 65535 → IsSpelled (emission b first states given)
-is_spelled Faults names c number method b first states given has are well locals ids few =
+    → ((id : ℕ) → given.integer id < 65536) → chosen_length (emission b first states given).code ≤ 65535 → IsSpelled (emission b first states given)
+is_spelled Faults names c number method b first states given has are well locals integers few =
     let short = body_short Faults names c number method b has are in
     record {
       numbers = emitted_numbers b first states given short;
       rows = emitted_rows b first states given short;
-      spelled = chosen_spelled b first states given well short.code locals ids few;
+      spelled = chosen_spelled b first states given well short.code locals integers few;
     }

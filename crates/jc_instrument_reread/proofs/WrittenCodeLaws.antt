@@ -1,7 +1,6 @@
 -- What is given of written code, by what is known of the body and of the pool.
-use Rattle.std.proofs.Common.{◌≡◌, ℕ, ◌+◌, ◌<◌, ◌≤◌, List, length, Some, subst}
+use Rattle.std.proofs.Common.{◌≡◌, ℕ, ◌<◌, ◌≤◌, List, length, Some, subst}
 use Rattle.std.specs.List.{AllByRecursion}
-use Rattle.jc_methods.specs.ProbeMembers.{most_probes}
 use Rattle.jc_methods.specs.VerificationTypes.{Names}
 use Rattle.jc_methods.specs.WellMade.{IsWellMadeOfAnySize}
 use Rattle.jc_methods.specs.declared.body.Body.{Body}
@@ -13,7 +12,6 @@ use Rattle.jc_class.specs.declared.class_file.ClassFile.{ClassFile}
 use Rattle.jc_class.specs.declared.class_file.Member.{Member}
 use Rattle.jc_body.specs.BodyOf.{HasBody}
 use Rattle.jc_body.specs.First.{Fault}
-use Rattle.jc_plan.specs.Probed.{probe_count}
 use Rattle.jc_emit.specs.Emission.{Emitting, emission}
 use Rattle.jc_layout.specs.Layout.{chosen_length}
 use Rattle.jc_instrument_code.specs.Given.{AreNamed}
@@ -35,14 +33,14 @@ pub record IsPlacedCode (pool : PoolValue) (places : CodePlaces) (names : Names)
   pub few : chosen_length e.code ≤ 65535
   pub size : length (twin_code pool places.method places.frames names e) ≤ 4294967295
 
--- the rest follows from the body of the method, where the bytes of its attributes are bytes and its ids can be pushed
+-- the rest follows from the body of the method, where the bytes of its attributes are bytes and the places of Integers fit
 pub written_code : (Faults : List Fault) (names : Names) (c : ClassFile) (number : ℕ) (method : Member) (b : Body) (first : ℕ) (states : List State) (given : Emitting)
     (pool : PoolValue) (places : CodePlaces) → HasBody Faults names c number method b → AllByRecursion HasBytes method.attributes
-    → IsWellMadeOfAnySize b → first + probe_count b ≤ most_probes → IsPlacedCode pool places names (emission b first states given)
+    → IsWellMadeOfAnySize b → ((id : ℕ) → given.integer id < 65536) → IsPlacedCode pool places names (emission b first states given)
     → IsWrittenCode pool places names (emission b first states given)
-written_code Faults names c number method b first states given pool places has are well ids placed =
+written_code Faults names c number method b first states given pool places has are well integers placed =
     let locals = subst (λ (n : ℕ). n ≤ 65535) (locals_are b first states given well) placed.locals in
-    let spelled = is_spelled Faults names c number method b first states given has are well locals ids placed.few in
+    let spelled = is_spelled Faults names c number method b first states given has are well locals integers placed.few in
     record {
       named = placed.named;
       frames_named = placed.frames_named;

@@ -14,7 +14,7 @@ use Rattle.jc_body.specs.BodyOf.{IsBody}
 use Rattle.jc_body.specs.Coded.{code_bodies}
 use Rattle.jc_kinds.specs.Answers.{AreStates}
 use Rattle.jc_kinds.specs.Checked.{Checked}
-use Rattle.jc_methods.specs.ProbeMembers.{data_name, data_type, fetch_name, fetch_type, init_flags, init_name, init_type, most_probes, runtime_class}
+use Rattle.jc_methods.specs.ProbeMembers.{data_name, data_type, fetch_name, fetch_type, init_flags, init_name, init_type, most_short, runtime_class}
 use Rattle.jc_plan.specs.Probed.{probe_count}
 use Rattle.jc_emit.specs.Emission.{emission, HasFrameStates, IsArrayNumber}
 use Rattle.jc_emit.specs.Straddling.{NoneStraddles}
@@ -70,8 +70,8 @@ pub record IsWrittenMethod (names : Names) (c twin : ClassFile) (places : CodePl
     (states : List State) (first : ℕ) : Type 0 where
   pub major : twin.major ≡ c.major
   pub this_class : twin.this_class ≡ c.this_class
-  -- its ids are among those that a class has at most
-  pub ids : first + probe_count b ≤ most_probes
+  -- its ids can be pushed as they stand in the code
+  pub ids : first + probe_count b ≤ most_short + 1
   pub pool : IsGrownPool c.pool twin.pool b.owner places
   pub source : IsSource names c method b states array
   pub fits : IsFitting names twin.pool places (emission b first states (by_method array))
