@@ -37,7 +37,7 @@ use Rattle.jc_emit.specs.Items.{twin_items}
 use Rattle.jc_emit.specs.TwinFrames.{state_at}
 use Rattle.jc_emit.specs.Twin.{Twin}
 use Rattle.jc_emit.specs.TwinBody.{twin_body}
-use Rattle.jc_emit.specs.TwinProgram.{IsAddedName, TwinProgram}
+use Rattle.jc_twin_programs.specs.TwinProgram.{IsAddedName, TwinProgram}
 use Rattle.jc_emit.proofs.TwinBodyLaws.{has_twin}
 use Rattle.examples_machine.specs.ProgramExamples.{div, div_program}
 use Rattle.examples_machine.proofs.FitExampleLaws.{no_falls, return_ends, int_is_type}

@@ -22,7 +22,8 @@ use Rattle.jc_emit.specs.Emission.{Emitting}
 use Rattle.jc_emit.specs.Marks.{push, TwinPlaces}
 use Rattle.jc_emit.specs.Straddling.{NoneStraddles}
 use Rattle.jc_emit.specs.TwinBody.{use_at, HasFreePlaces}
-use Rattle.jc_emit.specs.TwinProgram.{IsChangedPair, IsAddedName, HasTwinBody, TwinProgram}
+use Rattle.jc_emit.specs.TwinBodies.{HasTwinBody}
+use Rattle.jc_twin_programs.specs.TwinProgram.{IsChangedPair, IsAddedName, TwinProgram}
 use Rattle.examples_machine.specs.ProgramExamples.{program, init, class, probed_class, frame}
 
 abbrev pub names : List (List ℕ)

@@ -27,7 +27,7 @@ use Rattle.jc_emit.specs.Items.{twin_items}
 use Rattle.jc_emit.specs.TwinFrames.{state_at}
 use Rattle.jc_emit.specs.Twin.{Twin}
 use Rattle.jc_emit.specs.TwinBody.{twin_body}
-use Rattle.jc_emit.specs.TwinProgram.{IsAddedName, TwinProgram}
+use Rattle.jc_twin_programs.specs.TwinProgram.{IsAddedName, TwinProgram}
 use Rattle.jc_emit.proofs.TwinBodyLaws.{has_twin}
 use Rattle.jc_machine_model.specs.Programs.{IsProgramBody, IsLinked}
 use Rattle.examples_machine.specs.ProgramExamples.{a_name, abs, abs_program, probed_abs, probed_abs_program, class, frame}

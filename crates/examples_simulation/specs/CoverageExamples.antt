@@ -10,7 +10,7 @@ use Rattle.jc_programs.specs.declared.run_plan.RunPlan.{RunPlan}
 use Rattle.jc_programs.specs.declared.run_plan.Schedule.TheVariants as schedules
 use Rattle.jc_programs.specs.Turns.{turns_in}
 use Rattle.jc_emit.specs.Marks.{Marks}
-use Rattle.jc_emit.specs.TwinProgram.{TwinProgram}
+use Rattle.jc_twin_programs.specs.TwinProgram.{TwinProgram}
 use Rattle.jc_cover.specs.Marking.{coverage_of}
 use Rattle.jc_machine_model.specs.World.{Hit}
 use Rattle.jc_machine_model.specs.Run.{run, IsHit}

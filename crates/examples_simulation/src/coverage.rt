@@ -2,7 +2,7 @@
 ghost use Rattle.std.specs.Prelude.{◌≡◌, true, false, None, [], ◌∷◌};
 ghost use Rattle.jc_programs.specs.Turns.{turns_in};
 ghost use Rattle.jc_programs.specs.declared.run_end.Thrown.TheVariants as thrown;
-ghost use Rattle.jc_emit.specs.TwinProgram.{TwinProgram};
+ghost use Rattle.jc_twin_programs.specs.TwinProgram.{TwinProgram};
 ghost use Rattle.jc_machine_model.specs.Run.{run};
 ghost use Rattle.jc_machine_model.specs.World.{threw};
 ghost use Rattle.examples_machine.specs.EdgeExamples.{edge};

@@ -13,7 +13,7 @@ ghost use Rattle.jc_machine_model.specs.Run.{run};
 ghost use Rattle.jc_twin_simulation.specs.Kept.{kept, row};
 ghost use Rattle.jc_twin_simulation.specs.Same.{Same};
 ghost use Rattle.jc_twin_simulation.specs.Spread.{IsSpread};
-ghost use Rattle.jc_emit.specs.TwinProgram.{TwinProgram};
+ghost use Rattle.jc_twin_programs.specs.TwinProgram.{TwinProgram};
 ghost use Rattle.examples_machine.specs.ProgramExamples.{abs_program, probed_abs_program, inc_program, probed_inc_program};
 ghost use Rattle.examples_simulation.specs.SimulationExamples.{inc_marks, one_inc, one_begun, two_begun};
 ghost use Rattle.examples_simulation.specs.SimulationExamples.{probed_nothing_program, nothing_marks, nothing_begun};

@@ -5,7 +5,7 @@ use Rattle.jc_exec.specs.declared.hits.ClassHits.{ClassHits}
 use Rattle.jc_exec.specs.Store.{Store}
 use Rattle.jc_methods.specs.declared.body.Body.{Body}
 use Rattle.jc_methods.specs.VerificationTypes.{Names}
-use Rattle.jc_emit.specs.TwinProgram.{AreSameBodies}
+use Rattle.jc_emit.specs.TwinBodies.{AreSameBodies}
 use Rattle.jc_link_programs.specs.SameProgram.{IsSameLinked, AreSameClasses, IsSameProgram}
 use Rattle.jc_programs.specs.declared.program.Program.{Program}
 use Rattle.jc_programs.specs.declared.program.Linked.{Linked}

@@ -35,8 +35,6 @@ pub mod TwinSegmentLaws
 pub mod TwinCheckedLaws
 pub mod InitLaws
 pub mod TwinBodyLaws
-pub mod ProgramLaws
-pub mod SeenProgramLaws
 pub mod FewLaws
 pub mod PlanReadsLaws
 pub mod TableLaws

@@ -24,7 +24,7 @@ use Rattle.jc_emit.specs.TwinTables.{moved_row}
 use Rattle.jc_emit.specs.Local.{OkRow, no_ids, unchanged_items}
 use Rattle.jc_emit.specs.Twin.{Twin, NamesIntegers, NamesProbes}
 use Rattle.jc_emit.specs.Seen.{IsSeen, IsSeenUnchanged, GetsArray, IsInsnOf, AreInsnsOf, unchanged_marks, OkRows}
-use Rattle.jc_emit.specs.TwinProgram.{IsSameBody}
+use Rattle.jc_emit.specs.TwinBodies.{IsSameBody}
 use Rattle.jc_emit.proofs.BuiltLaws.{starts_at}
 use Rattle.jc_emit.proofs.EdgeIdLaws.{item_within}
 use Rattle.jc_emit.proofs.KnownLaws.{code_known, marks_known, leads_known, lands_known}

@@ -14,8 +14,7 @@ pub mod Local
 pub mod Seen
 pub mod Ranks
 pub mod Added
-pub mod TwinProgram
-pub mod SeenProgram
+pub mod TwinBodies
 pub mod Placing
 pub mod Written
 pub mod Tables

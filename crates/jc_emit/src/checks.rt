@@ -1,14 +1,12 @@
 //! Laws of instrumented code and the kind check.
-ghost use Rattle.std.specs.Prelude.{ℕ, ℤ, List, Contains};
+ghost use Rattle.std.specs.Prelude.{ℕ, ℤ, List};
 ghost use Rattle.jc_methods.specs.VerificationTypes.{Names};
 ghost use Rattle.jc_methods.specs.declared.body.Body.{Body};
 ghost use Rattle.jc_kinds.specs.Checked.{Checked};
-ghost use Rattle.jc_programs.specs.declared.program.Linked.{Linked};
-ghost use Rattle.jc_programs.specs.declared.program.Program.{Program};
 ghost use Rattle.jc_methods.specs.declared.probe_members.Fetch.{Fetch};
 ghost use Rattle.jc_emit.specs.Added.{giver_of, IsAddedBody};
 ghost use Rattle.jc_emit.specs.Told.{CanHaveTwin};
-ghost use Rattle.jc_emit.specs.TwinProgram.{TwinProgram, HasTwinBody};
+ghost use Rattle.jc_emit.specs.TwinBodies.{HasTwinBody};
 
 /// The twin of a body that passes the kind check passes it too, where its class's method or constant gives it the array.
 pub fn each_twin_is_verified()
@@ -20,10 +18,4 @@ pub fn each_twin_is_verified()
 pub fn each_init_is_verified()
     ensures { (fetch : Fetch) (names : Names) (class : List ℕ) (id : ℤ) (count : ℕ) (b : Body) → IsAddedBody fetch names class id count b
         → Checked names b }
-{}
-
-/// Each body of the twin of a program passes the kind check.
-pub fn each_twin_program_is_verified()
-    ensures { (p p' : Program) → TwinProgram p p' → (c : Linked) → Contains p'.classes c → (b : Body) → Contains c.bodies b
-        → Checked p'.names b }
 {}

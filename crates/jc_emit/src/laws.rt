@@ -21,7 +21,7 @@ ghost use Rattle.jc_emit.specs.Local.{AllOk, OkRow, IsOfBranch, id_in, no_ids, u
 ghost use Rattle.jc_emit.specs.Marks.{TwinPlaces, Marks, HasEachIdOnce, image_place, land_place, lead_place};
 ghost use Rattle.jc_emit.specs.Ranks.{IsRanked};
 ghost use Rattle.jc_emit.specs.Seen.{IsSeen, IsSeenUnchanged, unchanged_marks};
-ghost use Rattle.jc_emit.specs.TwinProgram.{IsSameBody};
+ghost use Rattle.jc_emit.specs.TwinBodies.{IsSameBody};
 ghost use Rattle.jc_emit.specs.Told.{twin_code, NamesIds, HasEdges, HasWideFrames, HasTwin};
 ghost use Rattle.jc_emit.specs.Twin.{Twin, AreTwinMarks, IsEmitted};
 ghost use Rattle.jc_emit.specs.TwinCode.{IsTwinCode};

@@ -7,7 +7,6 @@ mod frames;
 mod image;
 mod laws;
 mod places;
-mod programs;
 mod segments;
 mod stages;
 mod straddling;
@@ -15,7 +14,7 @@ mod switches;
 mod tables;
 mod written;
 
-pub use checks::{each_init_is_verified, each_twin_is_verified, each_twin_program_is_verified};
+pub use checks::{each_init_is_verified, each_twin_is_verified};
 pub use emitting::emit;
 pub use laws::{
     each_body_has_a_twin, each_emission_is_told, each_image_comes_soon, each_image_stands,
@@ -24,7 +23,6 @@ pub use laws::{
     each_unchanged_body_goes_on, each_wide_frame_is_told, each_wide_twin_is_wide,
 };
 pub use places::Places;
-pub use programs::{each_body_is_owned, each_body_is_seen, each_class_has_its_pair};
 pub use stages::{EmittedCode, EmittedParts, PlacedBody, emit_code, emit_parts};
 pub use straddling::straddles;
 pub use tables::MovedTables;

@@ -4,7 +4,7 @@ use Rattle.std.specs.List.{AllByRecursion, find}
 use Rattle.jc_bytes.specs.ByteLists.{AreBytes}
 use Rattle.jc_programs.specs.declared.program.Program.{Program}
 use Rattle.jc_programs.specs.declared.run_plan.ThreadLine.{ThreadLine}
-use Rattle.jc_emit.specs.TwinProgram.{TwinProgram}
+use Rattle.jc_twin_programs.specs.TwinProgram.{TwinProgram}
 use Rattle.jc_link_programs.specs.Linking.{IsProgramOf, IsLinkRefusal}
 use Rattle.jc_link_programs.specs.declared.link_refusal.LinkRefusal.{LinkRefusal}
 use Rattle.jc_link_laws.specs.SecondLinking.{IsSecondRefusal}

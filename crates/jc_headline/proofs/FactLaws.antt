@@ -22,7 +22,7 @@ use Rattle.jc_class.proofs.FirstBadLaws.{one_class_of}
 use Rattle.jc_plan.specs.Probed.{probe_count}
 use Rattle.jc_pool.specs.Lookup.{class_name_of}
 use Rattle.jc_emit.specs.Added.{IsAddedBody}
-use Rattle.jc_emit.specs.TwinProgram.{AreTwinBodies}
+use Rattle.jc_emit.specs.TwinBodies.{AreTwinBodies}
 use Rattle.jc_instrument.specs.Analysis.{IsAnalysis}
 use Rattle.jc_instrument.specs.Bodies.{AreBodies, AreBodiesUnless}
 use Rattle.jc_instrument.specs.LeftAlone.{is_left_alone}

@@ -19,7 +19,7 @@ use Rattle.jc_body.specs.declared.coded.Coded.{Coded}
 use Rattle.jc_body.proofs.CodedLaws.{no_items, one_coded}
 use Rattle.jc_body.proofs.SizeLaws.{insns_short}
 use Rattle.jc_plan.specs.Probed.{probe_count}
-use Rattle.jc_emit.specs.TwinProgram.{AreTwinBodies}
+use Rattle.jc_emit.specs.TwinBodies.{AreTwinBodies}
 use Rattle.jc_instrument.specs.Bodies.{IsListed}
 use Rattle.jc_instrument_laws.specs.TwinClass.{TwinClass}
 use Rattle.jc_link_programs.specs.declared.link_refusal.LinkRefusal.{LinkRefusal}

@@ -6,7 +6,7 @@ use Rattle.jc_bytes.specs.ByteLists.{AreBytes}
 use Rattle.jc_outside.specs.Outside.{FileMap}
 use Rattle.jc_paths.specs.Paths.{in_folder}
 use Rattle.jc_programs.specs.declared.program.Program.{Program}
-use Rattle.jc_emit.specs.TwinProgram.{TwinProgram}
+use Rattle.jc_twin_programs.specs.TwinProgram.{TwinProgram}
 use Rattle.jc_exec.specs.Store.{Store}
 use Rattle.jc_exec.specs.Writing.{exec_text}
 use Rattle.jc_run_plans.specs.Plans.{IsPlanText}

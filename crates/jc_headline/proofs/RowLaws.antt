@@ -19,7 +19,7 @@ use Rattle.jc_plan.specs.Probed.{is_probed, id_of, first_id, probe_count}
 use Rattle.jc_plan.proofs.IdsLaws.{ids_within}
 use Rattle.jc_plan.proofs.OneWayLaws.{firsts_rise}
 use Rattle.jc_emit.specs.Marks.{Marks}
-use Rattle.jc_emit.specs.TwinProgram.{TwinProgram}
+use Rattle.jc_twin_programs.specs.TwinProgram.{TwinProgram}
 use Rattle.jc_cover.specs.declared.coverage.Coverage.{Coverage}
 use Rattle.jc_cover.specs.Covered.{is_hit, IsChain, Covered, TellsCovered}
 use Rattle.jc_cover.specs.Marking.{coverage_of}

@@ -28,7 +28,7 @@ use Rattle.jc_programs.specs.declared.run_plan.RunPlan.{RunPlan}
 use Rattle.jc_programs.specs.declared.run_end.Entry.{Entry}
 use Rattle.jc_programs.specs.Turns.{turns_in}
 use Rattle.jc_emit.specs.Marks.{Marks}
-use Rattle.jc_emit.specs.TwinProgram.{TwinProgram}
+use Rattle.jc_twin_programs.specs.TwinProgram.{TwinProgram}
 use Rattle.jc_exec.specs.Writing.{exec_text}
 use Rattle.jc_cover.specs.declared.coverage.Coverage.{Coverage}
 use Rattle.jc_cover.specs.Covered.{is_hit, TellsCovered}

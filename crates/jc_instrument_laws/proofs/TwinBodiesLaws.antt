@@ -26,7 +26,7 @@ use Rattle.jc_plan.specs.Probed.{first_id, probe_count}
 use Rattle.jc_emit.specs.Added.{giver_of}
 use Rattle.jc_emit.specs.Marks.{TwinPlaces}
 use Rattle.jc_emit.specs.Twin.{Twin}
-use Rattle.jc_emit.specs.TwinProgram.{AreTwinBodies}
+use Rattle.jc_emit.specs.TwinBodies.{AreTwinBodies}
 use Rattle.jc_layout.specs.LaidBody.{laid_body, laid_frames}
 use Rattle.jc_layout.specs.Layout.{is_wide}
 use Rattle.jc_instrument_code.specs.TwinCode.{twin_code, written_frames}

@@ -9,7 +9,7 @@ use Rattle.jc_class.specs.ClassText.{ClassText}
 use Rattle.jc_class.specs.declared.class_file.ClassFile.{ClassFile}
 use Rattle.jc_body.specs.BodyOf.{BodyOfAnySize, Bodiless}
 use Rattle.jc_emit.specs.Added.{IsInitBody, giver_of}
-use Rattle.jc_emit.specs.TwinProgram.{AreTwinBodies}
+use Rattle.jc_emit.specs.TwinBodies.{AreTwinBodies}
 use Rattle.jc_plan.specs.Analysed.{all_probes}
 use Rattle.jc_instrument.specs.Bodies.{AreBodies, IsListed}
 use Rattle.jc_instrument.specs.Needed.{name_of, needed, signed_id}

@@ -38,7 +38,8 @@ use Rattle.jc_body.proofs.AnswerLaws.{bodiless_or_body}
 use Rattle.jc_plan.specs.Analysed.{all_probes}
 use Rattle.jc_plan.specs.Probed.{probe_count}
 use Rattle.jc_emit.specs.Added.{HasInitFrame, IsInitBody, IsAddedBody, init_code, giver_of, bootstrap_of, data_static, added_statics}
-use Rattle.jc_emit.specs.TwinProgram.{IsSameBody, AreSameBodies, AreTwinBodies, IsChangedPair}
+use Rattle.jc_emit.specs.TwinBodies.{IsSameBody, AreSameBodies, AreTwinBodies}
+use Rattle.jc_twin_programs.specs.TwinProgram.{IsChangedPair}
 use Rattle.jc_instrument_reread.proofs.OneBodyLaws.{same_bodies}
 use Rattle.jc_instrument.specs.Bodies.{AreBodies, IsListed}
 use Rattle.jc_instrument.specs.Causes.{NoCause, unless}

@@ -22,7 +22,7 @@ use Rattle.jc_emit.specs.Sizes.{TwinForm, insn_at, arms_at, late_probe}
 use Rattle.jc_emit.specs.Twin.{NamesProbes, Twin, AreFramesOf}
 use Rattle.jc_emit.specs.TwinCode.{arm_place, to_of}
 use Rattle.jc_emit.specs.TwinFrames.{no_state, state_at, operands_of, left_by, state_behind, IsOldFrame, IsInverseFrame, IsArmFrame, IsWideFrame, IsFrame}
-use Rattle.jc_emit.specs.TwinProgram.{IsSameBody, AreSameBodies, HasTwinBody, AreTwinBodies}
+use Rattle.jc_emit.specs.TwinBodies.{IsSameBody, AreSameBodies, HasTwinBody, AreTwinBodies}
 use Rattle.jc_instrument.proofs.SameAnalysisLaws.{same_count}
 use Rattle.jc_instrument.proofs.SameItemsLaws.{same_probe}
 use Rattle.jc_instrument.proofs.RoomCauseLaws.{no_frames}

@@ -15,7 +15,7 @@ use Rattle.jc_programs.specs.declared.program.Program.{Program}
 use Rattle.jc_class.specs.ClassId.{class_id}
 use Rattle.jc_class.specs.declared.class_file.ClassFile.{ClassFile}
 use Rattle.jc_class.proofs.FirstBadLaws.{one_class_of}
-use Rattle.jc_emit.specs.TwinProgram.{IsPair}
+use Rattle.jc_twin_programs.specs.TwinProgram.{IsPair}
 use Rattle.jc_instrument.specs.Causes.{NoCause}
 use Rattle.jc_instrument.specs.Refused.{probe_causes}
 use Rattle.jc_instrument.proofs.OneReasonLaws.{none_or_some}

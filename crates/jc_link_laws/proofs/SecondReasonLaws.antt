@@ -29,7 +29,7 @@ use Rattle.jc_kinds.proofs.CheckLaws.{checked_not_missing, checked_not_clash}
 use Rattle.jc_plan.specs.Probed.{probe_count}
 use Rattle.jc_emit.specs.Added.{giver_of}
 use Rattle.jc_emit.specs.Straddling.{NoneStraddles}
-use Rattle.jc_emit.specs.TwinProgram.{AreTwinBodies}
+use Rattle.jc_emit.specs.TwinBodies.{AreTwinBodies}
 use Rattle.jc_emit.proofs.InitLaws as inits
 use Rattle.jc_emit.proofs.TwinCheckedLaws as checks
 use Rattle.jc_instrument_reread.proofs.OneBodyLaws.{same_bodies}

@@ -11,7 +11,7 @@ use Rattle.jc_programs.specs.declared.program.Linked.{Linked}
 use Rattle.jc_programs.specs.declared.program.Program.{Program}
 use Rattle.jc_class.proofs.WritableLaws.{class_holds}
 use Rattle.jc_kinds.specs.Checked.{Checked}
-use Rattle.jc_emit.specs.TwinProgram.{IsPair, ArePairs, DifferInName, AreChecked, TwinProgram}
+use Rattle.jc_twin_programs.specs.TwinProgram.{IsPair, ArePairs, DifferInName, AreChecked, TwinProgram}
 use Rattle.jc_instrument.proofs.FrameCauseLaws.{each_at}
 use Rattle.jc_instrument.proofs.PoolTextLaws.{class_pool}
 use Rattle.jc_instrument.proofs.SomeBodiesLaws.{made_well}

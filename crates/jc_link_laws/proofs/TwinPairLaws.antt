@@ -19,7 +19,7 @@ use Rattle.jc_class.specs.ClassId.{class_id}
 use Rattle.jc_class.specs.declared.class_file.ClassFile.{ClassFile}
 use Rattle.jc_class.specs.declared.class_file.Member.{Member}
 use Rattle.jc_class.proofs.FirstBadLaws.{one_class_of}
-use Rattle.jc_emit.specs.TwinProgram.{HasNoAdded, IsAddedName, HasNeither, IsUnchangedPair}
+use Rattle.jc_twin_programs.specs.TwinProgram.{HasNoAdded, IsAddedName, HasNeither, IsUnchangedPair}
 use Rattle.jc_instrument.specs.Causes.{NoCause}
 use Rattle.jc_instrument.specs.Reasons.{HasAdded, HasAddedName}
 use Rattle.jc_instrument.specs.Refused.{IsAccepted, probe_causes}

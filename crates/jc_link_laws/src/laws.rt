@@ -4,7 +4,7 @@ ghost use Rattle.std.specs.List.{AllByRecursion};
 ghost use Rattle.jc_bytes.specs.ByteLists.{AreBytes};
 ghost use Rattle.jc_bytes.specs.Reader.{most_read};
 ghost use Rattle.jc_programs.specs.declared.program.Program.{Program};
-ghost use Rattle.jc_emit.specs.TwinProgram.{TwinProgram};
+ghost use Rattle.jc_twin_programs.specs.TwinProgram.{TwinProgram};
 ghost use Rattle.jc_instrument.specs.InstrumentedFile.{IsInstrumentedFile};
 ghost use Rattle.jc_instrument.specs.declared.whole.Instrumented.{Instrumented};
 ghost use Rattle.jc_link_programs.specs.Linking.{IsProgramOf, IsLinkRefusal};

@@ -3,7 +3,7 @@ use Rattle.std.proofs.Common.{◌≡◌, ℕ, zero, suc, ◌<◌, ◌≤◌, Lis
 use Rattle.jc_bytes.proofs.OptionLaws.{none_some, some_is}
 use Rattle.jc_methods.specs.VerificationTypes.{Names}
 use Rattle.jc_methods.specs.declared.body.Body.{Body}
-use Rattle.jc_emit.specs.TwinProgram.{IsSameBody, AreSameBodies}
+use Rattle.jc_emit.specs.TwinBodies.{IsSameBody, AreSameBodies}
 
 -- the bodies stand in the order of their methods
 abbrev pub AreRising : List Body → Type 0

@@ -11,7 +11,7 @@ use Rattle.jc_class.proofs.FirstBadLaws.{one_class_of}
 use Rattle.jc_body.specs.BodyOf.{BodyOf, Bodiless}
 use Rattle.jc_body.proofs.AnswerLaws.{bodiless_or_body}
 use Rattle.jc_instrument_reread.proofs.SameBodyLaws.{AreSame, turned}
-use Rattle.jc_emit.specs.TwinProgram.{IsSameBody, AreSameBodies}
+use Rattle.jc_emit.specs.TwinBodies.{IsSameBody, AreSameBodies}
 use Rattle.jc_instrument.specs.Bodies.{AreBodies, IsListed}
 use Rattle.jc_instrument.proofs.OneBodyLaws.{same_body}
 use Rattle.jc_link_programs.specs.Linking.{IsLinkedOf, IsLinkedClass, AreLinkedClasses}

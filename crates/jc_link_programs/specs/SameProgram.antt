@@ -3,7 +3,7 @@ use Rattle.std.specs.Prelude.{◌≡◌, ⊤, List, [], ◌∷◌}
 use Rattle.jc_methods.specs.VerificationTypes.{Names}
 use Rattle.jc_programs.specs.declared.program.Program.{Program}
 use Rattle.jc_programs.specs.declared.program.Linked.{Linked}
-use Rattle.jc_emit.specs.TwinProgram.{AreSameBodies}
+use Rattle.jc_emit.specs.TwinBodies.{AreSameBodies}
 
 -- the two are equal, where classes are compared by their names
 pub record IsSameLinked (names others : Names) (a b : Linked) : Type 0 where

@@ -26,7 +26,7 @@ use Rattle.jc_plan.specs.ClassEdges.{ProgramEdge, in_its_class}
 use Rattle.jc_plan.proofs.ChosenLaws.{chosen_leads}
 use Rattle.jc_plan.proofs.OneWayLaws.{jumps_one, begins_at}
 use Rattle.jc_emit.specs.Marks.{Marks}
-use Rattle.jc_emit.specs.TwinProgram.{TwinProgram}
+use Rattle.jc_twin_programs.specs.TwinProgram.{TwinProgram}
 use Rattle.jc_cover.specs.declared.coverage.Coverage.{Coverage}
 use Rattle.jc_cover.specs.Covered.{values_of, value_at, Covered, IsCovered, IsProgramCovered, TellsCovered}
 use Rattle.jc_cover.specs.Counters.{is_covered, counters_of}

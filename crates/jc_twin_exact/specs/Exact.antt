@@ -10,7 +10,7 @@ use Rattle.jc_programs.specs.Members.{class_at}
 use Rattle.jc_programs.specs.Entries.{AreEntries}
 use Rattle.jc_plan.specs.ClassEdges.{ProgramEdge}
 use Rattle.jc_emit.specs.Marks.{Marks}
-use Rattle.jc_emit.specs.TwinProgram.{TwinProgram}
+use Rattle.jc_twin_programs.specs.TwinProgram.{TwinProgram}
 use Rattle.jc_cover.specs.Covered.{is_hit, IsProgramCovered}
 use Rattle.jc_machine_model.specs.World.{Thread, returned, Hit}
 use Rattle.jc_machine_model.specs.Methods.{declares_init}

@@ -14,7 +14,7 @@ use Rattle.jc_plan.specs.declared.branch.Branch.{Branch}
 use Rattle.jc_plan.specs.Edges.{branches_of}
 use Rattle.jc_plan.specs.ClassEdges.{ProgramEdge}
 use Rattle.jc_emit.specs.Marks.{Marks}
-use Rattle.jc_emit.specs.TwinProgram.{TwinProgram}
+use Rattle.jc_twin_programs.specs.TwinProgram.{TwinProgram}
 use Rattle.jc_cover.specs.declared.coverage.Coverage.{Coverage}
 use Rattle.jc_cover.specs.Covered.{HasShape, values_of, value_at, TellsCovered}
 use Rattle.jc_cover.specs.Counters.{is_covered, counters_of}

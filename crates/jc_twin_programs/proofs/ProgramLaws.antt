@@ -21,7 +21,8 @@ use Rattle.jc_methods.specs.declared.probe_members.Fetch.{Fetch}
 use Rattle.jc_methods.specs.ProbeMembers.{fetch_of}
 use Rattle.jc_emit.specs.Added.{giver_of}
 use Rattle.jc_emit.specs.Straddling.{NoneStraddles}
-use Rattle.jc_emit.specs.TwinProgram.{AreSameBodies, AreTwinBodies, IsPair, ArePairs, TwinProgram}
+use Rattle.jc_emit.specs.TwinBodies.{AreSameBodies, AreTwinBodies}
+use Rattle.jc_twin_programs.specs.TwinProgram.{IsPair, ArePairs, TwinProgram}
 use Rattle.jc_emit.proofs.InitLaws.{verified as init_verified}
 use Rattle.jc_emit.proofs.TwinCheckedLaws.{verified}
 

@@ -20,8 +20,9 @@ use Rattle.jc_plan.proofs.OneWayLaws.{firsts_rise}
 use Rattle.jc_emit.specs.Added.{IsAddedBody, giver_of}
 use Rattle.jc_emit.specs.Marks.{Marks}
 use Rattle.jc_emit.specs.Seen.{unchanged_marks}
-use Rattle.jc_emit.specs.SeenProgram.{IsSeenTwin, IsSeenSame, IsSeenAt}
-use Rattle.jc_emit.specs.TwinProgram.{AreSameBodies, AreTwinBodies, IsSameBody, HasTwinBody, IsUnchangedPair, IsChangedPair, IsPair, ArePairs, AreOwned, TwinProgram}
+use Rattle.jc_twin_programs.specs.SeenProgram.{IsSeenTwin, IsSeenSame, IsSeenAt}
+use Rattle.jc_emit.specs.TwinBodies.{AreSameBodies, AreTwinBodies, IsSameBody, HasTwinBody}
+use Rattle.jc_twin_programs.specs.TwinProgram.{IsUnchangedPair, IsChangedPair, IsPair, ArePairs, AreOwned, TwinProgram}
 use Rattle.jc_emit.proofs.SeenLaws.{seen, unchanged_seen}
 use Rattle.jc_emit.proofs.OneMarksLaws.{one_marks}
 

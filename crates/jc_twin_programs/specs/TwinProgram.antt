@@ -1,24 +1,20 @@
 -- The twin of a program: the same classes, some of them with their probes.
-use Rattle.std.specs.Prelude.{◌≡◌, ◌⊎◌, ⊤, ℕ, ◌+◌, List, [], ◌∷◌, ◌++◌, map, Some, None, Contains}
+use Rattle.std.specs.Prelude.{◌≡◌, ◌⊎◌, ⊤, ℕ, ◌+◌, List, [], ◌∷◌, ◌++◌, Some, None, Contains}
 use Rattle.std.specs.Int.{w64, cast_signed}
 use Rattle.std.specs.List.{sum_by}
-use Rattle.jc_methods.specs.VerificationTypes.{Names, type_state_at}
+use Rattle.jc_methods.specs.VerificationTypes.{Names}
 use Rattle.jc_methods.specs.WellMade.{IsWellMade}
-use Rattle.jc_methods.specs.declared.kind.State.{State}
 use Rattle.jc_methods.specs.declared.body.Body.{Body}
 use Rattle.jc_programs.specs.declared.program.StaticField.{StaticField}
 use Rattle.jc_programs.specs.declared.program.Linked.{Linked}
 use Rattle.jc_programs.specs.declared.program.Program.{Program}
-use Rattle.jc_kinds.specs.Answers.{AreStates}
 use Rattle.jc_kinds.specs.Checked.{Checked}
 use Rattle.jc_plan.specs.Probed.{probe_count}
-use Rattle.jc_methods.specs.declared.body.What.{What}
-use Rattle.jc_methods.specs.declared.probe_members.Fetch.{Fetch}
 use Rattle.jc_methods.specs.declared.probe_members.Fetch.TheVariants as fetches
 use Rattle.jc_methods.specs.ProbeMembers.{data_name, init_name, fetch_of}
+use Rattle.jc_emit.specs.TwinBodies.{AreSameBodies, AreTwinBodies}
 use Rattle.jc_emit.specs.Added.{IsAddedBody, giver_of, bootstrap_of, added_statics}
 use Rattle.jc_emit.specs.Straddling.{NoneStraddles}
-use Rattle.jc_emit.specs.Twin.{Twin}
 
 -- ---- a class that stays as it is
 
@@ -26,17 +22,6 @@ use Rattle.jc_emit.specs.Twin.{Twin}
 pub record HasNoAdded (class : Linked) : Type 0 where
   pub bodies : (b : Body) → Contains class.bodies b → b.name ≡ init_name → ⊥
   pub statics : (f : StaticField) → Contains class.statics f → f.name ≡ data_name → ⊥
-
--- two bodies are equal, where classes are compared by their names
-pub record IsSameBody (names new_names : Names) (b b' : Body) : Type 0 where
-  pub frames : map (type_state_at new_names) b'.frames ≡ map (type_state_at names) b.frames
-  pub others : b' ≡ record b { frames = b'.frames }
-
-abbrev pub AreSameBodies : Names → Names → List Body → List Body → Type 0
-AreSameBodies names new_names [] [] = ⊤
-AreSameBodies names new_names (b ∷ bodies) (b' ∷ others) =
-    IsSameBody names new_names b b' × AreSameBodies names new_names bodies others
-AreSameBodies names new_names _ _ = ⊥
 
 -- the two are equal
 pub record IsUnchangedPair (names new_names : Names) (class new : Linked) : Type 0 where
@@ -57,19 +42,6 @@ IsAddedName name = (name ≡ init_name) ⊎ (name ≡ data_name)
 pub record HasNeither (class : Linked) : Type 0 where
   pub bodies : (b : Body) → Contains class.bodies b → IsAddedName b.name → ⊥
   pub statics : (f : StaticField) → Contains class.statics f → IsAddedName f.name → ⊥
-
--- the twin of a body whose first id is this one, of a class that gets its array so, from what gives it
-pub record HasTwinBody (names new_names : Names) (fetch : Fetch) (giver : What) (first : ℕ) (b b' : Body) : Type 0 where
-  pub states : List State
-  pub are : AreStates names b states
-  pub twin : Twin names new_names states fetch giver first b b'
-
--- Each body has its twin, in order, and behind them stands one body more. The first ids are told by the bodies in front.
-abbrev pub AreTwinBodies : Names → Names → Fetch → (giver : What) → ℕ → List Body → List Body → Body → Type 0
-AreTwinBodies names new_names fetch giver first [] others added = others ≡ added ∷ []
-AreTwinBodies names new_names fetch giver first (b ∷ bodies) [] added = ⊥
-AreTwinBodies names new_names fetch giver first (b ∷ bodies) (b' ∷ others) added =
-    HasTwinBody names new_names fetch giver first b b' × AreTwinBodies names new_names fetch giver (first + probe_count b) bodies others added
 
 -- The second has a twin of each body of the first, all of which get the array as classes of this version do: by the added method of
 -- their own class, or by the constant that the bootstrap method with one and the same number gives.

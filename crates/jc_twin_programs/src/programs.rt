@@ -7,8 +7,8 @@ ghost use Rattle.jc_programs.specs.declared.program.Linked.{Linked};
 ghost use Rattle.jc_programs.specs.declared.program.Program.{Program};
 ghost use Rattle.jc_plan.specs.Probed.{probe_count, first_id};
 ghost use Rattle.jc_emit.specs.Marks.{Marks};
-ghost use Rattle.jc_emit.specs.SeenProgram.{IsSeenAt, IsSeenInTwin};
-ghost use Rattle.jc_emit.specs.TwinProgram.{AreOwned, IsChangedPair, IsPair, TwinProgram};
+ghost use Rattle.jc_twin_programs.specs.SeenProgram.{IsSeenAt, IsSeenInTwin};
+ghost use Rattle.jc_twin_programs.specs.TwinProgram.{AreOwned, IsChangedPair, IsPair, TwinProgram};
 
 /// Each body of a program is seen beside one of its twin: beside the twin of the body, whose first id is told by the
 /// bodies in front of it, or beside the same body. What is said of the instructions depends on the programs alone.

@@ -26,7 +26,7 @@ use Rattle.jc_emit.specs.Local.{OkImage}
 use Rattle.jc_emit.specs.Marks.{TwinPlaces, Marks, PushesBy, Pushes}
 use Rattle.jc_emit.specs.Sizes.{insn_at}
 use Rattle.jc_emit.specs.Added.{data_static}
-use Rattle.jc_emit.specs.TwinProgram.{IsPair, IsChangedPair, IsUnchangedPair}
+use Rattle.jc_twin_programs.specs.TwinProgram.{IsPair, IsChangedPair, IsUnchangedPair}
 use Rattle.jc_plan.specs.Edges.{sequence}
 use Rattle.jc_machine_model.specs.Values.{Value, probes}
 use Rattle.jc_machine_model.specs.Heap.{HeapObject}

@@ -29,7 +29,8 @@ use Rattle.jc_plan.specs.Probed.{probe_count}
 use Rattle.jc_emit.specs.Items.{Item, start, at_of}
 use Rattle.jc_emit.specs.Local.{OkStart}
 use Rattle.jc_emit.specs.Added.{giver_of, data_static}
-use Rattle.jc_emit.specs.TwinProgram.{AreSameBodies, AreTwinBodies, IsPair}
+use Rattle.jc_emit.specs.TwinBodies.{AreSameBodies, AreTwinBodies}
+use Rattle.jc_twin_programs.specs.TwinProgram.{IsPair}
 use Rattle.jc_machine_model.specs.Values.{Value, null}
 use Rattle.jc_machine_model.specs.World.{running, stuck}
 use Rattle.jc_machine_model.specs.Methods.{is_enterable}

@@ -20,7 +20,8 @@ use Rattle.jc_programs.specs.declared.program.StaticField.{StaticField}
 use Rattle.jc_programs.specs.Members.{class_named, method_named, static_named}
 use Rattle.jc_plan.specs.Probed.{probe_count}
 use Rattle.jc_emit.specs.Added.{IsInitBody, IsAddedBody, giver_of, bootstrap_of, data_static, added_statics}
-use Rattle.jc_emit.specs.TwinProgram.{AreSameBodies, AreTwinBodies, IsPair, IsChangedPair, IsUnchangedPair, DifferInName}
+use Rattle.jc_emit.specs.TwinBodies.{AreSameBodies, AreTwinBodies}
+use Rattle.jc_twin_programs.specs.TwinProgram.{IsPair, IsChangedPair, IsUnchangedPair, DifferInName}
 use Rattle.jc_machine_model.specs.Methods.{is_init_name, declares_init}
 use Rattle.jc_twin_simulation.specs.Mid.{has_data}
 use Rattle.jc_twin_simulation.proofs.PlaceLaws.{place, position_place, place_there, place_before, place_last, place_none, place_is, any_at, none_at, place-map}

@@ -19,7 +19,7 @@ use Rattle.jc_programs.specs.declared.program.Linked.{Linked}
 use Rattle.jc_programs.specs.declared.run_end.Entry.{Entry}
 use Rattle.jc_programs.specs.declared.run_end.Thrown.{Thrown}
 use Rattle.jc_programs.specs.Members.{class_named, class_at, method_named, static_named}
-use Rattle.jc_emit.specs.TwinProgram.{IsPair, IsChangedPair}
+use Rattle.jc_twin_programs.specs.TwinProgram.{IsPair, IsChangedPair}
 use Rattle.jc_emit.specs.Seen.{with_more}
 use Rattle.jc_machine_model.specs.Values.{computational_type}
 use Rattle.jc_machine_model.specs.Methods.{is_init_name, declares_init, is_wide, is_enterable}

@@ -9,9 +9,9 @@ use Rattle.jc_programs.specs.declared.run_plan.Case.{Case}
 use Rattle.jc_programs.specs.declared.run_end.Entry.{Entry}
 use Rattle.jc_programs.specs.Entries.{AreEntries}
 use Rattle.jc_emit.specs.Marks.{Marks}
-use Rattle.jc_emit.specs.SeenProgram.{IsSeenAt}
-use Rattle.jc_emit.specs.TwinProgram.{TwinProgram}
-use Rattle.jc_emit.proofs.SeenProgramLaws.{body_seen, marks_one}
+use Rattle.jc_twin_programs.specs.SeenProgram.{IsSeenAt}
+use Rattle.jc_twin_programs.specs.TwinProgram.{TwinProgram}
+use Rattle.jc_twin_programs.proofs.SeenProgramLaws.{body_seen, marks_one}
 use Rattle.jc_machine_model.specs.Begin.{begin_case}
 use Rattle.jc_twin_simulation.specs.Marking.{AreMarks}
 use Rattle.jc_twin_simulation.specs.Laws.{HaveMarks, HaveOneMarks, HaveSides, CasesBeginTogether, TurnsStayTogether, TogetherIsSame, RunsAreSame, IsKeptBySpread, SchedulesAreKept, ProbeTurnsAreFew}

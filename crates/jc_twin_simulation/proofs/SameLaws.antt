@@ -12,7 +12,7 @@ use Rattle.jc_programs.specs.Members.{class_at}
 use Rattle.jc_emit.specs.Items.{Item, start, image, at_of, extra_of}
 use Rattle.jc_emit.specs.Marks.{Marks}
 use Rattle.jc_emit.specs.Added.{data_static}
-use Rattle.jc_emit.specs.TwinProgram.{IsPair, IsChangedPair}
+use Rattle.jc_twin_programs.specs.TwinProgram.{IsPair, IsChangedPair}
 use Rattle.jc_emit.proofs.ToldLaws.{mapped}
 use Rattle.jc_machine_model.specs.Values.{Value, probes}
 use Rattle.jc_machine_model.specs.World.{Frame, Thread, running, returned, threw, stuck, Shared, World}

@@ -16,12 +16,12 @@ use Rattle.jc_emit.specs.Added.{giver_of}
 use Rattle.jc_emit.specs.Local.{no_ids}
 use Rattle.jc_emit.specs.Marks.{unplaced, Marks}
 use Rattle.jc_emit.specs.Seen.{GetsArray}
-use Rattle.jc_emit.specs.SeenProgram.{IsSeenTwin, IsSeenSame, IsSeenAt}
-use Rattle.jc_emit.specs.TwinProgram.{IsPair, ArePairs, IsChangedPair, TwinProgram}
+use Rattle.jc_twin_programs.specs.SeenProgram.{IsSeenTwin, IsSeenSame, IsSeenAt}
+use Rattle.jc_twin_programs.specs.TwinProgram.{IsPair, ArePairs, IsChangedPair, TwinProgram}
 use Rattle.jc_emit.proofs.EdgeIdLaws.{each_within}
 use Rattle.jc_emit.proofs.RankLaws.{ranked}
 use Rattle.jc_emit.proofs.SeenLaws.{seen as items_seen}
-use Rattle.jc_emit.proofs.SeenProgramLaws.{classes_alike, class_pair, added_last, ids_seen}
+use Rattle.jc_twin_programs.proofs.SeenProgramLaws.{classes_alike, class_pair, added_last, ids_seen}
 use Rattle.jc_machine_model.specs.Methods.{is_init_name}
 use Rattle.jc_machine_model.proofs.BeginLaws.{no_body}
 use Rattle.jc_twin_simulation.specs.Marking.{AreMarks}

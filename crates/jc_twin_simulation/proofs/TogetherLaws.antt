@@ -23,7 +23,7 @@ use Rattle.jc_emit.specs.Local.{IsBehind, StartsOn}
 use Rattle.jc_emit.specs.Marks.{Marks, push, PushesBy, Pushes, prelude_size}
 use Rattle.jc_emit.specs.Seen.{IsPlain}
 use Rattle.jc_emit.specs.Added.{data_static}
-use Rattle.jc_emit.specs.TwinProgram.{IsPair}
+use Rattle.jc_twin_programs.specs.TwinProgram.{IsPair}
 use Rattle.jc_emit.proofs.ToldLaws.{mapped}
 use Rattle.jc_machine_model.specs.Values.{Value, int, probes}
 use Rattle.jc_machine_model.specs.World.{Frame, Thread, running, returned, threw, stuck, Shared, World}

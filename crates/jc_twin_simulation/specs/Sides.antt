@@ -16,7 +16,7 @@ use Rattle.jc_emit.specs.Marks.{TwinPlaces, Marks}
 use Rattle.jc_emit.specs.Ranks.{IsRanked}
 use Rattle.jc_emit.specs.Seen.{OkRows, IsPlain, AreInsnsOf, GetsArray, with_more}
 use Rattle.jc_emit.specs.Twin.{IsSameMethod, KeepsUses}
-use Rattle.jc_emit.specs.TwinProgram.{IsPair, IsChangedPair, IsUnchangedPair, DifferInName}
+use Rattle.jc_twin_programs.specs.TwinProgram.{IsPair, IsChangedPair, IsUnchangedPair, DifferInName}
 use Rattle.jc_machine_model.specs.Values.{Value, probes}
 use Rattle.jc_twin_simulation.specs.ProbeRuns.{AreRuns}
 use Rattle.jc_machine_model.specs.Methods.{is_init_name, declares_init}

@@ -14,7 +14,7 @@ use Rattle.jc_programs.specs.Members.{class_at, body_of}
 use Rattle.jc_programs.specs.declared.run_plan.Case.{Case}
 use Rattle.jc_programs.specs.Entries.{AreEntries}
 use Rattle.jc_emit.specs.Marks.{Marks, Pushes, prelude_size}
-use Rattle.jc_emit.specs.TwinProgram.{TwinProgram}
+use Rattle.jc_twin_programs.specs.TwinProgram.{TwinProgram}
 use Rattle.jc_machine_model.specs.Values.{Value, int, probes}
 use Rattle.jc_machine_model.specs.World.{Frame, Thread, running, stuck, World}
 use Rattle.jc_machine_model.specs.Locals.{is_pair_there}

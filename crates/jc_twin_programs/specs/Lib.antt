@@ -1,0 +1,2 @@
+pub mod TwinProgram
+pub mod SeenProgram
