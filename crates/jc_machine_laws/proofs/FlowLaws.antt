@@ -1,6 +1,6 @@
 -- Each turn keeps a world fitting: effects, jumps and switches.
 use Rattle.std.proofs.Common.{◌≡◌, ⊎_elim, ℕ, zero, suc, ◌+◌, ◌-◌, ◌<◌, ℤ, pos, Bool, true, false, ◌&&◌, cond, List, [], ◌∷◌, ◌++◌}
-use Rattle.std.proofs.Common.{length, Option, Some, None, le_refl, nat_eq, nat_le, nat_lt, refl, sym, ◌∙◌, ap, subst, arith}
+use Rattle.std.proofs.Common.{length, Option, Some, None, nat_eq, nat_le, nat_lt, refl, sym, ◌∙◌, ap, subst, arith}
 use Rattle.std.proofs.Common.{slice_index_or, eq-or-lt_of_le, le_of_suc-le-suc, int_lt, int_le, unsigned_abs, ◌-ℤ◌}
 use Rattle.std.proofs.lemmas.Bool.{eqb-true, eq-eqb, and_parts, false≢true}
 use Rattle.std.specs.Prelude.{Contains}
@@ -33,6 +33,8 @@ use Rattle.jc_machine_model.specs.Jumps.{Tested, zero_test, int_test, reference_
 use Rattle.jc_plan.specs.Chosen.{table_target}
 use Rattle.jc_machine_model.specs.Fits.{IsThere}
 use Rattle.jc_machine_model.specs.Effects as effects
+use Rattle.jc_machine_laws.proofs.TypedLaws.{HoldingTyping}
+use Rattle.jc_machine_laws.proofs.GrowLaws.{same_heap}
 use Rattle.jc_machine_laws.proofs.StepLaws.{EffectThere, Turn, Fine, falls, leads, takes_fine}
 
 -- ---- what effects give is there
@@ -295,10 +297,11 @@ table_among low default arms key = by (int_lt key low)
     by true = (0, omega arith, refl)
     by false = arm_among arms default (unsigned_abs (key -ℤ low))
 
-module _ {program : Program} {s : Shared} {f : Frame} {c : Linked} {b : Body} {insn : Insn} {k t : TypeState} (turn : Turn program s f c b insn k t) where
+module _ {ty : HoldingTyping} {program : Program} {s : Shared} {f : Frame} {c : Linked} {b : Body} {insn : Insn} {k t : TypeState}
+    (turn : Turn ty program s f c b insn k t) where
   pub tests_fine : (op to : ℕ) → step_of b.uses (returns_of b) insn ≡ kinds.moves (forms_at op) → is_conditional_branch op ≡ true
       → op < 202 → LeadsTo b f.place to → FallsThrough insn → (o : Option Tested) → test_of op f.stack ≡ o
-      → Fine program s f b (by_test o to s f)
+      → Fine ty program s f b (by_test o to s f)
   unfolding Fine Parts
   tests_fine op to e i lt l h None q = tt
   tests_fine op to e i lt l h (Some tested) q =
@@ -308,7 +311,7 @@ module _ {program : Program} {s : Shared} {f : Frame} {c : Linked} {b : Body} {i
       (chosen_leads tested.jumps) p.1 (w.count ∙ sym p.2)
       (all_behind (IsThere program s.heap) p.0 tested.stack
       (subst (AllByRecursion (IsThere program s.heap)) p.1 (turn.there).stack)) (turn.there).locals turn.shared
-      (le_refl (length s.heap))
+      (same_heap s.heap)
     where
       chosen_leads : (x : Bool) → LeadsTo b f.place (cond x to (f.place + 1))
       chosen_leads true = l
@@ -316,13 +319,13 @@ module _ {program : Program} {s : Shared} {f : Frame} {c : Linked} {b : Body} {i
 
   pub switches_fine : (leads_to : ℤ → ℕ) → step_of b.uses (returns_of b) insn ≡ kinds.moves (form (wants.Int ∷ []) [] ∷ [])
       → ((key : ℤ) → Contains (targets_of insn) (leads_to key)) → (stack : List Value) → f.stack ≡ stack
-      → Fine program s f b (by_switch leads_to stack s f)
+      → Fine ty program s f b (by_switch leads_to stack s f)
   unfolding Fine
   switches_fine leads_to e among (int key ∷ stack) q =
       takes_fine turn (int key ∷ []) stack (wants.Int ∷ []) (leads_to key) s e (leads turn (leads_to key) (among key)) q refl
-      (subst (AllByRecursion (IsThere program s.heap)) q (turn.there).stack).1 (turn.there).locals turn.shared (le_refl (length s.heap))
+      (subst (AllByRecursion (IsThere program s.heap)) q (turn.there).stack).1 (turn.there).locals turn.shared (same_heap s.heap)
   switches_fine leads_to e among stack q = tt
 
   pub jumps_fine : (to : ℕ) → step_of b.uses (returns_of b) insn ≡ kinds.moves (form [] [] ∷ []) → LeadsTo b f.place to
-      → Fine program s f b (goes s (record { method = f.method; place = to; locals = f.locals; stack = f.stack }))
-  jumps_fine to e l = takes_fine turn [] f.stack [] to s e l refl refl (turn.there).stack (turn.there).locals turn.shared (le_refl (length s.heap))
+      → Fine ty program s f b (goes s (record { method = f.method; place = to; locals = f.locals; stack = f.stack }))
+  jumps_fine to e l = takes_fine turn [] f.stack [] to s e l refl refl (turn.there).stack (turn.there).locals turn.shared (same_heap s.heap)

@@ -1,26 +1,29 @@
 -- What an instruction of a program without frames does.
-use Rattle.std.proofs.Common.{◌≡◌, ℕ, Bool, true, false, ◌&&◌, List, Option, None, Some, option_map, option_and_then, nat_eq, refl, ap, ◌∙◌, if◌then◌else◌}
+use Rattle.std.proofs.Common.{◌≡◌, ℕ, Bool, true, false, ◌&&◌, List, [], ◌∷◌, Option, None, Some, option_map, option_and_then, nat_eq, refl, ap, ◌∙◌, if◌then◌else◌}
 use Rattle.std.specs.List.{slice_get}
+use Rattle.std.specs.Prelude.{bytes_eq, is_some}
 use Rattle.jc_methods.specs.declared.body.Body.{Body}
 use Rattle.jc_methods.specs.declared.body.What.{What}
 use Rattle.jc_methods.specs.declared.body.What.TheVariants as whats
 use Rattle.jc_methods.specs.declared.insn.Insn.{Insn}
 use Rattle.jc_methods.specs.declared.insn.Insn.TheVariants as insns
 use Rattle.jc_methods.specs.Opcode as opcode
+use Rattle.jc_methods.specs.ProbeMembers.{data_type}
 use Rattle.jc_programs.specs.declared.program.Program.{Program}
 use Rattle.jc_programs.specs.declared.program.Linked.{Linked}
 use Rattle.jc_programs.specs.declared.program.ProbeInit.{ProbeInit}
 use Rattle.jc_programs.specs.declared.run_end.Entry.{Entry}
 use Rattle.jc_programs.specs.Members.{class_named, class_at, static_named}
 use Rattle.jc_machine_model.specs.Methods.{is_enterable}
-use Rattle.jc_machine_model.specs.Operations.{Operation, outside, pushes}
+use Rattle.jc_machine_model.specs.Operations.{Operation, casts, outside, pushes}
 use Rattle.jc_machine_model.specs.Values as value
 use Rattle.jc_machine_model.specs.Profile.{Location, in_init, init_of, what_at, declared_field, linked_field, is_print_stream}
 use Rattle.jc_machine_model.specs.Profile.{field_named, callee_named, may_name_method, entered_if, body_entered, class_entered}
 use Rattle.jc_machine_model.specs.Profile.{method_entered, is_fetch, init_call, static_call, virtual_call, special_call, call_named}
+use Rattle.jc_machine_model.specs.Profile.{has_constant, given_by, given_in, computed_operation, constant_operation, made_class, make_operation, begins_with_array, class_operation}
 use Rattle.jc_machine_model.specs.Profile.{member_operation, operation_of}
 use Rattle.jc_machine_laws.specs.Frameless.{frameless_body, frameless_class, frameless}
-use Rattle.jc_machine_laws.proofs.FramelessLookupLaws.{same_class_named, same_class_at, same_body_at, same_callee, same_enterable}
+use Rattle.jc_machine_laws.proofs.FramelessLookupLaws.{same_class_named, same_class_at, same_body_at, same_declares, same_callee, same_enterable}
 
 -- the place that a location names, in the class without the frames of its bodies
 abbrev pub frameless_at : Location → Location
@@ -109,9 +112,43 @@ module _ (p : Program) (at : Location) where
   same_member op (Some whats.MethodKind) = refl
   same_member op (Some (whats.Computed name desc bootstrap)) = refl
 
+  -- ---- the array by a constant
+
+  same_given : (o : Option What) → given_in (frameless_at at) o ≡ given_in at o
+  same_given None = refl
+  same_given (Some (whats.Computed name desc bootstrap)) =
+      ap (λ (d : Bool). given_by (if has_constant at.linked && d then at.linked.probes else None) name desc bootstrap) (same_declares at.linked)
+  same_given (Some what) = refl
+
+  same_begins : (code : List Insn) → begins_with_array (frameless_at at) code ≡ begins_with_array at code
+  same_begins [] = refl
+  same_begins (insns.Constant place ∷ code) = ap (λ (o : Option ProbeInit). is_some o) (same_given (what_at at place))
+  same_begins (insn ∷ code) = refl
+
+  same_constant : (o : Option What) → constant_operation (frameless_at at) o ≡ constant_operation at o
+  same_constant None = refl
+  same_constant (Some (whats.Computed name desc bootstrap)) =
+      ap (computed_operation (frameless_at at)) (same_given (Some (whats.Computed name desc bootstrap)))
+      ∙ by (given_in at (Some (whats.Computed name desc bootstrap)))
+    where
+      by : (o : Option ProbeInit) → computed_operation (frameless_at at) o ≡ computed_operation at o
+      by None = refl
+      by (Some init) = refl
+  same_constant (Some what) = refl
+
+  same_of_class : (op : ℕ) (o : Option What) → class_operation op (frameless_at at) o ≡ class_operation op at o
+  same_of_class op None = refl
+  same_of_class op (Some (whats.Class name)) =
+      ap (λ (z : Bool). if nat_eq op opcode.new then make_operation (made_class name)
+      else if nat_eq op opcode.checkcast then (if nat_eq at.place 1 && (bytes_eq name data_type && z) then casts at.class else outside)
+      else outside) (same_begins at.body.code)
+  same_of_class op (Some what) = refl
+
   -- ---- all instructions
 
   pub same_operation : (i : Insn) → operation_of (frameless p) (frameless_at at) i ≡ operation_of p at i
   unfolding operation_of
   same_operation (insns.Member op place) = same_member op (what_at at place)
+  same_operation (insns.Constant place) = same_constant (what_at at place)
+  same_operation (insns.OfClass op place) = same_of_class op (what_at at place)
   same_operation i = refl

@@ -1,3 +1,6 @@
+pub mod StateLaws
+pub mod TypedLaws
+pub mod PlainlyLaws
 pub mod StackLaws
 pub mod NumberEffectLaws
 pub mod PlaceLaws

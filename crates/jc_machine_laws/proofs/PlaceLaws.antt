@@ -9,7 +9,8 @@ use Rattle.jc_methods.specs.VerificationTypes.{VerificationType, top}
 use Rattle.jc_kinds_after.specs.Step.{Gives, item, given_of}
 use Rattle.jc_machine_model.specs.Values.{Value, null}
 use Rattle.jc_machine_model.specs.Effects.{results_at}
-use Rattle.jc_machine_model.specs.Fits.{IsOfVerificationType, AreOfVerificationTypes, IsStack}
+use Rattle.jc_machine_model.specs.Fits.{IsOfBy, AreOfBy, IsStackBy}
+use Rattle.jc_machine_laws.proofs.TypedLaws.{References}
 use Rattle.jc_machine_laws.proofs.StackLaws.{back_is, reverse_map}
 
 -- ---- values and types at the same places
@@ -18,42 +19,43 @@ use Rattle.jc_machine_laws.proofs.StackLaws.{back_is, reverse_map}
 abbrev pub types_at : List ℕ → List VerificationType → List VerificationType
 types_at places types = map (λ k. slice_index_or types k top) places
 
-pub is_at : (k : ℕ) (values : List Value) (types : List VerificationType) → AreOfVerificationTypes values types
-    → IsOfVerificationType (slice_index_or values k null) (slice_index_or types k top)
-is_at k [] [] p = tt
-is_at k [] (h ∷ types) p = absurd p
-is_at k (v ∷ values) [] p = absurd p
-is_at zero (v ∷ values) (h ∷ types) p = p.0
-is_at (suc k) (v ∷ values) (h ∷ types) p = is_at k values types p.1
+module _ (R : References) where
+  pub is_at : (k : ℕ) (values : List Value) (types : List VerificationType) → AreOfBy R.holds values types
+      → IsOfBy R.holds (slice_index_or values k null) (slice_index_or types k top)
+  is_at k [] [] p = tt
+  is_at k [] (h ∷ types) p = absurd p
+  is_at k (v ∷ values) [] p = absurd p
+  is_at zero (v ∷ values) (h ∷ types) p = p.0
+  is_at (suc k) (v ∷ values) (h ∷ types) p = is_at k values types p.1
 
-pub are_at : (places : List ℕ) (values : List Value) (types : List VerificationType) → AreOfVerificationTypes values types
-    → AreOfVerificationTypes (results_at places values) (types_at places types)
-are_at [] values types p = tt
-are_at (k ∷ places) values types p = (is_at k values types p, are_at places values types p)
+  pub are_at : (places : List ℕ) (values : List Value) (types : List VerificationType) → AreOfBy R.holds values types
+      → AreOfBy R.holds (results_at places values) (types_at places types)
+  are_at [] values types p = tt
+  are_at (k ∷ places) values types p = (is_at k values types p, are_at places values types p)
 
-pub are_below : (n : ℕ) (values : List Value) (types : List VerificationType) → AreOfVerificationTypes values types
-    → AreOfVerificationTypes (drop n values) (drop n types)
-are_below zero values types p = p
-are_below (suc n) [] [] p = tt
-are_below (suc n) [] (h ∷ types) p = absurd p
-are_below (suc n) (v ∷ values) [] p = absurd p
-are_below (suc n) (v ∷ values) (h ∷ types) p = are_below n values types p.1
+  pub are_below : (n : ℕ) (values : List Value) (types : List VerificationType) → AreOfBy R.holds values types
+      → AreOfBy R.holds (drop n values) (drop n types)
+  are_below zero values types p = p
+  are_below (suc n) [] [] p = tt
+  are_below (suc n) [] (h ∷ types) p = absurd p
+  are_below (suc n) (v ∷ values) [] p = absurd p
+  are_below (suc n) (v ∷ values) (h ∷ types) p = are_below n values types p.1
 
-pub are_append : (a b : List Value) (x y : List VerificationType) → AreOfVerificationTypes a x → AreOfVerificationTypes b y
-    → AreOfVerificationTypes (a ++ b) (x ++ y)
-are_append [] b [] y p q = q
-are_append [] b (h ∷ x) y p q = absurd p
-are_append (v ∷ a) b [] y p q = absurd p
-are_append (v ∷ a) b (h ∷ x) y p q = (p.0, are_append a b x y p.1 q)
+  pub are_append : (a b : List Value) (x y : List VerificationType) → AreOfBy R.holds a x → AreOfBy R.holds b y
+      → AreOfBy R.holds (a ++ b) (x ++ y)
+  are_append [] b [] y p q = q
+  are_append [] b (h ∷ x) y p q = absurd p
+  are_append (v ∷ a) b [] y p q = absurd p
+  are_append (v ∷ a) b (h ∷ x) y p q = (p.0, are_append a b x y p.1 q)
 
--- The values at some places of a stack replace so many values on top, and the types at the same places replace as many
--- types: the values that this gives are of the types that it gives.
-pub places_keep_types : (places : List ℕ) (n : ℕ) (stack : List Value) (ks t : List VerificationType) → IsStack stack ks
-    → reverse t ≡ types_at places (reverse ks) ++ drop n (reverse ks) → IsStack (results_at places stack ++ drop n stack) t
-places_keep_types places n stack ks t p e =
-    subst (AreOfVerificationTypes (results_at places stack ++ drop n stack)) (sym e)
-    (are_append (results_at places stack) (drop n stack) (types_at places (reverse ks)) (drop n (reverse ks))
-    (are_at places stack (reverse ks) p) (are_below n stack (reverse ks) p))
+  -- The values at some places of a stack replace so many values on top, and the types at the same places replace as many
+  -- types: the values that this gives are of the types that it gives.
+  pub places_keep_types : (places : List ℕ) (n : ℕ) (stack : List Value) (ks t : List VerificationType) → IsStackBy R.holds stack ks
+      → reverse t ≡ types_at places (reverse ks) ++ drop n (reverse ks) → IsStackBy R.holds (results_at places stack ++ drop n stack) t
+  places_keep_types places n stack ks t p e =
+      subst (AreOfBy R.holds (results_at places stack ++ drop n stack)) (sym e)
+      (are_append (results_at places stack) (drop n stack) (types_at places (reverse ks)) (drop n (reverse ks))
+      (are_at places stack (reverse ks) p) (are_below n stack (reverse ks) p))
 
 -- ---- places as the kind check counts them
 

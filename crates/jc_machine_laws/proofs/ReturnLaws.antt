@@ -32,13 +32,15 @@ use Rattle.jc_machine_model.specs.Heap.{HeapObject}
 use Rattle.jc_machine_model.specs.World.{Frame}
 use Rattle.jc_machine_model.specs.Profile.{Location, method_in, callee_named}
 use Rattle.jc_machine_model.specs.Step.{LocatedInsn, located_in_body, located_in_class, located, given_back}
-use Rattle.jc_machine_model.specs.Fits.{AreInSlots, IsStack, FitsTop, named_by, called_by, parameter_count, FitsWaiting}
+use Rattle.jc_machine_model.specs.Fits.{made_in, nothing_made, AreInSlotsBy, IsStackBy, FitsTopBy, named_by, called_by, parameter_count, FitsWaitingBy}
 use Rattle.jc_machine_model.proofs.BeginLaws.{no_body, map_length}
-use Rattle.jc_machine_laws.proofs.OnwardLaws.{Here, here_of, after_there, onward}
+use Rattle.jc_machine_laws.specs.Typings.{IsFlowing}
+use Rattle.jc_machine_laws.proofs.TypedLaws.{HoldingTyping, holds_in, references_in}
+use Rattle.jc_machine_laws.proofs.OnwardLaws.{Here, here_by, after_there, onward}
 use Rattle.jc_machine_laws.proofs.StackLaws.{below_is, pushed, one_moved}
 use Rattle.jc_machine_laws.proofs.StepLaws.{ReturnFits, with_stack_is}
 use Rattle.jc_machine_laws.proofs.CallLaws.{body_is}
-use Rattle.jc_machine_laws.proofs.StaticLaws.{position_found}
+use Rattle.jc_machine_laws.proofs.StaticLaws.{position_found, kind_anywhere}
 
 -- ---- where a frame stands
 
@@ -93,7 +95,7 @@ named_is program class name desc callee e =
     })
 
 -- the descriptor is that of the method
-desc_of : (program : Program) (name desc : List ℕ) (callee : Entry) (d : Linked) (body : Body) → Named program name desc callee
+pub desc_of : (program : Program) (name desc : List ℕ) (callee : Entry) (d : Linked) (body : Body) → Named program name desc callee
     → class_at program callee.class ≡ Some d → slice_get d.bodies callee.method ≡ Some body → body.desc ≡ desc
 desc_of program name desc callee d body n e g =
     let o = sym (body_is program callee d body e g) ∙ body_is program callee n.linked n.body n.class_is n.body_is in
@@ -129,23 +131,26 @@ calls_it program at insn callee e = absurd (none_some e)
 -- ---- the frame that goes on
 
 -- what comes back stands in the place of the arguments
-stack_back : (program : Program) (heap : List HeapObject) (type : Option FieldType) (v : Option Value) (stack : List Value)
-    (low : List VerificationType) → ReturnFits program heap type v → IsStack stack low → (verification_type : List VerificationType)
-    → IsStack (given_back v (record { method = record { class = 0; method = 0 }; place = 0; locals = []; stack = stack })).stack
-    (low ++ map (given_of verification_type) (result_of type))
+stack_back : (ty : HoldingTyping) (program : Program) (heap : List HeapObject) (b : Body) (type : Option FieldType) (v : Option Value)
+    (stack : List Value) (low : List VerificationType) → ReturnFits ty program heap type v → IsStackBy (holds_in ty heap b) stack low
+    → (operands : List VerificationType)
+    → IsStackBy (holds_in ty heap b) (given_back v (record { method = record { class = 0; method = 0 }; place = 0; locals = []; stack = stack })).stack
+    (low ++ map (given_of operands) (result_of type))
 unfolding ReturnFits
-stack_back program heap None None stack low p q verification_type = subst (IsStack stack) (sym (append-nil low)) q
-stack_back program heap (Some type) (Some v) stack low p q verification_type = pushed v stack (held_of type) low p.0 q
-stack_back program heap None (Some v) stack low p q verification_type = absurd p
-stack_back program heap (Some type) None stack low p q verification_type = absurd p
+stack_back ty program heap b None None stack low p q operands = subst (IsStackBy (holds_in ty heap b) stack) (sym (append-nil low)) q
+stack_back ty program heap b (Some type) (Some v) stack low p q operands =
+    pushed (references_in ty heap b) v stack (held_of type) low (kind_anywhere ty heap nothing_made (made_in b) type v p.0) q
+stack_back ty program heap b None (Some v) stack low p q operands = absurd p
+stack_back ty program heap b (Some type) None stack low p q operands = absurd p
 
-pub back_fits : (program : Program) (heap : List HeapObject) (callee : Entry) (d : Linked) (body : Body) (f : Frame)
-    (v : Option Value) → IsProgram program → class_at program callee.class ≡ Some d → slice_get d.bodies callee.method ≡ Some body
-    → FitsWaiting program f callee → ReturnFits program heap (returns_of body) v → FitsTop program (given_back v f)
-back_fits program heap callee d body f v p e g w r = by v r
+pub back_fits : (ty : HoldingTyping) (program : Program) (heap : List HeapObject) (callee : Entry) (d : Linked) (body : Body) (f : Frame)
+    (v : Option Value) → IsFlowing ty.typing ty.passes program → IsProgram program → class_at program callee.class ≡ Some d
+    → slice_get d.bodies callee.method ≡ Some body → FitsWaitingBy ty.typing.enters (ty.typing.holds heap) program f callee
+    → ReturnFits ty program heap (returns_of body) v → FitsTopBy ty.typing.enters (ty.typing.holds heap) program (given_back v f)
+back_fits ty program heap callee d body f v flowing p e g w r = by v r
   where
     h : (insn : Insn) × Here program f w.stands.linked w.stands.body insn w.state
-    h = here_of program f w.state p w.stands
+    h = here_by ty program flowing heap f w.state p w.stands
 
     after : (t : TypeState) × (after_of w.stands.body f.place w.state ≡ Some t)
     after = after_is program f w.stands.linked w.stands.body h.0 w.state h.1
@@ -185,20 +190,23 @@ back_fits program heap callee d body f v p e g w r = by v r
         ∙ one_moved w.stands.body.max_stack (call_form (method_type_in call.desc)) w.state.stack after.0.stack moved_to.0
 
     goes_on : (stack : List Value)
-        → IsStack stack (w.left ++ map (given_of (upper (length (map want_of (method_type_in call.desc).parameters)) w.state.stack))
+        → IsStackBy (holds_in ty heap w.stands.body) stack
+        (w.left ++ map (given_of (upper (length (map want_of (method_type_in call.desc).parameters)) w.state.stack))
         (result_of (method_type_in call.desc).returns))
-        → FitsTop program (record { method = f.method; place = f.place + 1; locals = f.locals; stack = stack })
-    goes_on stack q = onward program f w.stands.linked w.stands.body h.0 w.state after.0 (f.place + 1) f.locals stack h.1 after.1
+        → FitsTopBy ty.typing.enters (ty.typing.holds heap) program (record { method = f.method; place = f.place + 1; locals = f.locals; stack = stack })
+    goes_on stack q = onward ty program flowing heap f w.stands.linked w.stands.body h.0 w.state after.0 (f.place + 1) f.locals stack h.1
+        w.stands.entered after.1
         (inl (record { insn = h.0; stands = h.1.insn_is; falls = call.falls }, refl))
-        (subst (AreInSlots f.locals) moved_to.1 w.locals) (subst (IsStack stack) stack_is q)
+        (subst (AreInSlotsBy (holds_in ty heap w.stands.body) f.locals) moved_to.1 w.locals) w.pairs (subst (IsStackBy (holds_in ty heap w.stands.body) stack) stack_is q)
 
-    typed : (x : Option Value) → ReturnFits program heap (returns_of body) x → ReturnFits program heap (method_type_in call.desc).returns x
-    typed x q = subst (λ y. ReturnFits program heap (method_type_in y).returns x) type_is q
+    typed : (x : Option Value) → ReturnFits ty program heap (returns_of body) x → ReturnFits ty program heap (method_type_in call.desc).returns x
+    typed x q = subst (λ y. ReturnFits ty program heap (method_type_in y).returns x) type_is q
 
-    by : (x : Option Value) → ReturnFits program heap (returns_of body) x → FitsTop program (given_back x f)
+    by : (x : Option Value) → ReturnFits ty program heap (returns_of body) x
+        → FitsTopBy ty.typing.enters (ty.typing.holds heap) program (given_back x f)
     by None q =
-        goes_on f.stack (stack_back program heap (method_type_in call.desc).returns None f.stack w.left (typed None q) w.stack
+        goes_on f.stack (stack_back ty program heap w.stands.body (method_type_in call.desc).returns None f.stack w.left (typed None q) w.stack
         (upper (length (map want_of (method_type_in call.desc).parameters)) w.state.stack))
     by (Some x) q =
-        goes_on (x ∷ f.stack) (stack_back program heap (method_type_in call.desc).returns (Some x) f.stack w.left
+        goes_on (x ∷ f.stack) (stack_back ty program heap w.stands.body (method_type_in call.desc).returns (Some x) f.stack w.left
         (typed (Some x) q) w.stack (upper (length (map want_of (method_type_in call.desc).parameters)) w.state.stack))

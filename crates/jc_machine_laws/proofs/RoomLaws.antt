@@ -1,39 +1,33 @@
 -- The values on a stack are at most as many as the stack has slots.
-use Rattle.std.proofs.Common.{◌≡◌, ℕ, zero, suc, ◌+◌, ◌≤◌, Bool, true, false, cond, List, [], ◌∷◌, ◌++◌, length, map, reverse}
-use Rattle.std.proofs.Common.{Option, Some, None, nat_eq, refl, sym, ◌∙◌, subst, arith}
+use Rattle.std.proofs.Common.{◌≡◌, ℕ, suc, ◌≤◌, List, [], ◌∷◌, ◌++◌, length, map, reverse}
+use Rattle.std.proofs.Common.{Option, Some, None, refl, sym, ◌∙◌, subst, arith}
 use Rattle.std.proofs.lemmas.List.{length-reverse}
-use Rattle.std.specs.Prelude.{slice_index_or, option_and_then}
+use Rattle.std.specs.Prelude.{slice_index_or}
 use Rattle.std.specs.List.{list_any}
 use Rattle.std.proofs.lemmas.Option.{same_Some}
-use Rattle.jc_bytes.proofs.OptionLaws.{none_some, then_some}
+use Rattle.jc_bytes.proofs.OptionLaws.{none_some}
 use Rattle.jc_bytes.proofs.DecoderLaws.{guard_some}
-use Rattle.jc_methods.specs.declared.insn.Insn.{Insn}
-use Rattle.jc_methods.specs.declared.body.FrameAt.{FrameAt}
 use Rattle.jc_methods.specs.declared.body.Body.{Body}
-use Rattle.jc_methods.specs.EntryState.{entry_of}
-use Rattle.jc_methods.specs.VerificationTypes.{Names, VerificationType, TypeState, verification_type, type_state_at, slots}
-use Rattle.jc_methods.specs.WellMade.{AreFramesFrom, IsWellMade}
-use Rattle.jc_methods.specs.Flow.{falls_at}
-use Rattle.jc_methods.specs.declared.kind.Kind.TheVariants as kinds
+use Rattle.jc_methods.specs.VerificationTypes.{Names, VerificationType, TypeState, slots}
+use Rattle.jc_methods.specs.WellMade.{IsWellMade}
 use Rattle.jc_methods.specs.VerificationTypes as verification
 use Rattle.jc_methods.proofs.WidthLaws.{as_many}
 use Rattle.jc_kinds_after.specs.Wants.{is_int, accepts, accepts_all}
 use Rattle.jc_kinds_after.specs.Step.{Gives, Step, moves, loads, stores, counts, picks, makes, builds, fails, Ground, below, upper, last, limited, moved_by, with_stack, put_local, element_of}
 use Rattle.jc_kinds_after.specs.Step.{is_made, without, class_built, replaced, built_as, given_of, apply}
-use Rattle.jc_kinds_after.specs.After.{step_of, returns_of, insn_at, ground_of, after_of}
+use Rattle.jc_kinds_after.specs.After.{step_of, returns_of, ground_of}
 use Rattle.jc_kinds_after.specs.declared.want.Want.TheVariants as wants
 use Rattle.jc_kinds_after.proofs.KeepLaws.{limit_by, limit}
 use Rattle.jc_kinds_after.proofs.LeaveLaws.{kinds_sum}
-use Rattle.jc_kinds.specs.States.{frames_of, frame_at, or_else, state_of}
+use Rattle.jc_kinds.specs.States.{state_of}
 use Rattle.jc_machine_model.specs.Values.{Value}
 use Rattle.jc_machine_model.specs.Fits.{AreOfVerificationTypes}
 use Rattle.jc_machine_laws.specs.Laws.{RoomFits}
 use Rattle.jc_machine_laws.proofs.OnwardLaws.{here_of}
+use Rattle.jc_machine_laws.proofs.StateLaws.{each_state}
 use Rattle.jc_machine_laws.proofs.StackLaws.{not_chosen}
 use Rattle.jc_machine_laws.proofs.StepLaws.{with_stack_is}
 use Rattle.jc_machine_laws.proofs.CallLaws.{body_is}
-
--- ---- slots
 
 -- ---- the state after an instruction
 
@@ -71,41 +65,11 @@ step_room g fails k t e = absurd (none_some e)
 
 -- ---- states
 
-module _ (names : Names) (code : List Insn) (most_locals most : ℕ) where
-  frame_room : (first : ℕ) (frames : List FrameAt) (i : ℕ) (s : TypeState) → AreFramesFrom first code most_locals most frames
-      → frame_at (map (type_state_at names) frames) i ≡ Some s → slots s.stack ≤ most
-  frame_room first [] i s w e = absurd (none_some e)
-  frame_room first (f ∷ frames) i s w e = by (nat_eq f.at i) (λ g. frame_room (f.at + 1) frames i s w.3 g) e
-    where
-      room : slots (map (verification_type names) f.state.stack) ≤ most
-      room = subst (λ n. n ≤ most) (sym (kinds_sum names f.state.stack)) (w.2).stack
-
-      by : (z : Bool) → (frame_at (map (type_state_at names) frames) i ≡ Some s → slots s.stack ≤ most)
-          → cond z (Some (type_state_at names f).state) (frame_at (map (type_state_at names) frames) i) ≡ Some s → slots s.stack ≤ most
-      by true again g = subst (λ (x : TypeState). slots x.stack ≤ most) (same_Some (type_state_at names f).state s g) room
-      by false again g = again g
-
 pub state_room : (names : Names) (b : Body) → IsWellMade b → (i : ℕ) (s : TypeState) → state_of names b i ≡ Some s → slots s.stack ≤ b.max_stack
-unfolding state_of after_of
-state_room names b w zero s e = by (frame_at (frames_of names b) 0) refl e
-  where
-    by : (o : Option TypeState) → frame_at (frames_of names b) 0 ≡ o → or_else o (Some (entry_of b)) ≡ Some s → slots s.stack ≤ b.max_stack
-    by None q g = subst (λ (x : TypeState). slots x.stack ≤ b.max_stack) (same_Some (entry_of b) s g) (omega arith)
-    by (Some k) q g = frame_room names b.code b.max_locals b.max_stack 0 b.frames 0 s w.of_any_size.frames (q ∙ g)
-state_room names b w (suc i) s e = by (frame_at (frames_of names b) (suc i)) refl e
-  where
-    after : (z : Bool) → cond z (option_and_then (after_of b i) (state_of names b i)) None ≡ Some s → slots s.stack ≤ b.max_stack
-    after true g =
-        let p = then_some (after_of b i) (state_of names b i) s g in
-        let q = then_some (λ (insn : Insn). apply (ground_of b i) (step_of b.uses (returns_of b) insn) p.0) (insn_at b i) s p.2 in
-        step_room (ground_of b i) (step_of b.uses (returns_of b) q.0) p.0 s q.2
-    after false g = absurd (none_some g)
-
-    by : (o : Option TypeState) → frame_at (frames_of names b) (suc i) ≡ o
-        → or_else o (cond (falls_at (insn_at b i)) (option_and_then (after_of b i) (state_of names b i)) None) ≡ Some s
-        → slots s.stack ≤ b.max_stack
-    by None q g = after (falls_at (insn_at b i)) g
-    by (Some k) q g = frame_room names b.code b.max_locals b.max_stack 0 b.frames (suc i) s w.of_any_size.frames (q ∙ g)
+state_room names b w i s e =
+    each_state names b w.of_any_size (λ (x : TypeState). slots x.stack ≤ b.max_stack)
+    (λ f h. subst (λ n. n ≤ b.max_stack) (sym (kinds_sum names f.state.stack)) h.stack) (omega arith)
+    (λ j insn k t h g. step_room (ground_of b j) (step_of b.uses (returns_of b) insn) k t g) i s e
 
 -- ---- frames
 

@@ -14,7 +14,8 @@ use Rattle.jc_kinds_after.specs.Wants.{accepts}
 use Rattle.jc_kinds_after.specs.Step.{kind, StackEffect, below, upper, has_form, limited, moved as moved_kinds, moved_by}
 use Rattle.jc_kinds_after.specs.Table.{form}
 use Rattle.jc_machine_model.specs.Values.{Value, int, long, is_pair, is_reference}
-use Rattle.jc_machine_model.specs.Fits.{IsInt, IsLong, IsOfVerificationType, AreOfVerificationTypes, IsStack}
+use Rattle.jc_machine_model.specs.Fits.{IsInt, IsLong, IsOfBy, AreOfBy, IsStackBy}
+use Rattle.jc_machine_laws.proofs.TypedLaws.{References}
 
 pub reverse_map : {X Y : Type 0} (g : X → Y) (xs : List X) → reverse (map g xs) ≡ map g (reverse xs)
 reverse_map g [] = refl
@@ -41,67 +42,68 @@ pub top_refused : (want : Want) → accepts want verification.top ≡ true → �
 top_refused wants.Int e = false≢true e
 top_refused _ e = false≢true e
 
--- a value takes as many slots as its type, where that is one for an operand
-pub pair_as_type : (want : Want) (v : Value) (h : VerificationType) → IsOfVerificationType v h → accepts want h ≡ true
-    → is_pair v ≡ verification.is_pair h
-pair_as_type want v verification.top k a = absurd (top_refused want a)
-pair_as_type want v verification.int k a = int_single v k
-pair_as_type want v verification.float k a = absurd k
-pair_as_type want v verification.double k a = absurd k
-pair_as_type want v verification.long k a = long_pair v k
-pair_as_type want v h k a = reference_single v k
+module _ (R : References) where
+  -- a value takes as many slots as its type, where that is one for an operand
+  pub pair_as_type : (want : Want) (v : Value) (h : VerificationType) → IsOfBy R.holds v h → accepts want h ≡ true
+      → is_pair v ≡ verification.is_pair h
+  pair_as_type want v verification.top k a = absurd (top_refused want a)
+  pair_as_type want v verification.int k a = int_single v k
+  pair_as_type want v verification.float k a = absurd k
+  pair_as_type want v verification.double k a = absurd k
+  pair_as_type want v verification.long k a = long_pair v k
+  pair_as_type want v h k a = reference_single v (R.reference v h k)
 
--- ---- pushing and popping
+  -- ---- pushing and popping
 
-pub pushed : (v : Value) (stack : List Value) (h : VerificationType) (ks : List VerificationType) → IsOfVerificationType v h
-    → IsStack stack ks → IsStack (v ∷ stack) (ks ++ h ∷ [])
-pushed v stack h ks p q = subst (λ l. AreOfVerificationTypes (v ∷ stack) l) (sym (reverse-append ks (h ∷ []))) (p, q)
+  pub pushed : (v : Value) (stack : List Value) (h : VerificationType) (ks : List VerificationType) → IsOfBy R.holds v h
+      → IsStackBy R.holds stack ks → IsStackBy R.holds (v ∷ stack) (ks ++ h ∷ [])
+  pushed v stack h ks p q = subst (λ l. AreOfBy R.holds (v ∷ stack) l) (sym (reverse-append ks (h ∷ []))) (p, q)
 
--- the type of the value on top, and the types below it
-pub record Top (v : Value) (stack : List Value) (ks : List VerificationType) : Type 0 where
-  pub low : List VerificationType
-  pub kind : VerificationType
-  pub parts : ks ≡ low ++ kind ∷ []
-  pub is : IsOfVerificationType v kind
-  pub below : IsStack stack low
+  -- the type of the value on top, and the types below it
+  pub record Top (v : Value) (stack : List Value) (ks : List VerificationType) : Type 0 where
+    pub low : List VerificationType
+    pub kind : VerificationType
+    pub parts : ks ≡ low ++ kind ∷ []
+    pub is : IsOfBy R.holds v kind
+    pub below : IsStackBy R.holds stack low
 
-pub top_by : (v : Value) (stack : List Value) (ks r : List VerificationType) → reverse ks ≡ r → AreOfVerificationTypes (v ∷ stack) r → Top v stack ks
-top_by v stack ks [] e p = absurd p
-top_by v stack ks (h ∷ r) e p = record {
-  low = reverse r;
-  kind = h;
-  parts = sym (reverse-reverse ks) ∙ ap reverse e ∙ reverse-append (h ∷ []) r;
-  is = p.0;
-  below = subst (λ l. AreOfVerificationTypes stack l) (sym (reverse-reverse r)) p.1;
-}
+  pub top_by : (v : Value) (stack : List Value) (ks r : List VerificationType) → reverse ks ≡ r → AreOfBy R.holds (v ∷ stack) r → Top v stack ks
+  top_by v stack ks [] e p = absurd p
+  top_by v stack ks (h ∷ r) e p = record {
+    low = reverse r;
+    kind = h;
+    parts = sym (reverse-reverse ks) ∙ ap reverse e ∙ reverse-append (h ∷ []) r;
+    is = p.0;
+    below = subst (λ l. AreOfBy R.holds stack l) (sym (reverse-reverse r)) p.1;
+  }
 
-pub top_of : (v : Value) (stack : List Value) (ks : List VerificationType) → IsStack (v ∷ stack) ks → Top v stack ks
-top_of v stack ks p = top_by v stack ks (reverse ks) refl p
+  pub top_of : (v : Value) (stack : List Value) (ks : List VerificationType) → IsStackBy R.holds (v ∷ stack) ks → Top v stack ks
+  top_of v stack ks p = top_by v stack ks (reverse ks) refl p
 
--- the types of the values on top, the deepest first, and the types below them
-pub record Tops (vs stack : List Value) (ks : List VerificationType) : Type 0 where
-  pub low : List VerificationType
-  pub kinds : List VerificationType
-  pub parts : ks ≡ low ++ kinds
-  pub count : length kinds ≡ length vs
-  pub are : AreOfVerificationTypes vs (reverse kinds)
-  pub below : IsStack stack low
+  -- the types of the values on top, the deepest first, and the types below them
+  pub record Tops (vs stack : List Value) (ks : List VerificationType) : Type 0 where
+    pub low : List VerificationType
+    pub kinds : List VerificationType
+    pub parts : ks ≡ low ++ kinds
+    pub count : length kinds ≡ length vs
+    pub are : AreOfBy R.holds vs (reverse kinds)
+    pub below : IsStackBy R.holds stack low
 
-pub tops_of : (vs stack : List Value) (ks : List VerificationType) → IsStack (vs ++ stack) ks → Tops vs stack ks
-tops_of [] stack ks p = record { low = ks; kinds = []; parts = sym (append-nil ks); count = refl; are = tt; below = p }
-tops_of (v ∷ vs) stack ks p =
-    let t = top_of v (vs ++ stack) ks p in
-    let r = tops_of vs stack t.low t.below in
-    let n = r.count in
-    let m = length-append r.kinds (t.kind ∷ []) in
-    record {
-      low = r.low;
-      kinds = r.kinds ++ t.kind ∷ [];
-      parts = t.parts ∙ ap (λ l. l ++ t.kind ∷ []) r.parts ∙ append_assoc r.low r.kinds (t.kind ∷ []);
-      count = grind (arith, n, m);
-      are = subst (λ l. AreOfVerificationTypes (v ∷ vs) l) (sym (reverse-append r.kinds (t.kind ∷ []))) (t.is, r.are);
-      below = r.below;
-    }
+  pub tops_of : (vs stack : List Value) (ks : List VerificationType) → IsStackBy R.holds (vs ++ stack) ks → Tops vs stack ks
+  tops_of [] stack ks p = record { low = ks; kinds = []; parts = sym (append-nil ks); count = refl; are = tt; below = p }
+  tops_of (v ∷ vs) stack ks p =
+      let t = top_of v (vs ++ stack) ks p in
+      let r = tops_of vs stack t.low t.below in
+      let n = r.count in
+      let m = length-append r.kinds (t.kind ∷ []) in
+      record {
+        low = r.low;
+        kinds = r.kinds ++ t.kind ∷ [];
+        parts = t.parts ∙ ap (λ l. l ++ t.kind ∷ []) r.parts ∙ append_assoc r.low r.kinds (t.kind ∷ []);
+        count = grind (arith, n, m);
+        are = subst (λ l. AreOfBy R.holds (v ∷ vs) l) (sym (reverse-append r.kinds (t.kind ∷ []))) (t.is, r.are);
+        below = r.below;
+      }
 
 pub front_is : (low kinds : List VerificationType) → take (length low) (low ++ kinds) ≡ low
 front_is [] kinds = refl
@@ -134,11 +136,12 @@ limited_is false ks t e = absurd (none_some e)
 pub one_moved : (most : ℕ) (f : StackEffect) (ks t : List VerificationType) → moved_by most (f ∷ []) ks ≡ Some t → moved_kinds f ks ≡ t
 one_moved most f ks t e = let p = guard_some (has_form f ks) (limited most (moved_kinds f ks)) t e in limited_is _ (moved_kinds f ks) t p.1
 
--- values that are taken from the top, and one that stands in their place
-pub leaf : (most : ℕ) (vs stack : List Value) (ks : List VerificationType) (wanted : List Want) (h : VerificationType) (v : Value)
-    → length wanted ≡ length vs → IsStack (vs ++ stack) ks → IsOfVerificationType v h
-    → (t : List VerificationType) → moved_by most (form wanted (kind h ∷ []) ∷ []) ks ≡ Some t → IsStack (v ∷ stack) t
-leaf most vs stack ks wanted h v n p q t e =
-    let r = tops_of vs stack ks p in
-    let b = ap (λ l. below (length wanted) l) r.parts ∙ below_is r.low r.kinds (length wanted) (r.count ∙ sym n) in
-    subst (λ l. IsStack (v ∷ stack) l) (ap (λ l. l ++ h ∷ []) (sym b) ∙ one_moved most (form wanted (kind h ∷ [])) ks t e) (pushed v stack h r.low q r.below)
+module _ (R : References) where
+  -- values that are taken from the top, and one that stands in their place
+  pub leaf : (most : ℕ) (vs stack : List Value) (ks : List VerificationType) (wanted : List Want) (h : VerificationType) (v : Value)
+      → length wanted ≡ length vs → IsStackBy R.holds (vs ++ stack) ks → IsOfBy R.holds v h
+      → (t : List VerificationType) → moved_by most (form wanted (kind h ∷ []) ∷ []) ks ≡ Some t → IsStackBy R.holds (v ∷ stack) t
+  leaf most vs stack ks wanted h v n p q t e =
+      let r = tops_of R vs stack ks p in
+      let b = ap (λ l. below (length wanted) l) r.parts ∙ below_is r.low r.kinds (length wanted) (r.count ∙ sym n) in
+      subst (λ l. IsStackBy R.holds (v ∷ stack) l) (ap (λ l. l ++ h ∷ []) (sym b) ∙ one_moved most (form wanted (kind h ∷ [])) ks t e) (pushed R v stack h r.low q r.below)

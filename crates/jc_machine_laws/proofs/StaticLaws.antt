@@ -1,6 +1,6 @@
 -- Each turn keeps a world fitting: static fields.
-use Rattle.std.proofs.Common.{◌≡◌, ◌⊎◌, inl, inr, ⊎_elim, ℕ, zero, suc, ◌+◌, pos, Bool, true, false, ◌&&◌, cond, List, [], ◌∷◌}
-use Rattle.std.proofs.Common.{length, Option, Some, None, is_some, get_or, le_refl, refl, sym, ◌∙◌, ap, subst, slice_set}
+use Rattle.std.proofs.Common.{◌≡◌, ⊎_elim, ℕ, zero, suc, ◌+◌, pos, Bool, true, false, ◌&&◌, cond, List, [], ◌∷◌}
+use Rattle.std.proofs.Common.{Option, Some, None, is_some, get_or, ◌++◌, refl, sym, ◌∙◌, ap, subst, slice_set}
 use Rattle.std.proofs.Common.{slice_index_or}
 use Rattle.std.proofs.lemmas.Option.{slice_get-get_or, same_Some}
 use Rattle.std.proofs.lemmas.List.Quantifiers.{position-Some}
@@ -11,46 +11,41 @@ use Rattle.std.proofs.lemmas.Bool.{and_parts, false≢true}
 use Rattle.jc_bytes.specs.Descriptor.{FieldType, Double, Float, Long, Object, Array}
 use Rattle.jc_bytes.proofs.OptionLaws.{none_some, some_there}
 use Rattle.jc_bytes.proofs.ListLaws.{all_at}
+use Rattle.jc_bytes.proofs.DecoderLaws.{guard_some}
 use Rattle.jc_methods.specs.declared.insn.Insn.{Insn}
 use Rattle.jc_methods.specs.declared.body.Body.{Body}
 use Rattle.jc_methods.specs.DescriptorTypes.{field_type_in}
 use Rattle.jc_methods.specs.EntryState.{held_of}
 use Rattle.jc_methods.specs.Flow.{FallsThrough}
-use Rattle.jc_methods.specs.VerificationTypes.{TypeState}
+use Rattle.jc_methods.specs.VerificationTypes.{VerificationType, TypeState}
+use Rattle.jc_methods.specs.VerificationTypes as verification
 use Rattle.jc_programs.specs.declared.program.Program.{Program}
 use Rattle.jc_programs.specs.declared.program.Linked.{Linked}
 use Rattle.jc_programs.specs.declared.program.StaticField.{StaticField}
 use Rattle.jc_programs.specs.Members.{class_at, static_named}
-use Rattle.jc_kinds_after.specs.declared.want.Want.{Want}
-use Rattle.jc_kinds_after.specs.Step.{kind}
+use Rattle.jc_kinds_after.specs.Wants.{accepts, accepts_all}
+use Rattle.jc_kinds_after.specs.Step.{kind, StackEffect, upper, has_form, limited, moved}
 use Rattle.jc_kinds_after.specs.Table.{form}
-use Rattle.jc_kinds_after.specs.After.{step_of, returns_of}
+use Rattle.jc_kinds_after.specs.After.{want_of, step_of, returns_of}
 use Rattle.jc_kinds_after.specs.Step as kinds
 use Rattle.jc_machine_model.specs.Values.{Value, int, long, ComputationalType, int_type, long_type, reference_type, is_of, computational_type, stored_as}
 use Rattle.jc_machine_model.specs.Heap.{HeapObject}
 use Rattle.jc_machine_model.specs.World.{Frame, Shared}
 use Rattle.jc_machine_model.specs.Results.{goes_with, gets_stuck}
 use Rattle.jc_machine_model.specs.Statics.{static_at, with_static, by_get, is_of_type, by_put}
-use Rattle.jc_machine_model.specs.Fits.{IsInt, IsLong, IsOfVerificationType, IsThere, IsOfType, AreClassStatics, AreStatics}
-use Rattle.jc_machine_laws.proofs.StepLaws.{Turn, Fine, SharedFits, falls, pushes_fine, takes_fine}
+use Rattle.jc_machine_model.specs.Fits.{made_in, nothing_made, IsInt, IsLong, IsReference, IsOfBy, IsStackBy, IsThere, IsOfType, AreClassStaticsBy, AreStaticsBy}
+use Rattle.jc_machine_model.proofs.PairLaws.{set_at, set_length}
+use Rattle.jc_machine_laws.specs.Typings.{TakesBy}
+use Rattle.jc_machine_laws.proofs.TypedLaws.{References, HoldingTyping, held_in, holds_in, references_in}
+use Rattle.jc_machine_laws.proofs.GrowLaws.{same_heap, SharedFits}
+use Rattle.jc_machine_laws.proofs.OnwardLaws.{kind_passes}
+use Rattle.jc_machine_laws.proofs.StackLaws.{upper_is, top_of}
+use Rattle.jc_machine_laws.proofs.StepLaws.{Turn, Fine, falls, by_forms, pushes_fine, takes_fine}
 
 -- ---- lists
 
 pub position_found : {X : Type 0} (p : X → Bool) (xs : List X) (j : ℕ) (d : X) → position p xs ≡ Some j → (x : X) × (slice_get xs j ≡ Some x) × (p x ≡ true)
 position_found p xs j d e = let r = position-Some p xs j d e in (get_or xs j d, slice_get-get_or xs j d r.0, r.1)
-
-set_at : {X : Type 0} (xs : List X) (i k : ℕ) (y : X) → ((k ≡ i) × (slice_get (slice_set xs i y) k ≡ Some y))
-    ⊎ (slice_get (slice_set xs i y) k ≡ slice_get xs k)
-set_at [] i k y = inr refl
-set_at (x ∷ xs) zero zero y = inl (refl, refl)
-set_at (x ∷ xs) zero (suc k) y = inr refl
-set_at (x ∷ xs) (suc i) zero y = inr refl
-set_at (x ∷ xs) (suc i) (suc k) y = ⊎_elim (λ p. inl (ap suc p.0, p.1)) (λ p. inr p) (set_at xs i k y)
-
-set_length : {X : Type 0} (xs : List X) (i : ℕ) (y : X) → length (slice_set xs i y) ≡ length xs
-set_length [] i y = refl
-set_length (x ∷ xs) zero y = refl
-set_length (x ∷ xs) (suc i) y = ap suc (set_length xs i y)
 
 pub set_each : {X : Type 0} (P : X → Type 0) (xs : List X) (i : ℕ) (y : X) → AllByRecursion P xs → P y → AllByRecursion P (slice_set xs i y)
 set_each P [] i y p q = tt
@@ -72,14 +67,59 @@ long_of : (v : Value) → is_of long_type v ≡ true → IsLong v
 long_of (long x) e = tt
 long_of v e = absurd (false≢true e)
 
-pub computational_kind : (type : FieldType) (computational : ComputationalType) (v : Value)
-    → computational_type type ≡ Some computational → is_of computational v ≡ true → IsOfVerificationType v (held_of type)
-computational_kind Float computational v e p = absurd (none_some e)
-computational_kind Double computational v e p = absurd (none_some e)
-computational_kind Long computational v e p = long_of v (subst (λ x. is_of x v ≡ true) (sym (same_Some long_type computational e)) p)
-computational_kind (Object name) computational v e p = subst (λ x. is_of x v ≡ true) (sym (same_Some reference_type computational e)) p
-computational_kind (Array component) computational v e p = subst (λ x. is_of x v ≡ true) (sym (same_Some reference_type computational e)) p
-computational_kind type computational v e p = int_of v (subst (λ x. is_of x v ≡ true) (sym (same_Some int_type computational e)) p)
+-- a value of a type's computational type is of the type, if it is held there as a reference
+pub computational_kind : (R : References) (type : FieldType) (computational : ComputationalType) (v : Value)
+    → computational_type type ≡ Some computational → is_of computational v ≡ true → (IsReference v → R.holds v (held_of type))
+    → IsOfBy R.holds v (held_of type)
+computational_kind R Float computational v e p h = absurd (none_some e)
+computational_kind R Double computational v e p h = absurd (none_some e)
+computational_kind R Long computational v e p h = long_of v (subst (λ x. is_of x v ≡ true) (sym (same_Some long_type computational e)) p)
+computational_kind R (Object name) computational v e p h = h (subst (λ x. is_of x v ≡ true) (sym (same_Some reference_type computational e)) p)
+computational_kind R (Array component) computational v e p h = h (subst (λ x. is_of x v ≡ true) (sym (same_Some reference_type computational e)) p)
+computational_kind R type computational v e p h = int_of v (subst (λ x. is_of x v ≡ true) (sym (same_Some int_type computational e)) p)
+
+-- a reference is no number
+no_int : (v : Value) → IsReference v → IsInt v → ⊥
+no_int (int x) r p = false≢true r
+no_int v r p = p
+
+no_long : (v : Value) → IsReference v → IsLong v → ⊥
+no_long (long x) r p = false≢true r
+no_long v r p = p
+
+-- so a reference that is of a type is held there
+pub kind_reference : (R : References) (type : FieldType) (v : Value) → IsReference v → IsOfBy R.holds v (held_of type) → R.holds v (held_of type)
+kind_reference R Float v r p = absurd p
+kind_reference R Double v r p = absurd p
+kind_reference R Long v r p = absurd (no_long v r p)
+kind_reference R (Object name) v r p = p
+kind_reference R (Array component) v r p = p
+kind_reference R type v r p = absurd (no_int v r p)
+
+-- as it is stored
+pub stored_kind : (R : References) (type : FieldType) (v : Value) → IsOfBy R.holds v (held_of type) → IsOfBy R.holds (stored_as type v) (held_of type)
+stored_kind R Float (int x) p = absurd p
+stored_kind R Double (int x) p = absurd p
+stored_kind R Long (int x) p = absurd p
+stored_kind R (Object name) (int x) p = absurd (false≢true (R.reference (int x) (verification.object name) p))
+stored_kind R (Array component) (int x) p = absurd (false≢true (R.reference (int x) (held_of (Array component)) p))
+stored_kind R type (int x) p = tt
+stored_kind R type v p = p
+
+-- in another body too
+pub kind_anywhere : (ty : HoldingTyping) (heap : List HeapObject) (made others : ℕ → List ℕ) (type : FieldType) (v : Value)
+    → IsOfBy (ty.typing.holds heap made) v (held_of type) → IsOfBy (ty.typing.holds heap others) v (held_of type)
+kind_anywhere ty heap made others Float v p = absurd p
+kind_anywhere ty heap made others Double v p = absurd p
+kind_anywhere ty heap made others Long v p = p
+kind_anywhere ty heap made others (Object name) v p = ty.holding.anywhere heap made others (Object name) v p
+kind_anywhere ty heap made others (Array component) v p = ty.holding.anywhere heap made others (Array component) v p
+kind_anywhere ty heap made others type v p = p
+
+-- what is taken from the top for one type
+pub one_taken : (S : VerificationType → VerificationType → Type 0) (type : FieldType) (low : List VerificationType) (h : VerificationType)
+    → TakesBy S (type ∷ []) (low ++ h ∷ []) → accepts (want_of type) h ≡ true → S h (held_of type)
+one_taken S type low h takes a = takes 0 type h refl (ap (λ (l : List VerificationType). slice_get l 0) (upper_is low (h ∷ []) 1 refl)) a
 
 -- the computational type of a value that is of a type
 pub of_type : (type : FieldType) (v : Value) → is_of_type type v ≡ true
@@ -116,98 +156,144 @@ static_found statics name desc j e =
     let p = and_parts (bytes_eq r.0.name name) (bytes_eq r.0.desc desc) r.2 in
     (r.0, r.1, (bytes_eq-Decides r.0.name name).0 p.0, (bytes_eq-Decides r.0.desc desc).0 p.1)
 
-statics_at : (classes : List Linked) (statics : List (List Value)) (j : ℕ) (d : Linked) → AreStatics classes statics
-    → slice_get classes j ≡ Some d → AreClassStatics d (slice_index_or statics j [])
-statics_at [] [] j d p e = absurd (none_some e)
-statics_at [] (v ∷ statics) j d p e = absurd p
-statics_at (g ∷ classes) [] j d p e = absurd p
-statics_at (g ∷ classes) (v ∷ statics) zero d p e = subst (λ x. AreClassStatics x v) (same_Some g d e) p.0
-statics_at (g ∷ classes) (v ∷ statics) (suc j) d p e = statics_at classes statics j d p.1 e
+module _ (R : Value → VerificationType → Type 0) where
+  statics_at : (classes : List Linked) (statics : List (List Value)) (j : ℕ) (d : Linked) → AreStaticsBy R classes statics
+      → slice_get classes j ≡ Some d → AreClassStaticsBy R d (slice_index_or statics j [])
+  statics_at [] [] j d p e = absurd (none_some e)
+  statics_at [] (v ∷ statics) j d p e = absurd p
+  statics_at (g ∷ classes) [] j d p e = absurd p
+  statics_at (g ∷ classes) (v ∷ statics) zero d p e = subst (λ x. AreClassStaticsBy R x v) (same_Some g d e) p.0
+  statics_at (g ∷ classes) (v ∷ statics) (suc j) d p e = statics_at classes statics j d p.1 e
 
-right_type : (d : Linked) (values : List Value) (name desc : List ℕ) (j : ℕ) → AreClassStatics d values
-    → static_named d.statics name desc ≡ Some j → IsOfType (field_type_in desc) (slice_get values j)
-right_type d values name desc j a e =
-    let r = static_found d.statics name desc j e in
-    let again : static_named d.statics r.0.name r.0.desc ≡ Some j = subst (λ x. static_named d.statics x r.0.desc ≡ Some j)
-    (sym r.2) (subst (λ x. static_named d.statics name x ≡ Some j) (sym r.3) e) in
-    subst (λ x. IsOfType (field_type_in x) (slice_get values j)) r.3 (a.right j r.0 r.1 again)
+  -- the field with a name and a descriptor, by which it is found
+  field_at : (d : Linked) (name desc : List ℕ) (j : ℕ) → static_named d.statics name desc ≡ Some j
+      → (g : StaticField) × (slice_get d.statics j ≡ Some g) × (static_named d.statics g.name g.desc ≡ Some j) × (g.desc ≡ desc)
+  field_at d name desc j e =
+      let r = static_found d.statics name desc j e in
+      (r.0, r.1, subst (λ x. static_named d.statics x r.0.desc ≡ Some j) (sym r.2) (subst (λ x. static_named d.statics name x ≡ Some j) (sym r.3) e), r.3)
 
-put_statics : (classes : List Linked) (statics : List (List Value)) (j : ℕ) (d : Linked) (new : List Value)
-    → slice_get classes j ≡ Some d → AreStatics classes statics → AreClassStatics d new → AreStatics classes (slice_set statics j new)
-put_statics [] [] j d new e p q = absurd (none_some e)
-put_statics [] (v ∷ statics) j d new e p q = absurd p
-put_statics (g ∷ classes) [] j d new e p q = absurd p
-put_statics (g ∷ classes) (v ∷ statics) zero d new e p q = (subst (λ x. AreClassStatics x new) (sym (same_Some g d e)) q, p.1)
-put_statics (g ∷ classes) (v ∷ statics) (suc j) d new e p q = (p.0, put_statics classes statics j d new e p.1 q)
+  right_type : (d : Linked) (values : List Value) (name desc : List ℕ) (j : ℕ) → AreClassStaticsBy R d values
+      → static_named d.statics name desc ≡ Some j → IsOfType (field_type_in desc) (slice_get values j)
+  right_type d values name desc j a e =
+      let r = field_at d name desc j e in
+      subst (λ x. IsOfType (field_type_in x) (slice_get values j)) r.3 (a.right j r.0 r.1 r.2)
 
-put_field : (d : Linked) (values : List Value) (name desc : List ℕ) (j : ℕ) (type : FieldType) (v : Value)
-    → AreClassStatics d values → static_named d.statics name desc ≡ Some j → field_type_in desc ≡ Some type
-    → ((computational : ComputationalType) → computational_type type ≡ Some computational → IsTrue (is_of computational v))
-    → AreClassStatics d (slice_set values j v)
-put_field d values name desc j type v a e q h = record { count = set_length values j v ∙ a.count; right = right }
-  where
-    type_is : (i : ℕ) (g : StaticField) → slice_get d.statics i ≡ Some g → i ≡ j → field_type_in g.desc ≡ Some type
-    type_is i g p z =
-        let r = static_found d.statics name desc j e in
-        ap (λ (x : StaticField). field_type_in x.desc) (same_Some g r.0 (sym p ∙ ap (slice_get d.statics) z ∙ r.1)) ∙ ap field_type_in r.3 ∙ q
+  held_type : (d : Linked) (values : List Value) (name desc : List ℕ) (j : ℕ) (type : FieldType) (v : Value) → AreClassStaticsBy R d values
+      → static_named d.statics name desc ≡ Some j → field_type_in desc ≡ Some type → slice_get values j ≡ Some v → IsReference v → R v (held_of type)
+  held_type d values name desc j type v a e q z r =
+      let g = field_at d name desc j e in
+      a.held j g.0 type v g.1 g.2 (ap field_type_in g.3 ∙ q) z r
 
-    right : (i : ℕ) (g : StaticField) → slice_get d.statics i ≡ Some g → static_named d.statics g.name g.desc ≡ Some i
-        → IsOfType (field_type_in g.desc) (slice_get (slice_set values j v) i)
-    right i g p n = ⊎_elim
-        (λ (w : (i ≡ j) × (slice_get (slice_set values j v) i ≡ Some v)). subst (λ o. IsOfType (field_type_in g.desc) o) (sym w.1)
-        (subst (λ o. IsOfType o (Some v)) (sym (type_is i g p w.0)) h))
-        (λ (w : slice_get (slice_set values j v) i ≡ slice_get values i). subst (λ o. IsOfType (field_type_in g.desc) o) (sym w) (a.right i g p n))
-        (set_at values j i v)
+  put_statics : (classes : List Linked) (statics : List (List Value)) (j : ℕ) (d : Linked) (new : List Value)
+      → slice_get classes j ≡ Some d → AreStaticsBy R classes statics → AreClassStaticsBy R d new → AreStaticsBy R classes (slice_set statics j new)
+  put_statics [] [] j d new e p q = absurd (none_some e)
+  put_statics [] (v ∷ statics) j d new e p q = absurd p
+  put_statics (g ∷ classes) [] j d new e p q = absurd p
+  put_statics (g ∷ classes) (v ∷ statics) zero d new e p q = (subst (λ x. AreClassStaticsBy R x new) (sym (same_Some g d e)) q, p.1)
+  put_statics (g ∷ classes) (v ∷ statics) (suc j) d new e p q = (p.0, put_statics classes statics j d new e p.1 q)
 
-module _ {program : Program} {s : Shared} {f : Frame} {c : Linked} {b : Body} {insn : Insn} {k t : TypeState} (turn : Turn program s f c b insn k t) where
+  put_field : (d : Linked) (values : List Value) (name desc : List ℕ) (j : ℕ) (type : FieldType) (v : Value)
+      → AreClassStaticsBy R d values → static_named d.statics name desc ≡ Some j → field_type_in desc ≡ Some type
+      → ((computational : ComputationalType) → computational_type type ≡ Some computational → IsTrue (is_of computational v))
+      → (IsReference v → R v (held_of type)) → AreClassStaticsBy R d (slice_set values j v)
+  put_field d values name desc j type v a e q h w = record { count = set_length values j v ∙ a.count; right = right; held = held }
+    where
+      type_is : (i : ℕ) (g : StaticField) → slice_get d.statics i ≡ Some g → i ≡ j → field_type_in g.desc ≡ Some type
+      type_is i g p z =
+          let r = static_found d.statics name desc j e in
+          ap (λ (x : StaticField). field_type_in x.desc) (same_Some g r.0 (sym p ∙ ap (slice_get d.statics) z ∙ r.1)) ∙ ap field_type_in r.3 ∙ q
+
+      right : (i : ℕ) (g : StaticField) → slice_get d.statics i ≡ Some g → static_named d.statics g.name g.desc ≡ Some i
+          → IsOfType (field_type_in g.desc) (slice_get (slice_set values j v) i)
+      right i g p n = ⊎_elim
+          (λ (x : (i ≡ j) × (slice_get (slice_set values j v) i ≡ Some v)). subst (λ o. IsOfType (field_type_in g.desc) o) (sym x.1)
+          (subst (λ o. IsOfType o (Some v)) (sym (type_is i g p x.0)) h))
+          (λ (x : slice_get (slice_set values j v) i ≡ slice_get values i). subst (λ o. IsOfType (field_type_in g.desc) o) (sym x) (a.right i g p n))
+          (set_at values j i v)
+
+      held : (i : ℕ) (g : StaticField) (t : FieldType) (u : Value) → slice_get d.statics i ≡ Some g → static_named d.statics g.name g.desc ≡ Some i
+          → field_type_in g.desc ≡ Some t → slice_get (slice_set values j v) i ≡ Some u → IsReference u → R u (held_of t)
+      held i g t u p n m z r = ⊎_elim
+          (λ (x : (i ≡ j) × (slice_get (slice_set values j v) i ≡ Some v)).
+          let one : v ≡ u = same_Some v u (sym x.1 ∙ z) in
+          let same : type ≡ t = same_Some type t (sym (type_is i g p x.0) ∙ m) in
+          subst (λ y. R u (held_of y)) same (subst (λ y. R y (held_of type)) one (w (subst (λ y. IsReference y) (sym one) r))))
+          (λ (x : slice_get (slice_set values j v) i ≡ slice_get values i). a.held i g t u p n m (sym x ∙ z) r)
+          (set_at values j i v)
+
+module _ {ty : HoldingTyping} {program : Program} {s : Shared} {f : Frame} {c : Linked} {b : Body} {insn : Insn} {k t : TypeState}
+    (turn : Turn ty program s f c b insn k t) where
+  -- the operands are of the kinds that the instruction's one form asks for
+  pub form_fits : (g : StackEffect) → step_of b.uses (returns_of b) insn ≡ kinds.moves (g ∷ []) → has_form g k.stack ≡ true
+  form_fits g e = (guard_some (has_form g k.stack) (limited b.max_stack (moved g k.stack)) t.stack (by_forms turn (g ∷ []) e).0).0
+
+  -- the operand on top that is kept is of the type for which it is kept
+  pub top_kept : (type : FieldType) (v : Value) (stack : List Value) → f.stack ≡ v ∷ stack → TakesBy ty.passes (type ∷ []) k.stack
+      → accepts_all (want_of type ∷ []) (upper 1 k.stack) ≡ true → IsOfBy (holds_in ty s.heap b) v (held_of type)
+  top_kept type v stack q takes a =
+      let top = top_of (references_in ty s.heap b) v stack k.stack (subst (λ x. IsStackBy (holds_in ty s.heap b) x k.stack) q turn.stack) in
+      let one = ap (upper 1) top.parts ∙ upper_is top.low (top.kind ∷ []) 1 refl in
+      let accepted = (and_parts (accepts (want_of type) top.kind) true (subst (λ l. accepts_all (want_of type ∷ []) l ≡ true) one a)).0 in
+      kind_passes ty (turn.flowing).fits s.heap (made_in b) v top.kind (held_of type) top.is
+      (one_taken ty.passes type top.low top.kind (subst (λ l. TakesBy ty.passes (type ∷ []) l) top.parts takes) accepted)
+
   pub gets_fine : (class field : ℕ) (type : FieldType) (d : Linked) (name desc : List ℕ)
       → step_of b.uses (returns_of b) insn ≡ kinds.moves (form [] (kind (held_of type) ∷ []) ∷ []) → FallsThrough insn
       → class_at program class ≡ Some d → static_named d.statics name desc ≡ Some field → field_type_in desc ≡ Some type
       → is_some (computational_type type) ≡ true
-      → Fine program s f b (by_get (static_at s.statics (record { class = class; field = field })) s f)
+      → Fine ty program s f b (by_get (static_at s.statics (record { class = class; field = field })) s f)
   unfolding Fine
   gets_fine class field type d name desc e l g n q o = by (slice_get (slice_index_or s.statics class []) field) refl
     where
       computational : (computational : ComputationalType) × (computational_type type ≡ Some computational)
       computational = some_there (computational_type type) o
 
+      class_statics : AreClassStaticsBy (ty.typing.holds s.heap nothing_made) d (slice_index_or s.statics class [])
+      class_statics = statics_at (ty.typing.holds s.heap nothing_made) program.classes s.statics class d (turn.shared).statics g
+
       typed : IsOfType (Some type) (slice_get (slice_index_or s.statics class []) field)
       typed =
           subst (λ x. IsOfType x (slice_get (slice_index_or s.statics class []) field)) q
-          (right_type d (slice_index_or s.statics class []) name desc field
-          (statics_at program.classes s.statics class d (turn.shared).statics g) n)
+          (right_type (ty.typing.holds s.heap nothing_made) d (slice_index_or s.statics class []) name desc field class_statics n)
 
-      by : (x : Option Value) → slice_get (slice_index_or s.statics class []) field ≡ x → Fine program s f b (by_get x s f)
+      by : (x : Option Value) → slice_get (slice_index_or s.statics class []) field ≡ x → Fine ty program s f b (by_get x s f)
       by None z = tt
       by (Some v) z =
           pushes_fine turn v (held_of type) e l
-          (computational_kind type computational.0 v computational.1
-          (subst (λ x. IsOfType (Some type) x) z typed computational.0 computational.1))
+          (kind_anywhere ty s.heap nothing_made (made_in b) type v
+          (computational_kind (held_in ty s.heap nothing_made) type computational.0 v computational.1
+          (subst (λ x. IsOfType (Some type) x) z typed computational.0 computational.1)
+          (held_type (ty.typing.holds s.heap nothing_made) d (slice_index_or s.statics class []) name desc field type v class_statics n q z)))
           (all_at (IsThere program s.heap) (slice_index_or s.statics class []) field v
           (at_each (IsThere program s.heap) s.statics class (turn.shared).there) z)
 
-  pub puts_fine : (class field : ℕ) (type : FieldType) (d : Linked) (name desc : List ℕ) (want : Want)
-      → step_of b.uses (returns_of b) insn ≡ kinds.moves (form (want ∷ []) [] ∷ []) → FallsThrough insn
+  pub puts_fine : (class field : ℕ) (type : FieldType) (d : Linked) (name desc : List ℕ)
+      → step_of b.uses (returns_of b) insn ≡ kinds.moves (form (want_of type ∷ []) [] ∷ []) → FallsThrough insn
       → class_at program class ≡ Some d → static_named d.statics name desc ≡ Some field → field_type_in desc ≡ Some type
-      → (stack : List Value) → f.stack ≡ stack → Fine program s f b (by_put (record { class = class; field = field }) type stack s f)
+      → TakesBy ty.passes (type ∷ []) k.stack → (stack : List Value) → f.stack ≡ stack → Fine ty program s f b (by_put (record { class = class; field = field }) type stack s f)
   unfolding Fine
-  puts_fine class field type d name desc want e l g n q [] z = tt
-  puts_fine class field type d name desc want e l g n q (v ∷ stack) z = by (is_of_type type v) refl
+  puts_fine class field type d name desc e l g n q takes [] z = tt
+  puts_fine class field type d name desc e l g n q takes (v ∷ stack) z = by (is_of_type type v) refl
     where
       there : AllByRecursion (IsThere program s.heap) (v ∷ stack)
       there = subst (AllByRecursion (IsThere program s.heap)) z (turn.there).stack
 
-      values : List Value
-      values = slice_index_or s.statics class []
+      -- what is stored is of the field's type
+      kept : IsOfBy (ty.typing.holds s.heap nothing_made) (stored_as type v) (held_of type)
+      kept =
+          stored_kind (held_in ty s.heap nothing_made) type v
+          (kind_anywhere ty s.heap (made_in b) nothing_made type v
+          (top_kept type v stack z takes (form_fits (form (want_of type ∷ []) []) e)))
 
       fits : is_of_type type v ≡ true
-          → SharedFits program (record s { statics = with_static s.statics (record { class = class; field = field }) (stored_as type v) })
+          → SharedFits ty program (record s { statics = with_static s.statics (record { class = class; field = field }) (stored_as type v) })
       fits o = record {
-        statics = put_statics program.classes s.statics class d (slice_set (slice_index_or s.statics class []) field (stored_as type v)) g (turn.shared).statics
-            (put_field d (slice_index_or s.statics class []) name desc field type (stored_as type v)
-            (statics_at program.classes s.statics class d (turn.shared).statics g) n q
+        statics = put_statics (ty.typing.holds s.heap nothing_made) program.classes s.statics class d (slice_set (slice_index_or s.statics class []) field (stored_as type v)) g (turn.shared).statics
+            (put_field (ty.typing.holds s.heap nothing_made) d (slice_index_or s.statics class []) name desc field type (stored_as type v)
+            (statics_at (ty.typing.holds s.heap nothing_made) program.classes s.statics class d (turn.shared).statics g) n q
             (λ computational w. let r = of_type type v o in stored_is computational type v
-            (subst (λ x. is_of x v ≡ true) (same_Some r.0 computational (sym r.1 ∙ w)) r.2)));
+            (subst (λ x. is_of x v ≡ true) (same_Some r.0 computational (sym r.1 ∙ w)) r.2))
+            (λ r. kind_reference (held_in ty s.heap nothing_made) type (stored_as type v) r kept));
         there =
             set_each (AllByRecursion (IsThere program s.heap)) s.statics class
             (slice_set (slice_index_or s.statics class []) field (stored_as type v)) (turn.shared).there
@@ -216,10 +302,10 @@ module _ {program : Program} {s : Shared} {f : Frame} {c : Linked} {b : Body} {i
       }
 
       by : (x : Bool) → is_of_type type v ≡ x
-          → Fine program s f b (cond x (goes_with
+          → Fine ty program s f b (cond x (goes_with
           (record s { statics = with_static s.statics (record { class = class; field = field }) (stored_as type v) }) f stack) gets_stuck)
       by false o = tt
       by true o =
-          takes_fine turn (v ∷ []) stack (want ∷ []) (f.place + 1)
+          takes_fine turn (v ∷ []) stack (want_of type ∷ []) (f.place + 1)
           (record s { statics = with_static s.statics (record { class = class; field = field }) (stored_as type v) }) e
-          (falls turn l) z refl there.1 (turn.there).locals (fits o) (le_refl (length s.heap))
+          (falls turn l) z refl there.1 (turn.there).locals (fits o) (same_heap s.heap)

@@ -16,14 +16,19 @@ use Rattle.jc_machine_model.specs.Effects.{Effect, gives, effect}
 use Rattle.jc_machine_model.specs.World.{Frame, World}
 use Rattle.jc_machine_model.specs.Step.{step}
 use Rattle.jc_machine_model.specs.Run.{run}
-use Rattle.jc_machine_model.specs.Fits.{IsStack, IsProbe, FitsTop, FitsWorld}
+use Rattle.jc_machine_model.specs.Fits.{Typing, any_reference, IsStackBy, IsStack, IsProbe, FitsTop, FitsWorldBy, FitsWorld}
+use Rattle.jc_machine_laws.specs.Typings.{IsHolding, IsFlowing}
 
 -- ---- effects
 
 -- What an effect leaves of a stack is of the types that the kind check gives the opcode.
+abbrev pub LeavesBy : (Value → VerificationType → Type 0) → List VerificationType → List Value → Effect → Type 0
+LeavesBy R types stack (gives taken results) = IsStackBy R (results ++ drop taken stack) types
+LeavesBy R types stack _ = ⊤
+
+-- with any reference
 abbrev pub Leaves : List VerificationType → List Value → Effect → Type 0
-Leaves types stack (gives taken results) = IsStack (results ++ drop taken stack) types
-Leaves types stack _ = ⊤
+Leaves types stack e = LeavesBy any_reference types stack e
 
 -- it does so wherever the kind check has a state after the opcode
 abbrev pub EffectFits : Type 0
@@ -33,7 +38,14 @@ EffectFits =
 
 -- ---- turns
 
--- each turn of a world that fits gives one that fits
+-- Each turn of a world that fits by a typing gives one that fits by it, where the typing holds along a relation, and the program flows
+-- along it.
+abbrev pub StepFitsBy : (T : Typing) → (VerificationType → VerificationType → Type 0) → Type 0
+StepFitsBy T S =
+    (program : Program) (w : World) (t : ℕ) → IsHolding T S → IsProgram program → IsFlowing T S program
+    → FitsWorldBy T program w → FitsWorldBy T program (step program w t)
+
+-- so each turn of a world that fits gives one that fits
 abbrev pub StepFits : Type 0
 StepFits = (program : Program) (w : World) (t : ℕ) → IsProgram program → FitsWorld program w → FitsWorld program (step program w t)
 

@@ -1,2 +1,4 @@
+pub mod Flows
+pub mod Typings
 pub mod Laws
 pub mod Frameless

@@ -31,6 +31,7 @@ use Rattle.jc_machine_model.specs.Step.{is_init_method, named_init, counted_fram
 use Rattle.jc_machine_model.specs.Begin.{number_value, first_of, first_value, argument_values, first_frame, thread_in, thread_for, first_thread, first_threads, begin}
 use Rattle.jc_machine_model.specs.Fits.{IsInSlot, AreInSlots, IsStack, IsThere, IsThereInSlot, AreThereIn, IsOfType, IsFieldRight, AreStatics, FitsTop, FitsRunning, FitsThread}
 use Rattle.jc_machine_model.specs.Laws.{BeginFits}
+use Rattle.jc_machine_model.proofs.PairLaws.{begin_pairs}
 
 -- ---- options and tests
 
@@ -204,7 +205,8 @@ map_length f (x ∷ xs) = let e = map_length f xs in grind (arith, e)
 
 statics_fit : (classes : List Linked) → AreStatics classes (map (λ (c : Linked). map first_value c.statics) classes)
 statics_fit [] = tt
-statics_fit (c ∷ classes) = (record { count = map_length first_value c.statics; right = field_right c }, statics_fit classes)
+statics_fit (c ∷ classes) =
+    (record { count = map_length first_value c.statics; right = field_right c; held = λ k f type v e n t q r. r }, statics_fit classes)
 
 -- ---- threads
 
@@ -306,11 +308,12 @@ frame_fits program method numbers c b k e =
         class_is = k.class_is;
         body = b;
         body_is = k.body_is;
-        plain = (and_parts (is_plain c b) (not (is_synchronized b)) e).0;
+        entered = (and_parts (is_plain c b) (not (is_synchronized b)) e).0;
         within = k.whole.well_made.of_any_size.code.some;
         state_is = s.1;
       };
       locals = slots_fit (first_frame method b numbers).locals (first_state b).locals s.0.locals (begins_in_slots program method numbers c b k) s.2.locals;
+      pairs = begin_pairs b.max_locals (argument_values (method_type_in b.desc).parameters numbers);
       stack = nothing_fits s.0.stack s.2.stack;
     }
 
@@ -330,7 +333,11 @@ module _ (program : Program) (method : Entry) (numbers : List ℤ) (c : Linked) 
   thread_if : (t : Bool) → is_enterable c b ≡ t → Begun program method numbers c b
       → FitsThread program [] (cond t (running (first_frame method b numbers) []) (stuck method 0))
   thread_if true e k = running_fits program method numbers c b k e
-  thread_if false e k = tt
+  thread_if false e k = record {
+    body = b;
+    body_is = ap (λ o. option_and_then (λ (d : Linked). slice_get d.bodies method.method) o) k.class_is ∙ k.body_is;
+    within = k.whole.well_made.of_any_size.code.some;
+  }
 
 thread_fits : (program : Program) (thread : ThreadLine) (entry : Entry) → IsProgram program → entry_of program thread ≡ Some entry → FitsThread program [] (first_thread program entry thread.args)
 thread_fits program thread entry p e =

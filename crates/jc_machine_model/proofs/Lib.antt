@@ -1,3 +1,4 @@
 pub mod ArithmeticLaws
+pub mod PairLaws
 pub mod BeginLaws
 pub mod TurnLaws

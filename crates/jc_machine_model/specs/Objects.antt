@@ -1,5 +1,5 @@
 -- Throwables, the print stream, and the probe array of a class.
-use Rattle.std.specs.Prelude.{ℕ, ℤ, pos, ◌+◌, ◌%◌, Bool, ◌&&◌, List, [], ◌∷◌, ◌++◌, length, Option, Some, None, nat_eq, nat_le, slice_get, codes, if◌then◌else◌}
+use Rattle.std.specs.Prelude.{ℕ, ℤ, pos, ◌+◌, ◌%◌, Bool, false, ◌&&◌, List, [], ◌∷◌, ◌++◌, length, Option, Some, None, nat_eq, nat_le, slice_get, codes, if◌then◌else◌}
 use Rattle.std.specs.Fmt.{signed_decimal}
 use Rattle.std.specs.Int.{w32, w64, cast_signed, cast_unsigned}
 use Rattle.jc_programs.specs.declared.run_end.Thrown.TheVariants as thrown
@@ -91,3 +91,13 @@ abbrev pub by_fetch : ℕ → ProbeInit → List Value → Shared → Frame → 
 by_fetch class init (int count ∷ text of ∷ long id ∷ stack) s f =
     if is_fetched class init id of count then goes_with s f (probes class init.count ∷ stack) else gets_stuck
 by_fetch class init _ s f = gets_stuck
+
+-- the probe array of the class
+abbrev pub is_array_of : ℕ → Value → Bool
+is_array_of class (probes of count) = nat_eq of class
+is_array_of class _ = false
+
+-- it stays on top (JVM Specification 6.5, checkcast)
+abbrev pub by_cast : ℕ → List Value → Shared → Frame → Result
+by_cast class (v ∷ stack) s f = if is_array_of class v then goes_with s f (v ∷ stack) else gets_stuck
+by_cast class [] s f = gets_stuck

@@ -20,7 +20,8 @@ pub data Printed : Type 0 where
   an_empty_line : Printed
 
 pub data Operation : Type 0 where
-  -- bipush, sipush, ldc of an int, ldc2_w of a long, getstatic of the print stream, ldc of a text
+  -- bipush, sipush, ldc of an int, ldc2_w of a long, getstatic of the print stream, ldc of a text, ldc of the constant by which a
+  -- class gets its probe array
   pushes : Value → Operation
   -- what reads and writes the operand stack alone
   computes : (op : ℕ) → Operation
@@ -48,6 +49,8 @@ pub data Operation : Type 0 where
   prints : Printed → Operation
   -- the call by which a class gets its probe array
   fetches : (class : ℕ) → ProbeInit → Operation
+  -- checkcast of the probe array of a class
+  casts : (class : ℕ) → Operation
   -- the return of a value, of the type that the method returns, and that of none
   returns : ComputationalType → Option FieldType → Operation
   returns_nothing : Operation

@@ -4,7 +4,7 @@ use Rattle.std.specs.Prelude.{◌∷◌, ◌++◌, drop, None, slice_index_or}
 use Rattle.jc_machine_model.specs.Heap.{throwable}
 use Rattle.jc_machine_model.specs.Effects.{Effect, gives, unfit, effect}
 use Rattle.jc_machine_model.specs.World.{Frame, Shared}
-use Rattle.jc_machine_model.specs.Operations.{Operation, pushes, computes, loads, stores, counts, tests, jumps, indexes, matches, reads, writes, makes_array, measures, gets, puts, invokes, makes, builds, prints, fetches, returns, returns_nothing, throws_top, outside}
+use Rattle.jc_machine_model.specs.Operations.{Operation, pushes, computes, loads, stores, counts, tests, jumps, indexes, matches, reads, writes, makes_array, measures, gets, puts, invokes, makes, builds, prints, fetches, casts, returns, returns_nothing, throws_top, outside}
 use Rattle.jc_machine_model.specs.Results.{Result, goes_with, goes, leaves, raises, gets_stuck}
 use Rattle.jc_machine_model.specs.Locals.{by_load, by_store, by_count}
 use Rattle.jc_machine_model.specs.Jumps.{test_of, by_test, by_switch}
@@ -12,7 +12,7 @@ use Rattle.jc_plan.specs.Chosen.{table_target, lookup_target}
 use Rattle.jc_machine_model.specs.Arrays.{by_read, by_write, by_make_array, by_measure}
 use Rattle.jc_machine_model.specs.Statics.{static_at, by_get, by_put}
 use Rattle.jc_machine_model.specs.Calls.{taken_for, by_call, by_return}
-use Rattle.jc_machine_model.specs.Objects.{made, by_build, by_throw, by_println, by_fetch}
+use Rattle.jc_machine_model.specs.Objects.{made, by_build, by_throw, by_println, by_fetch, by_cast}
 use Rattle.jc_machine_model.specs.Effects as effects
 
 -- ---- the operand stack alone
@@ -45,6 +45,7 @@ perform (makes c) s f = made 1 (throwable c) f.stack s f
 perform (builds c) s f = by_build c f.stack s f
 perform (prints printed) s f = by_println printed f.stack s f
 perform (fetches class init) s f = by_fetch class init f.stack s f
+perform (casts class) s f = by_cast class f.stack s f
 perform (returns computational type) s f = by_return computational type f.stack
 perform returns_nothing s f = leaves None
 perform throws_top s f = by_throw f.stack s

@@ -5,11 +5,13 @@ use Rattle.jc_methods.specs.declared.insn.Insn.TheVariants as insns
 use Rattle.jc_methods.specs.declared.body.What.TheVariants as whats
 use Rattle.jc_methods.specs.Opcode as opcode
 use Rattle.jc_methods.specs.declared.insn.Insn.{Insn}
+use Rattle.jc_methods.specs.declared.probe_members.Fetch.{Fetch}
+use Rattle.jc_methods.specs.declared.probe_members.Fetch.TheVariants as ways
 use Rattle.jc_methods.specs.declared.body.Body.{Body}
 use Rattle.jc_methods.specs.declared.body.What.{What}
 use Rattle.jc_methods.specs.Flow.{is_return}
 use Rattle.jc_methods.specs.DescriptorTypes.{field_type_in, method_type_in}
-use Rattle.jc_methods.specs.ProbeMembers.{init_type, data_name, runtime_class, fetch_name, fetch_type}
+use Rattle.jc_methods.specs.ProbeMembers.{init_type, data_name, data_type, constant_type, runtime_class, fetch_name, fetch_type, fetch_of}
 use Rattle.jc_methods.specs.WellMade.{what_used}
 use Rattle.jc_programs.specs.declared.run_end.Thrown.TheVariants as thrown
 use Rattle.jc_programs.specs.declared.program.Program.{Program}
@@ -19,9 +21,9 @@ use Rattle.jc_programs.specs.declared.run_end.Entry.{Entry}
 use Rattle.jc_programs.specs.declared.run_end.Thrown.{Thrown}
 use Rattle.jc_programs.specs.Members.{class_named, class_at, method_named, static_named}
 use Rattle.jc_programs.specs.Throwables.{thrown_named}
-use Rattle.jc_machine_model.specs.Methods.{is_init_name, is_enterable}
+use Rattle.jc_machine_model.specs.Methods.{is_init_name, declares_init, is_enterable}
 use Rattle.jc_machine_model.specs.Values.{Value, int, long, ComputationalType, int_type, long_type, reference_type, computational_type}
-use Rattle.jc_machine_model.specs.Operations.{FieldAt, Printed, Operation, an_int_line, a_long_line, a_boolean_line, an_empty_line, pushes, computes, loads, stores, counts, tests, jumps, indexes, matches, reads, writes, makes_array, measures, gets, puts, invokes, makes, builds, prints, fetches, returns, returns_nothing, throws_top, outside}
+use Rattle.jc_machine_model.specs.Operations.{FieldAt, Printed, Operation, an_int_line, a_long_line, a_boolean_line, an_empty_line, pushes, computes, loads, stores, counts, tests, jumps, indexes, matches, reads, writes, makes_array, measures, gets, puts, invokes, makes, builds, prints, fetches, casts, returns, returns_nothing, throws_top, outside}
 
 -- ---- an instruction of a program
 
@@ -37,6 +39,15 @@ pub record Location : Type 0 where
 abbrev pub in_init : Location → Bool
 in_init at = is_init_name at.body.name
 
+-- by a constant
+abbrev pub gets_by : Fetch → Bool
+gets_by ways.Member = false
+gets_by ways.Constant = true
+
+-- the class gets its probe array by a constant
+abbrev pub has_constant : Linked → Bool
+has_constant c = gets_by (fetch_of c.version)
+
 -- in a method `$jacocoInit ()[Z` of a class with probes: what it gives when it asks for its probe array
 abbrev pub init_of : Location → Option ProbeInit
 init_of at = if in_init at && bytes_eq at.body.desc init_type then at.linked.probes else None
@@ -47,11 +58,36 @@ what_at at place = what_used at.body.uses place
 
 -- ---- constants
 
--- ldc of an int, and of a text where a class asks for its probe array (JVM Specification 6.5, ldc)
+-- the constant is the one that this bootstrap method of the class gives
+abbrev pub is_bootstrapped : Option ℕ → ℕ → Bool
+is_bootstrapped None bootstrap = false
+is_bootstrapped (Some own) bootstrap = nat_eq own bootstrap
+
+-- What a class gives its methods by a constant: nothing, where it declares no method that could give the constant its value (JVM
+-- Specification 5.4.3.6).
+abbrev pub given_of : Linked → Option ProbeInit
+given_of c = if has_constant c && declares_init c then c.probes else None
+
+-- what this constant gives, where it is the one that gives this
+abbrev pub given_by : Option ProbeInit → (name desc : List ℕ) → (bootstrap : ℕ) → Option ProbeInit
+given_by None name desc bootstrap = None
+given_by (Some init) name desc bootstrap =
+    if is_bootstrapped init.bootstrap bootstrap && (bytes_eq name data_name && bytes_eq desc constant_type) then Some init else None
+
+abbrev pub given_in : Location → Option What → Option ProbeInit
+given_in at (Some (whats.Computed name desc bootstrap)) = given_by (given_of at.linked) name desc bootstrap
+given_in at what = None
+
+-- the probe array, at instruction 0 alone
+abbrev pub computed_operation : Location → Option ProbeInit → Operation
+computed_operation at None = outside
+computed_operation at (Some init) = if nat_eq at.place 0 then pushes (Value.probes at.class init.count) else outside
+
+-- ldc of an int, of a text where a class asks for its probe array, and of the constant that gives it (JVM Specification 6.5, ldc)
 abbrev pub constant_operation : Location → Option What → Operation
 constant_operation at (Some (whats.Int value)) = pushes (int value)
 constant_operation at (Some whats.Text) = if is_some (init_of at) then pushes (Value.text at.class) else outside
-constant_operation at _ = outside
+constant_operation at what = computed_operation at (given_in at what)
 
 -- ldc2_w of a long (JVM Specification 6.5, ldc2_w)
 abbrev pub long_operation : Option What → Operation
@@ -96,9 +132,10 @@ field_named op at program class name desc =
 
 -- ---- calls
 
--- a method `$jacocoInit` may be called by instruction 0 of a method of its class alone
+-- a method `$jacocoInit` may be called by instruction 0 of a method of its class alone, where the class doesn't get its array by a
+-- constant
 abbrev pub may_name_method : Location → ℕ → List ℕ → Bool
-may_name_method at class name = not (is_init_name name) || (nat_eq at.place 0 && nat_eq at.class class)
+may_name_method at class name = not (is_init_name name) || (nat_eq at.place 0 && (nat_eq at.class class && not (has_constant at.linked)))
 
 abbrev pub method_in : List ℕ → List ℕ → ℕ → Linked → Option Entry
 method_in name desc class c = option_map (λ (k : ℕ). record { class = class; method = k }) (method_named c.bodies name desc)
@@ -194,10 +231,23 @@ abbrev pub make_operation : Option Thrown → Operation
 make_operation None = outside
 make_operation (Some c) = makes c
 
+-- instruction 0 of the method gives the class's probe array
+abbrev pub begins_with_array : Location → List Insn → Bool
+begins_with_array at (insns.Constant place ∷ code) = is_some (given_in at (what_at at place))
+begins_with_array at code = false
+
+-- checkcast of the probe array, behind it (JVM Specification 6.5, checkcast)
+abbrev pub cast_operation : Location → List ℕ → Operation
+cast_operation at name =
+    if nat_eq at.place 1 && (bytes_eq name data_type && begins_with_array at at.body.code) then casts at.class else outside
+
 -- new of a throwable
-abbrev pub class_operation : ℕ → Option What → Operation
-class_operation op (Some (whats.Class name)) = if nat_eq op opcode.new then make_operation (made_class name) else outside
-class_operation op _ = outside
+abbrev pub class_operation : ℕ → Location → Option What → Operation
+class_operation op at (Some (whats.Class name)) =
+    if nat_eq op opcode.new then make_operation (made_class name)
+    else if nat_eq op opcode.checkcast then cast_operation at name
+    else outside
+class_operation op at _ = outside
 
 -- the type of the elements by the code of newarray, but for floats and doubles (JVM Specification 6.5, newarray)
 abbrev pub array_operation : ℕ → Operation
@@ -282,7 +332,7 @@ operation_of program at (insns.Constant2 place) = long_operation (what_at at pla
 operation_of program at (insns.Member op place) = member_operation op at program (what_at at place)
 operation_of program at (insns.Interface place count) = outside
 operation_of program at (insns.Dynamic place) = outside
-operation_of program at (insns.OfClass op place) = class_operation op (what_at at place)
+operation_of program at (insns.OfClass op place) = class_operation op at (what_at at place)
 operation_of program at (insns.NewArray elem) = array_operation elem
 operation_of program at (insns.Multi place dims) = outside
 operation_of program at (insns.Jump op to) = if nat_eq op opcode.goto then jumps to else tests op to

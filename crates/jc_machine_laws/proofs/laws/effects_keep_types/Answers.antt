@@ -1,5 +1,5 @@
-use Rattle.jc_machine_laws.proofs.EffectLaws.{effects_fit}
+use Rattle.jc_machine_laws.proofs.EffectLaws.{effects_fit_any}
 use Rattle.jc_machine_laws.proofs.laws.effects_keep_types.Goals as goal
 
 pub returns : goal.returns
-returns c = effects_fit
+returns c = effects_fit_any
