@@ -22,7 +22,8 @@ use Rattle.jc_machine_model.proofs.BeginLaws.{slots_length}
 use Rattle.jc_machine_laws.proofs.CallLaws.{body_is}
 use Rattle.jc_machine_laws.proofs.OnwardLaws.{here_of}
 use Rattle.jc_machine.specs.Turned.{call_of}
-use Rattle.jc_machine.proofs.RoomLaws.{state_count, top_bounded}
+use Rattle.jc_machine_laws.proofs.StateLaws.{state_count}
+use Rattle.jc_machine.proofs.RoomLaws.{top_bounded}
 
 -- ---- the frame of a callee
 

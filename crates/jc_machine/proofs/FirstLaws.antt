@@ -24,7 +24,6 @@ use Rattle.jc_machine_model.specs.Programs.{IsProgram}
 use Rattle.jc_machine_model.specs.Values.{Value}
 use Rattle.jc_machine_model.specs.World.{running, stuck}
 use Rattle.jc_machine_model.specs.Calls.{spread_values, locals_for}
-use Rattle.jc_programs.specs.declared.run_plan.Schedule.TheVariants as schedules
 use Rattle.jc_machine_model.specs.Begin.{argument_values, first_frame, thread_in, thread_for, first_thread, first_threads}
 use Rattle.jc_machine_model.specs.Step.{new_frame}
 use Rattle.jc_machine_model.specs.Fits.{FitsThread, FitsRunning}

@@ -1,26 +1,14 @@
 -- The frames of a world that fits its program have room in so many cells.
-use Rattle.std.proofs.Common.{◌≡◌, ℕ, zero, suc, ◌+◌, ◌≤◌, Bool, true, false, cond, List, [], ◌∷◌, length, reverse, not, Option, Some, None, nat_lt}
-use Rattle.std.proofs.Common.{refl, ap, ◌∙◌, subst, arith, length-append}
+use Rattle.std.proofs.Common.{◌≡◌, suc, ◌+◌, ◌≤◌, Bool, true, false, cond, List, [], ◌∷◌, length, reverse, not, nat_lt}
+use Rattle.std.proofs.Common.{refl, ap, ◌∙◌, arith, length-append}
 use Rattle.std.proofs.lemmas.Bool.Decides.{nat_tests}
-use Rattle.std.proofs.lemmas.List.{length-map, length-reverse}
-use Rattle.std.proofs.lemmas.Option.{none-some, same_Some}
-use Rattle.std.specs.Option.{option_and_then}
+use Rattle.std.proofs.lemmas.List.{length-reverse}
 use Rattle.std.specs.List.{AllByRecursion}
 use Rattle.std.proofs.lemmas.Bool.{and_parts, not-true}
-use Rattle.jc_bytes.proofs.OptionLaws.{then_some}
 use Rattle.jc_methods.specs.declared.body.Body.{Body}
-use Rattle.jc_methods.specs.WellMade.{IsWellMadeOfAnySize}
-use Rattle.jc_methods.specs.VerificationTypes.{Names, VerificationType, TypeState, verification_type}
-use Rattle.jc_methods.specs.VerificationTypes as verification
-use Rattle.jc_methods.specs.EntryState.{entry_of, is_static}
-use Rattle.jc_methods.specs.Flow.{falls_at}
-use Rattle.jc_methods.proofs.EntryLaws.{entry_count}
+use Rattle.jc_methods.specs.VerificationTypes.{VerificationType, TypeState}
+use Rattle.jc_methods.specs.EntryState.{is_static}
 use Rattle.jc_methods.proofs.PlacedInsnLaws.{few_insns}
-use Rattle.jc_kinds_after.specs.After.{insn_at, step_of, returns_of, ground_of, after_of}
-use Rattle.jc_kinds_after.specs.Step.{apply}
-use Rattle.jc_kinds_after.proofs.KeepLaws.{step_count}
-use Rattle.jc_kinds.specs.States.{frames_of, frame_at, or_else, state_of}
-use Rattle.jc_kinds.proofs.StateShiftLaws.{frame_is, frame_state}
 use Rattle.jc_programs.specs.declared.program.Program.{Program}
 use Rattle.jc_programs.specs.declared.program.Linked.{Linked}
 use Rattle.jc_programs.specs.declared.run_end.Entry.{Entry}
@@ -33,42 +21,9 @@ use Rattle.jc_machine_model.specs.Step.{counted_frames}
 use Rattle.jc_machine_model.specs.Fits.{StandsIn, FitsTop, FitsWaiting, FitEachWaiting, FitsRunning}
 use Rattle.jc_machine_model.proofs.BeginLaws.{slots_length}
 use Rattle.jc_machine_laws.proofs.OnwardLaws.{here_of, counted_step, counted_more}
+use Rattle.jc_machine_laws.proofs.StateLaws.{state_count}
 use Rattle.jc_machine_laws.proofs.RoomLaws.{state_room, same_count}
 use Rattle.jc_machine.specs.Room.{IsBounded, AreBounded}
-
--- ---- the local variables of each state
-
-module _ (names : Names) (b : Body) (w : IsWellMadeOfAnySize b) where
-  frame_count : (i : ℕ) (s : TypeState) → frame_at (frames_of names b) i ≡ Some s → length s.locals ≡ b.max_locals
-  frame_count i s e =
-      let f = frame_is names b.frames i s e in
-      let is = frame_state 0 b.code b.max_locals b.max_stack b.frames f.0 f.1.0 w.frames f.1.1 f.1.2 in
-      subst (λ (x : TypeState). length x.locals ≡ b.max_locals) f.3 (length-map f.0.state.locals (verification_type names) ∙ is.locals)
-
-  or_count : (i : ℕ) (other : Option TypeState) (s : TypeState) → ((t : TypeState) → other ≡ Some t → length t.locals ≡ b.max_locals)
-      → or_else (frame_at (frames_of names b) i) other ≡ Some s → length s.locals ≡ b.max_locals
-  or_count i other s more e = by (frame_at (frames_of names b) i) refl e
-    where
-      by : (o : Option TypeState) → frame_at (frames_of names b) i ≡ o → or_else o other ≡ Some s → length s.locals ≡ b.max_locals
-      by None is e = more s e
-      by (Some t) is e = frame_count i s (is ∙ e)
-
-  after_count : (i : ℕ) (o : Option TypeState) (falls : Bool) (t : TypeState) → ((s : TypeState) → o ≡ Some s → length s.locals ≡ b.max_locals)
-      → cond falls (option_and_then (after_of b i) o) None ≡ Some t → length t.locals ≡ b.max_locals
-  unfolding after_of
-  after_count i o false t before e = absurd (none-some _ e)
-  after_count i None true t before e = absurd (none-some _ e)
-  after_count i (Some s) true t before e =
-      let insn = then_some (λ i. apply (ground_of b _) (step_of b.uses (returns_of b) i) s) (insn_at b i) t e in
-      step_count (ground_of b i) (step_of b.uses (returns_of b) insn.0) s t insn.2 ∙ before s refl
-
-  -- as many as the body's frames have
-  pub state_count : (i : ℕ) (s : TypeState) → state_of names b i ≡ Some s → length s.locals ≡ b.max_locals
-  unfolding state_of
-  state_count zero s e =
-      or_count 0 (Some (entry_of b)) s (λ t is. subst (λ (x : TypeState). length x.locals ≡ b.max_locals) (same_Some (entry_of b) t is) (entry_count b w)) e
-  state_count (suc i) s e =
-      or_count (suc i) _ s (λ t is. after_count i (state_of names b i) (falls_at (insn_at b i)) t (λ u q. state_count i u q) is) e
 
 -- ---- frames
 
@@ -92,7 +47,7 @@ stands_bounded program f s p stands locals stack =
     let count = state_count program.names stands.body made.of_any_size f.place s stands.state_is in
     let room = state_room program.names stands.body made f.place s stands.state_is in
     let many = as_many s.stack in
-    let most = narrow stands.linked stands.body stands.plain in
+    let most = narrow stands.linked stands.body stands.entered in
     let last = few_insns stands.body.code in
     let few = made.of_any_size.code.few in
     let within = stands.within in

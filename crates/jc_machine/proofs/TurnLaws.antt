@@ -31,6 +31,7 @@ use Rattle.jc_machine_model.specs.Step.{LocatedInsn, located, operation_at, resu
 use Rattle.jc_machine_model.specs.Fits.{FitsRunning, FitsWorld}
 use Rattle.jc_machine_model.proofs.BeginLaws.{all_at}
 use Rattle.jc_machine_laws.proofs.CallLaws.{body_is}
+use Rattle.jc_machine_laws.proofs.PlainlyLaws.{plain, plainly_flows}
 use Rattle.jc_machine_laws.proofs.OnwardLaws.{here_of}
 use Rattle.jc_machine_laws.proofs.ReturnLaws.{located_is}
 use Rattle.jc_machine_laws.proofs.ThreadLaws.{Lands}
@@ -51,8 +52,9 @@ module _ (program : Program) (s : Shared) (frames : ThreadFrames) (p : IsProgram
   pub alone_counts : counted_frames program frames.waiting ≡ length frames.waiting
   alone_counts = each_counts program frames.top.method frames.waiting runs.below
 
-  pub alone_lands : Lands program s (after_result program (result_of program s frames.top) s frames.top frames.waiting)
-  alone_lands = running_lands program s frames.top frames.waiting p (record { statics = fits.statics; there = fits.there }) runs
+  pub alone_lands : Lands plain program s (after_result program (result_of program s frames.top) s frames.top frames.waiting)
+  alone_lands =
+      running_lands plain program (plainly_flows program p) p s frames.top frames.waiting (record { statics = fits.statics; there = fits.there }) runs
 
   -- the instruction before which the thread stands
   pub stands_well : (insn : Insn) → StandsBefore (located program frames.top.method frames.top.place) insn → IsWellFormed insn

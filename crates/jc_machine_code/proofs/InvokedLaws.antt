@@ -22,8 +22,8 @@ use Rattle.jc_machine_model.specs.Values.{Value, ComputationalType, computationa
 use Rattle.jc_machine_model.specs.World.{Frame, Shared}
 use Rattle.jc_machine_model.specs.Perform.{perform}
 use Rattle.jc_machine_model.specs.Step.{LocatedInsn, operation_at, located}
-use Rattle.jc_machine_model.specs.Operations.{FieldAt, Printed, Operation, pushes, computes, tests, jumps, indexes, matches, makes_array, measures, gets, puts, invokes, returns, returns_nothing, throws_top, outside}
-use Rattle.jc_machine_model.specs.Profile.{Location, in_init, init_of, what_at, constant_operation, long_operation, may_name_field, field_operation, declared_field, linked_field, is_print_stream, field_named, may_name_method, callee_named, entered_if, body_entered, class_entered, method_entered, is_fetch, init_call, printed_by, print_operation, made_class, build_operation, call_named, member_operation, make_operation, class_operation, array_operation, elements_of, read_operation, write_operation, return_operation, simple_operation, local_type, load_operation, store_operation, local_operation, operation_of}
+use Rattle.jc_machine_model.specs.Operations.{FieldAt, Printed, Operation, pushes, computes, tests, jumps, indexes, matches, makes_array, measures, gets, puts, invokes, casts, returns, returns_nothing, throws_top, outside}
+use Rattle.jc_machine_model.specs.Profile.{Location, in_init, init_of, what_at, given_of, given_by, computed_operation, constant_operation, long_operation, may_name_field, field_operation, declared_field, linked_field, is_print_stream, field_named, may_name_method, callee_named, entered_if, body_entered, class_entered, method_entered, is_fetch, init_call, printed_by, print_operation, made_class, build_operation, call_named, member_operation, make_operation, cast_operation, class_operation, array_operation, elements_of, read_operation, write_operation, return_operation, simple_operation, local_type, load_operation, store_operation, local_operation, operation_of}
 use Rattle.jc_machine_code.specs.declared.operation.Operation.{Operation as ShownOperation}
 use Rattle.jc_machine_code.specs.declared.operation.Operation.TheVariants as shown
 use Rattle.jc_machine_code.specs.Shown.{Shows}
@@ -110,7 +110,12 @@ module _ (program : Program) where
 
   -- ---- other instructions
 
+  computed_fine : (at : Location) (o : Option ProbeInit) → Fine (computed_operation at o)
+  computed_fine at None = tt
+  computed_fine at (Some init) = either (nat_eq at.place 0) (pushes (Value.probes at.class init.count)) outside tt tt
+
   constant_fine : (at : Location) (o : Option What) → Fine (constant_operation at o)
+  constant_fine at (Some (whats.Computed name desc bootstrap)) = computed_fine at (given_by (given_of at.linked) name desc bootstrap)
   constant_fine at (Some whats.Text) = either (is_some (init_of at)) (pushes (Value.text at.class)) outside tt tt
   constant_fine at _ = tt
 
@@ -122,9 +127,11 @@ module _ (program : Program) where
   make_fine None = tt
   make_fine (Some c) = tt
 
-  of_class_fine : (op : ℕ) (o : Option What) → Fine (class_operation op o)
-  of_class_fine op (Some (whats.Class name)) = either (nat_eq op opcode.new) (make_operation (made_class name)) outside (make_fine (made_class name)) tt
-  of_class_fine op _ = tt
+  of_class_fine : (op : ℕ) (at : Location) (o : Option What) → Fine (class_operation op at o)
+  of_class_fine op at (Some (whats.Class name)) =
+      either (nat_eq op opcode.new) (make_operation (made_class name)) _ (make_fine (made_class name))
+      (either (nat_eq op opcode.checkcast) (cast_operation at name) outside (either _ (casts at.class) outside tt tt) tt)
+  of_class_fine op at _ = tt
 
   array_fine : (code : ℕ) → Fine (array_operation code)
   array_fine code =
@@ -187,7 +194,7 @@ module _ (program : Program) where
   each_fine at (insns.Member op place) = member_fine op at (what_at at place)
   each_fine at (insns.Interface place count) = tt
   each_fine at (insns.Dynamic place) = tt
-  each_fine at (insns.OfClass op place) = of_class_fine op (what_at at place)
+  each_fine at (insns.OfClass op place) = of_class_fine op at (what_at at place)
   each_fine at (insns.NewArray elem) = array_fine elem
   each_fine at (insns.Multi place dims) = tt
   each_fine at (insns.Jump op to) = either (nat_eq op opcode.goto) (jumps to) (tests op to) tt tt

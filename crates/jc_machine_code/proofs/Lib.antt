@@ -3,6 +3,7 @@ mod FieldLaws
 mod PlaceLaws
 mod CorrespondLaws
 mod SiteLaws
+mod GivenLaws
 mod TypeLaws
 mod ThrownLaws
 mod FirstValueLaws

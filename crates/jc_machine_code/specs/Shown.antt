@@ -16,6 +16,7 @@ Shows (shown.PushInt x) d = d ≡ operations.pushes (values.int x)
 Shows (shown.PushLong x) d = d ≡ operations.pushes (values.long x)
 Shows shown.PushPrintStream d = d ≡ operations.pushes values.print_stream
 Shows (shown.PushText class) d = d ≡ operations.pushes (values.text class)
+Shows (shown.PushProbes class count) d = d ≡ operations.pushes (values.probes class count)
 Shows (shown.Computes op) d = d ≡ operations.computes op
 Shows (shown.Loads kind slot) d = d ≡ operations.loads (computational kind) slot
 Shows (shown.Stores kind slot) d = d ≡ operations.stores (computational kind) slot
@@ -37,6 +38,7 @@ Shows (shown.Makes c) d = d ≡ operations.makes c
 Shows (shown.Builds c) d = d ≡ operations.builds c
 Shows (shown.Prints line) d = d ≡ operations.prints (printed line)
 Shows (shown.Fetches class init) d = d ≡ operations.fetches class init
+Shows (shown.Casts class) d = d ≡ operations.casts class
 Shows (shown.Returns kind narrowing) d =
     (type : Option FieldType) × (d ≡ operations.returns (computational kind) type) × (return_narrowing type ≡ narrowing)
 Shows shown.ReturnsNothing d = d ≡ operations.returns_nothing

@@ -9,7 +9,7 @@ use Rattle.jc_programs.specs.declared.program.Program.{Program}
 use Rattle.jc_programs.specs.declared.program.Linked.{Linked}
 use Rattle.jc_programs.specs.Members.{class_at}
 use Rattle.jc_machine_model.specs.Methods.{most_frame_slots}
-use Rattle.jc_machine_model.specs.Profile.{Location, in_init, init_of}
+use Rattle.jc_machine_model.specs.Profile.{Location, in_init, init_of, has_constant, given_of, begins_with_array}
 use Rattle.jc_machine_model.specs.Programs.{IsStatic}
 use Rattle.jc_machine_code.specs.declared.prepared.PreparedClass.{PreparedClass}
 use Rattle.jc_machine_code.specs.declared.index.ClassIndex.{ClassIndex}
@@ -28,6 +28,7 @@ pub record HasFewMembers (c : Linked) : Type 0 where
 pub record IsClassIndex (i : ℕ) (c : Linked) (index : ClassIndex) : Type 0 where
   pub linked : index.linked.now ≡ c
   pub most : most_frame_slots c ≡ index.most
+  pub given : given_of c ≡ index.given
   pub methods : ArePlaces same_member is_method c.bodies index.methods.entries
   pub statics : ArePlaces same_member is_static_field c.statics index.statics.entries
 
@@ -57,6 +58,9 @@ pub record IsSite (program : Program) (at : Location) (site : Site) : Type 0 whe
   pub class : at.class ≡ site.class
   pub is_init : in_init at ≡ site.is_init
   pub init : init_of at ≡ site.init
+  pub has_constant_is : has_constant at.linked ≡ site.has_constant
+  pub given : given_of at.linked ≡ site.given
+  pub begins : begins_with_array at at.body.code ≡ site.begins_with_array
   pub narrowing : return_narrowing (method_type_in at.body.desc).returns ≡ site.narrowing
   pub whats : AreWhats at.body.uses site.whats.entries
 

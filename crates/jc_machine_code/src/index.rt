@@ -6,10 +6,11 @@ ghost use Rattle.jc_programs.specs.Members.{class_named, class_at, static_named,
 ghost use Rattle.jc_machine_code.specs.Prepared.{Correspond};
 ghost use Rattle.jc_machine_code.specs.Sites.{HasFewMembers, IsClassIndex, IsClassAt, IsIndex};
 
+use crate::given::given_of;
 use crate::methods::most_frame_slots;
 use crate::places::{Classes, Member, Members, class_places, method_places, static_places};
 use jc_bytes::{List, Memory};
-use jc_programs::{Linked, Program};
+use jc_programs::{Linked, ProbeInit, Program};
 use std::alloc::Global;
 
 /// A class, and its members by name.
@@ -19,6 +20,8 @@ pub struct ClassIndex<'a> {
     pub linked: &'a Linked,
     /// The most slots that a method of it may have.
     pub most: u32,
+    /// What it gives its methods by a constant.
+    pub given: Option<ProbeInit>,
     /// The numbers of its methods with code.
     pub methods: Members<'a>,
     /// The numbers of its static fields.
@@ -44,6 +47,7 @@ fn class_index(alloc: Global, linked: &Linked) -> Result<ClassIndex<'_>, Memory>
     Ok(ClassIndex {
         linked,
         most: most_frame_slots(linked),
+        given: given_of(linked),
         methods,
         statics,
     })

@@ -6,6 +6,7 @@ mod code;
 mod constants;
 mod elements;
 mod fields;
+mod given;
 mod index;
 mod laws;
 mod locals;

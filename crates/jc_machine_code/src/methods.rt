@@ -13,7 +13,7 @@ pub fn is_init_name(name: &[u8]) -> bool
 }
 
 /// Whether the class declares a method `$jacocoInit`.
-fn declares_init(class: &Linked) -> bool
+pub fn declares_init(class: &Linked) -> bool
     ensures { result ≡ declares_init class.now }
 {
     class

@@ -53,6 +53,11 @@ pub enum Operation {
     PushText {
         class: u32,
     },
+    /// Pushes the probe array of the class with this number, which has so many probes.
+    PushProbes {
+        class: u32,
+        count: u32,
+    },
     /// An opcode that reads and writes the operand stack alone.
     Computes(u8),
     /// Loads a local variable.
@@ -115,6 +120,10 @@ pub enum Operation {
     Fetches {
         class: u32,
         init: ProbeInit,
+    },
+    /// Keeps the probe array of the class with this number on top.
+    Casts {
+        class: u32,
     },
     /// Returns a value of this kind; an int is narrowed so.
     Returns {

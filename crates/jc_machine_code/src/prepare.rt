@@ -9,6 +9,7 @@ ghost use Rattle.jc_machine_code.specs.Prepared.{Correspond, IsPreparedMethod, I
 ghost use Rattle.jc_machine_code.specs.Sites.{IsClassIndex, IsIndex, IsMade, IsPreparedFrom};
 
 use crate::code::operations;
+use crate::given::{begins_with_array, has_constant};
 use crate::index::{ClassIndex, ProgramIndex};
 use crate::methods::{is_enterable, is_init_name};
 use crate::places::whats;
@@ -45,13 +46,17 @@ fn prepared_method<'a>(
         → IfOk result (λ method. IsPreparedMethod program class linked i body.now method) }
 {
     let types = method_types(alloc, body.desc.as_slice())?;
+    let whats = whats(alloc, body.uses.as_slice())?;
     let site = Site {
         index,
         class,
         is_init: is_init_name(body.name.as_slice()),
         init: init_of(members.linked, body),
+        has_constant: has_constant(members.linked),
+        given: members.given,
+        begins_with_array: begins_with_array(members.given, &whats, body.code.as_slice()),
         narrowing: return_narrowing(types.returns),
-        whats: whats(alloc, body.uses.as_slice())?,
+        whats,
     };
     let operations = operations(alloc, &site, body.code.as_slice())?;
     let parameters = parameter_types(alloc, types.parameters.as_slice())?;

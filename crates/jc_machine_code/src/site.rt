@@ -11,7 +11,7 @@ ghost use Rattle.jc_programs.specs.Members.{class_at, static_named};
 ghost use Rattle.jc_machine_model.specs.Profile.{Location, may_name_field, declared_field, linked_field, field_named, may_name_method};
 ghost use Rattle.jc_machine_model.specs.Profile.{callee_named, body_entered, method_entered};
 ghost use Rattle.jc_machine_model.specs.Profile.{constant_operation, long_operation, init_of, is_fetch, init_call, static_call, call_named};
-ghost use Rattle.jc_machine_model.specs.Profile.{member_operation, class_operation, operation_of};
+ghost use Rattle.jc_machine_model.specs.Profile.{member_operation, cast_operation, class_operation, operation_of};
 ghost use Rattle.jc_machine_model.specs.Operations.{tests, jumps};
 ghost use Rattle.jc_machine_code.specs.Shown.{Shows};
 ghost use Rattle.jc_machine_code.specs.Sites.{IsClassIndex, IsSite, UsesFit};
@@ -27,7 +27,9 @@ use crate::places::{Whats, what_at};
 use crate::simple::{array_operation, simple_operation};
 use crate::throwables::make_operation;
 use jc_machine_numbers::Narrowing;
-use jc_methods::{DATA_NAME, FETCH_NAME, FETCH_TYPE, Insn, RUNTIME_CLASS, What, opcode};
+use jc_methods::{
+    DATA_NAME, FETCH_NAME, FETCH_TYPE, Insn, PROBE_ARRAY, RUNTIME_CLASS, What, opcode,
+};
 use jc_programs::{Entry, ProbeInit};
 
 /// The method whose instructions are looked at.
@@ -41,6 +43,12 @@ pub struct Site<'a, 'i> {
     pub is_init: bool,
     /// What the method gives when it asks for a probe array.
     pub init: Option<ProbeInit>,
+    /// Whether the class gets its probe array by a constant.
+    pub has_constant: bool,
+    /// What the class gives its methods by a constant.
+    pub given: Option<ProbeInit>,
+    /// Whether instruction 0 of the method gives the probe array of the class.
+    pub begins_with_array: bool,
     /// How an int is narrowed that the method returns.
     pub narrowing: Narrowing,
     /// What the method uses at places in the constant pool.
@@ -63,37 +71,6 @@ fn is_fetch(named: Named<'_>) -> bool
     ensures { result ≡ is_fetch named.entry.class.now named.entry.name.now named.entry.desc.now }
 {
     named.class == RUNTIME_CLASS && (named.name == FETCH_NAME && named.desc == FETCH_TYPE)
-}
-
-/// `new` of a throwable.
-fn new_operation(op: u8, name: &[u8]) -> Operation
-    ensures { Shows result (class_operation op (Some (whats.Class name.now))) }
-{
-    if op == opcode::NEW {
-        make_operation(name)
-    } else {
-        Operation::Outside
-    }
-}
-
-/// An instruction that names what stands at a place in the constant pool as its class.
-fn operation_on(op: u8, what: &What) -> Operation
-    ensures { Shows result (class_operation op (Some what.now)) }
-{
-    match what {
-        What::Class(name) => new_operation(op, name.as_slice()),
-        _ => Operation::Outside,
-    }
-}
-
-/// An instruction that names a class.
-fn class_operation(op: u8, what: Option<&What>) -> Operation
-    ensures { Shows result (class_operation op (option_map (λ w. w.now) what.entry)) }
-{
-    match what {
-        Some(what) => operation_on(op, what),
-        None => Operation::Outside,
-    }
 }
 
 /// A conditional jump or `goto`.
@@ -129,7 +106,7 @@ impl<'a, 'i> Site<'a, 'i> {
     fn may_name_method(&self, place: u32, class: u32, name: &[u8]) -> bool
         ensures { (program : Program) (at : Location) → IsSite program at self.now → at.place ≡ place → result ≡ may_name_method at class name.now }
     {
-        !is_init_name(name) || (place == 0 && self.class == class)
+        !is_init_name(name) || (place == 0 && (self.class == class && !self.has_constant))
     }
 
     /// The number of the static field of the class with a number.
@@ -315,13 +292,61 @@ impl<'a, 'i> Site<'a, 'i> {
         }
     }
 
-    /// `ldc`.
-    fn constant(&self, what: Option<&What>) -> Operation
-        ensures { (program : Program) (at : Location) → IsSite program at self.now
+    /// `checkcast` of a class with a name, at a place.
+    fn cast_operation(&self, place: u32, name: &[u8]) -> Operation
+        ensures { (program : Program) (at : Location) → IsSite program at self.now → at.place ≡ place
+            → Shows result (cast_operation at name.now) }
+    {
+        if place == 1 && (name == PROBE_ARRAY && self.begins_with_array) {
+            Operation::Casts { class: self.class }
+        } else {
+            Operation::Outside
+        }
+    }
+
+    /// `new` or `checkcast` of a class with a name, at a place.
+    fn class_named(&self, op: u8, place: u32, name: &[u8]) -> Operation
+        ensures { (program : Program) (at : Location) → IsSite program at self.now → at.place ≡ place
+            → Shows result (class_operation op at (Some (whats.Class name.now))) }
+    {
+        if op == opcode::NEW {
+            make_operation(name)
+        } else if op == opcode::CHECKCAST {
+            self.cast_operation(place, name)
+        } else {
+            Operation::Outside
+        }
+    }
+
+    /// An instruction at a place, which names what stands at a place in the constant pool as its class.
+    fn class_on(&self, op: u8, place: u32, what: &What) -> Operation
+        ensures { (program : Program) (at : Location) → IsSite program at self.now → at.place ≡ place
+            → Shows result (class_operation op at (Some what.now)) }
+    {
+        match what {
+            What::Class(name) => self.class_named(op, place, name.as_slice()),
+            _ => Operation::Outside,
+        }
+    }
+
+    /// An instruction at a place that names a class.
+    fn class_operation(&self, op: u8, place: u32, what: Option<&What>) -> Operation
+        ensures { (program : Program) (at : Location) → IsSite program at self.now → at.place ≡ place
+            → Shows result (class_operation op at (option_map (λ w. w.now) what.entry)) }
+    {
+        match what {
+            Some(what) => self.class_on(op, place, what),
+            None => Operation::Outside,
+        }
+    }
+
+    /// `ldc` at a place.
+    fn constant(&self, place: u32, what: Option<&What>) -> Operation
+        ensures { (program : Program) (at : Location) → IsSite program at self.now → at.place ≡ place
             → Shows result (constant_operation at (option_map (λ w. w.now) what.entry)) }
     {
         match what {
-            Some(what) => constant_operation(self.class, self.init, what),
+            Some(what) => constant_operation(self.class, place, self.init, self.given, what),
             None => Operation::Outside,
         }
     }
@@ -341,12 +366,14 @@ impl<'a, 'i> Site<'a, 'i> {
                 slot: *slot,
                 by: *by,
             },
-            Insn::Constant { place: at } => self.constant(what_at(&self.whats, *at)),
+            Insn::Constant { place: at } => self.constant(place, what_at(&self.whats, *at)),
             Insn::Constant2 { place: at } => long_constant(what_at(&self.whats, *at)),
             Insn::Member { op, place: at } => {
                 self.member_operation(*op, place, what_at(&self.whats, *at))
             }
-            Insn::OfClass { op, place: at } => class_operation(*op, what_at(&self.whats, *at)),
+            Insn::OfClass { op, place: at } => {
+                self.class_operation(*op, place, what_at(&self.whats, *at))
+            }
             Insn::NewArray { elem } => array_operation(*elem),
             Insn::Jump { op, to } => jump_operation(*op, *to),
             Insn::Table { .. } => Operation::Indexes,

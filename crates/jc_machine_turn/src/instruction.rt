@@ -12,7 +12,7 @@ use crate::effects::compute;
 use crate::frames::push;
 use crate::jumps::{branch, jump, switch};
 use crate::locals::{count, load, store};
-use crate::objects::{build, fetch, make, throw_top};
+use crate::objects::{build, cast, fetch, make, throw_top};
 use crate::output::print_top;
 use crate::statics::{get, put};
 use crate::{Next, Shared};
@@ -38,6 +38,7 @@ pub fn perform(operation: Operation, insn: &Insn, shared: &mut Shared, frame: &m
         Operation::PushLong(x) => push(Value::Long(x), frame),
         Operation::PushPrintStream => push(Value::PrintStream, frame),
         Operation::PushText { class } => push(Value::Text { class }, frame),
+        Operation::PushProbes { class, count } => push(Value::Probes { class, count }, frame),
         Operation::Computes(op) => compute(frame, op),
         Operation::Loads { kind, slot } => load(frame, kind, slot),
         Operation::Stores { kind, slot } => store(frame, kind, slot),
@@ -61,6 +62,7 @@ pub fn perform(operation: Operation, insn: &Insn, shared: &mut Shared, frame: &m
         Operation::Builds(thrown) => build(thrown, shared, frame),
         Operation::Prints(line) => print_top(line, shared, frame),
         Operation::Fetches { class, init } => fetch(class, init, frame),
+        Operation::Casts { class } => cast(class, frame),
         Operation::Returns { kind, narrowing } => return_top(kind, narrowing, frame),
         Operation::ReturnsNothing => Next::Leaves(None),
         Operation::ThrowsTop => throw_top(shared, frame),

@@ -4,11 +4,11 @@ ghost use Rattle.jc_programs.specs.Throwables.{is_one};
 ghost use Rattle.jc_machine_model.specs.World as world;
 ghost use Rattle.jc_machine_model.specs.Values as values;
 ghost use Rattle.jc_machine_model.specs.Heap.{throwable};
-ghost use Rattle.jc_machine_model.specs.Objects.{made, thrown_of, by_build, by_throw, is_fetched, by_fetch};
+ghost use Rattle.jc_machine_model.specs.Objects.{made, thrown_of, by_build, by_throw, is_fetched, by_fetch, is_array_of, by_cast};
 ghost use Rattle.jc_machine_memory.specs.Values.{value_of};
 ghost use Rattle.jc_machine_turn.specs.Nexts.{result_of, Settles, KeepsShared};
 
-use crate::frames::{replace, take};
+use crate::frames::{go_on, replace, take};
 use crate::{Next, Shared};
 use jc_machine_memory::{Frame, HeapObject, Value};
 use jc_programs::{ProbeInit, Thrown};
@@ -140,5 +140,31 @@ pub fn fetch(class: u32, init: ProbeInit, frame: &mut Frame) -> Next
             count: init.count,
         },
     );
+    Next::Goes
+}
+
+/// Whether a value is the probe array of a class.
+fn is_array_of(class: u32, value: Value) -> bool
+    ensures { result ≡ is_array_of class (value_of value) }
+{
+    match value {
+        Value::Probes { class: of, .. } => of == class,
+        _ => false,
+    }
+}
+
+/// Goes on with the probe array of a class on top.
+pub fn cast(class: u32, frame: &mut Frame) -> Next
+    requires { frame.old.place + 1 < 2 ^ 32 }
+    ensures result { (s : world.Shared) → result_of result s frame.new ≡ by_cast class frame.old.stack s frame.old }
+    ensures kept { Settles result frame.old frame.new }
+{
+    let Some(value) = frame.peek(0) else {
+        return Next::Stuck;
+    };
+    if !is_array_of(class, value) {
+        return Next::Stuck;
+    }
+    go_on(frame);
     Next::Goes
 }

@@ -47,6 +47,13 @@ returns-in-PushText-clause-result c = λ d told leads.
     (operations.pushes (values.text c.in-PushText.class)) (shown _ _ d c.in-PushText.is told) c.push-in-PushText.ensures.kept
     (c.push-in-PushText.ensures.result c.args.shared.now)
 
+pub returns-in-PushProbes-clause-result : goal.returns-in-PushProbes-clause-result
+unfolding perform
+returns-in-PushProbes-clause-result c = λ d told leads.
+    comes c.push-in-PushProbes.result c.args.shared.now c.args.shared.now c.args.frame.now c.push-in-PushProbes.new.frame d
+    (operations.pushes (values.probes c.in-PushProbes.class c.in-PushProbes.count)) (shown _ _ d c.in-PushProbes.is told) c.push-in-PushProbes.ensures.kept
+    (c.push-in-PushProbes.ensures.result c.args.shared.now)
+
 pub returns-in-Jumps-clause-result : goal.returns-in-Jumps-clause-result
 unfolding perform
 returns-in-Jumps-clause-result c = λ d told leads.
