@@ -58,15 +58,16 @@ use Rattle.jc_instrument_laws.proofs.ReadCodeLaws.{id_below}
 use Rattle.jc_instrument_laws.specs.TwinClass.{AreBodiesOfAnySize, TwinClass}
 use Rattle.jc_instrument.specs.Steps.{HasStates}
 use Rattle.jc_link_programs.specs.Linking.{IsLinkedOf, IsLinkedClass, link_causes}
-use Rattle.jc_link_programs.specs.ProbeInits.{init_of, is_init}
+use Rattle.jc_link_programs.specs.ProbeInits.{CodeAsks, added_of, is_added}
 use Rattle.jc_link_programs.specs.Statics.{is_clinit, static_of, statics_among}
 use Rattle.jc_link_programs.proofs.PairedLaws.{AreThere, IsThere, AreSameWhere, paired}
+use Rattle.jc_link_programs.proofs.ProbeInitLaws.{are_probes}
 use Rattle.jc_link_programs.proofs.SameLinkedLaws.{one_probes, same_lists, to_same}
 use Rattle.jc_link_laws.specs.TwinFiles.{IsWrittenTwin}
 use Rattle.jc_link_laws.proofs.InitProbesLaws.{added_at, text_is}
 use Rattle.jc_link_laws.proofs.KeptStaticsLaws.{any_put, clinits_same, data_field_static, init_no_clinit, statics_same}
 use Rattle.jc_link_laws.proofs.MovedTwinLaws.{AreMovedTwins, counts_same, moved_twins}
-use Rattle.jc_link_laws.proofs.TwinPairLaws.{has_neither, init_named, no_probes, none_added}
+use Rattle.jc_link_laws.proofs.TwinPairLaws.{added_named, has_neither, no_probes, none_added}
 
 -- ---- bodies of a twin class
 
@@ -161,15 +162,15 @@ init_there names others class id count b d same h = subst (IsInitBody others cla
 
 -- the twins have the names of their bodies, and so the added method is the first of its name
 first_init : (names others : Names) (fetch : Fetch) (giver : What) (first : ℕ) (bs ys : List Body) (added : Body) → AreTwinBodies names others fetch giver first bs ys added
-    → ((b : Body) → Contains bs b → b.name ≡ init_name → ⊥) → is_init added ≡ true → init_of ys ≡ Some added
+    → ((b : Body) → Contains bs b → b.name ≡ init_name → ⊥) → is_added fetches.Member added ≡ true → added_of fetches.Member ys ≡ Some added
 first_init names others fetch giver first [] ys added twins none is =
-    ap init_of twins ∙ ap (λ (t : Bool). cond t (Some added) None) is
+    ap (added_of fetches.Member) twins ∙ ap (λ (t : Bool). cond t (Some added) None) is
 first_init names others fetch giver first (b ∷ bs) [] added twins none is = absurd twins
 first_init names others fetch giver first (b ∷ bs) (y ∷ ys) added twins none is =
-    ap (λ (t : Bool). cond t (Some y) (init_of ys)) (not_init y (λ e. none b (first_in b bs) (sym twins.0.twin.method.name ∙ e)))
+    ap (λ (t : Bool). cond t (Some y) (added_of fetches.Member ys)) (not_init y (λ e. none b (first_in b bs) (sym twins.0.twin.method.name ∙ e)))
     ∙ first_init names others fetch giver (first + probe_count b) bs ys added twins.1 (λ x c. none x (later_in b bs x c)) is
   where
-    not_init : (y : Body) → (y.name ≡ init_name → ⊥) → is_init y ≡ false
+    not_init : (y : Body) → (y.name ≡ init_name → ⊥) → is_added fetches.Member y ≡ false
     not_init y other = by (bytes_eq y.name init_name) refl
       where
         by : (t : Bool) → bytes_eq y.name init_name ≡ t → t && bytes_eq y.desc init_type ≡ false
@@ -292,17 +293,17 @@ module _ (original written : List ℕ) (are : AreBytes original) (are_new : AreB
 
   -- ---- probes
 
-  last_init : is_init moved.last ≡ true
+  last_init : is_added fetches.Member moved.last ≡ true
   last_init = ap₂ (λ (a b : List ℕ). bytes_eq a init_name && bytes_eq b init_type) added_is.method.name added_is.method.desc_is
 
-  last_first : init_of n.bodies ≡ Some moved.last
+  last_first : added_of fetches.Member n.bodies ≡ Some moved.last
   last_first =
       first_init names new_names fetches.Member giver 0 l.bodies n.bodies moved.last moved.twins
       (λ b there e. (has_neither names c l p_is not_added).bodies b there (inl e)) last_init
 
   last_body : BodyOf new_names t moved.last.method moved.last
   last_body =
-      let at = stands_at n.bodies moved.last (init_named n.bodies moved.last last_first).0 in
+      let at = stands_at n.bodies moved.last (added_named fetches.Member n.bodies moved.last last_first).0 in
       q_is.bodies.are.each at.0 moved.last at.1
 
   named : string_of t.pool added_is.places.name ≡ Some n.name
@@ -315,31 +316,31 @@ module _ (original written : List ℕ) (are : AreBytes original) (are_new : AreB
       (added_is.method.code_is ∙ ap (init_code added_is.places) (sym count_is))
       ∙ ap Some (name_is ∙ sym name_new)
 
+  by_member : fetch_of c.major ≡ fetches.Member
+  by_member = fetched_by_member c.major (λ outside. no_link_cause.0 _ (record { outside = outside; refusal = refl }))
+
+  asks : CodeAsks fetches.Member n.name moved.last id (sum_by probe_count l.bodies) added_is.places.name
+  asks = record {
+    places = added_is.places;
+    code = added_is.method.code_is;
+    count_fits = few;
+    count_is = added_is.names_count.count_is;
+    field_is = subst (λ (o : List ℕ). what_used moved.last.uses added_is.places.field ≡ Some (whats.Field o data_name data_type)) (sym name_new) added_is.field_is;
+    id_is = added_is.names_count.id_is;
+    id_fits = id_below original are;
+    text_is = refl;
+    fetch_is = added_is.names_count.fetch_is;
+  }
+
   pub probes_new : n.probes ≡ Some (record { id = id; count = sum_by probe_count l.bodies; bootstrap = None })
-  probes_new = one_probes t.pool n.name n.bodies (Some (record { id = id; count = sum_by probe_count l.bodies; bootstrap = None })) n.probes (record {
-    body = moved.last;
-    first = last_first;
-    asks = record {
-      text = added_is.places.name;
-      code = record {
-        places = added_is.places;
-        code = added_is.method.code_is;
-        count_fits = few;
-        field_is = subst (λ (o : List ℕ). what_used moved.last.uses added_is.places.field ≡ Some (whats.Field o data_name data_type)) (sym name_new) added_is.field_is;
-        id_is = added_is.names_count.id_is;
-        id_fits = id_below original are;
-        text_is = refl;
-        fetch_is = added_is.names_count.fetch_is;
-        bootstrap_is = refl;
-      };
-      name_is = named;
-    };
-  }) q_is.probes
+  probes_new =
+      let init = Some (record { id = id; count = sum_by probe_count l.bodies; bootstrap = None }) in
+      one_probes t n.name n.bodies init n.probes
+      (are_probes t n.name n.bodies fetches.Member (sym (ap fetch_of h.outside.major ∙ by_member)) moved.last last_first
+      id (sum_by probe_count l.bodies) added_is.places.name asks named init (refl, refl) refl tt)
+      q_is.probes
 
   -- ---- how the array is got
-
-  by_member : fetch_of l.version ≡ fetches.Member
-  by_member = ap fetch_of p_is.version ∙ fetched_by_member c.major (λ outside. no_link_cause.0 _ (record { outside = outside; refusal = refl }))
 
   -- what a pair says of it
   abbrev GetsArray : Fetch → Type 0
@@ -350,7 +351,7 @@ module _ (original written : List ℕ) (are : AreBytes original) (are_new : AreB
       × (n.probes ≡ Some (record { id = id; count = sum_by probe_count l.bodies; bootstrap = bootstrap_of fetch 0 }))))
 
   gets_array : GetsArray (fetch_of l.version)
-  gets_array = subst GetsArray (sym by_member) (
+  gets_array = subst GetsArray (sym (ap fetch_of p_is.version ∙ by_member)) (
     subst (λ (o : List ℕ). AreTwinBodies names new_names fetches.Member (giver_of fetches.Member o 0) 0 l.bodies n.bodies moved.last) name_is moved.twins,
     (added_is, (statics_new, probes_new)),
   )
@@ -359,7 +360,6 @@ module _ (original written : List ℕ) (are : AreBytes original) (are_new : AreB
   changed_pair = record {
     name = name_new;
     version = version_new;
-    by_member = by_member;
     has_clinit = clinit_new;
     none_added = has_neither names c l p_is not_added;
     no_probes = no_probes names c l p_is not_added;

@@ -11,7 +11,7 @@ use Rattle.jc_machine_model.specs.Run.{run}
 use Rattle.jc_twin_simulation.specs.Marking.{AreMarks}
 use Rattle.jc_twin_simulation.specs.Kept.{row}
 use Rattle.jc_twin_simulation.specs.Same.{Same}
-use Rattle.jc_twin_simulation.specs.Laws.{kept_of, IsKeptBySpread}
+use Rattle.jc_twin_simulation.specs.Laws.{kept_of, IsKeptBySpread, AllByConstant}
 
 -- where the one program is the twin of the other, and the threads of the case have entries; `marks` says of each instruction of
 -- the twin what it is, which the two programs tell
@@ -32,3 +32,8 @@ EachSchedule before after case = ForTwins before after case (λ marks. (turns : 
 abbrev pub FewProbeTurns : (before after : Program) → Case → Type 0
 FewProbeTurns before after case = ForTwins before after case
     (λ marks. (t : ℕ) (turns : List ℕ) → row after marks (begin_case after case) t turns 0 ≤ 17)
+
+-- at most 9, where each class that has probes in the twin gets its array by a constant
+abbrev pub FewerProbeTurns : (before after : Program) → Case → Type 0
+FewerProbeTurns before after case = ForTwins before after case
+    (λ marks. AllByConstant before after → (t : ℕ) (turns : List ℕ) → row after marks (begin_case after case) t turns 0 ≤ 9)

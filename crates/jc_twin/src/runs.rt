@@ -1,6 +1,6 @@
 //! The laws of runs.
-ghost use Rattle.jc_twin_simulation.specs.Together.{BeginsTogether, OneTurn};
-ghost use Rattle.jc_twin.specs.Runs.{EachSchedule, FewProbeTurns, SameRun};
+ghost use Rattle.jc_twin_simulation.specs.Mid.{BeginsInMid, OneTurn};
+ghost use Rattle.jc_twin.specs.Runs.{EachSchedule, FewerProbeTurns, FewProbeTurns, SameRun};
 
 use jc_programs::{Case, Program};
 
@@ -18,17 +18,18 @@ pub fn each_schedule(before: &Program, after: &Program, case: &Case)
 {}
 
 /// A thread of the twin takes at most 17 probe turns in a row: before its first kept turn, between two of them, and behind its
-/// last one.
+/// last one. Where each class that has probes gets its array by a constant, it takes at most 9.
 pub fn few_probe_turns(before: &Program, after: &Program, case: &Case)
-    ensures { FewProbeTurns before.now after.now case.now }
+    ensures most { FewProbeTurns before.now after.now case.now }
+    ensures by_constant { FewerProbeTurns before.now after.now case.now }
 {}
 
-/// One turn of a thread, of which runs are made. Two worlds are together where they look the same, each field of a probe array
+/// One turn of a thread, of which runs are made. Two worlds are in the relation where they look the same, each field of a probe array
 /// holds null or the array of its class, and each frame of the twin has what the prelude, a probe or `$jacocoInit` has made so far:
-/// what these pushed, and the array in its local variable behind the prelude, in front of which no long begins. Where `after` is
-/// the twin of `before`, a turn that is kept, of both worlds, and a probe turn, of the twin's world alone, leave them together. The
-/// worlds in which a case begins are together.
+/// what these pushed, and the array in its local variable behind the prelude. Where `after` is the twin of `before` and the two worlds
+/// fit, a turn that is kept, of both worlds, and a probe turn, of the twin's world alone, leave them in it. The worlds in which a
+/// case begins are in it.
 pub fn one_turn(before: &Program, after: &Program)
-    ensures begin { BeginsTogether before.now after.now }
+    ensures begin { BeginsInMid before.now after.now }
     ensures turn { OneTurn before.now after.now }
 {}

@@ -21,7 +21,7 @@ use Rattle.jc_machine_model.specs.World.{Frame, Thread, running, returned, threw
 use Rattle.jc_machine_model.specs.Methods.{is_enterable}
 use Rattle.jc_machine_model.specs.Begin.{number_value, first_of, first_value, argument_values, first_frame, thread_in, thread_for, first_threads, begin, entries_of, begin_case}
 use Rattle.jc_twin_simulation.specs.Sides.{Side}
-use Rattle.jc_twin_simulation.specs.Mid.{SameThread, SameThreads, Mid}
+use Rattle.jc_twin_simulation.specs.Beside.{SameThread, SameThreads, Beside}
 use Rattle.jc_twin_simulation.specs.Probes.{hit_of, item_hit, place_hit}
 use Rattle.jc_twin_exact.proofs.ValueLaws.{All, InStatics, locals_all}
 use Rattle.jc_twin_exact.proofs.GoodLaws.{IsOther, HasNoInit, IsGood, IsGoodWorld}
@@ -142,8 +142,8 @@ module _ (p p' : Program) (sides : Entry → Side) where
   unfolding begin
   unhit case = refl
 
-  pub begin_marked : (case : Case) → Mid p p' sides (begin_case p case) (begin_case p' case) → AreMarked p' sides [] (begin_case p' case)
-  begin_marked case mid = record {
+  pub begin_marked : (case : Case) → Beside p p' sides (begin_case p case) (begin_case p' case) → AreMarked p' sides [] (begin_case p' case)
+  begin_marked case beside = record {
     hit = λ h c. absurd (none_in h (subst (λ l. Contains l h) (unhit case) c));
     taken = λ e h c k. absurd (none_in e c);
     due = λ h i. absurd (none-some h (sym (calm i.0 i.1 i.2).0 ∙ i.3));
@@ -151,4 +151,4 @@ module _ (p p' : Program) (sides : Entry → Side) where
   }
     where
       calm : (t : ℕ) (x : Thread) → slice_get (begin_case p' case).threads t ≡ Some x → IsCalm p p' sides x
-      calm t x e = calm_there (begin_case p case).threads (begin_case p' case).threads mid.threads (begins case) t x e
+      calm t x e = calm_there (begin_case p case).threads (begin_case p' case).threads beside.threads (begins case) t x e

@@ -33,9 +33,9 @@ use Rattle.jc_machine_model.specs.Step.{located}
 use Rattle.jc_machine_model.specs.Taken.{edge_of, edges_of, one_edge, edge_stood, edges_stood, taken_from, reached_from}
 use Rattle.jc_twin_simulation.specs.Laws.{kept_of}
 use Rattle.jc_twin_simulation.specs.Sides.{Side, IsSide, AreSides, AreMarksOf}
-use Rattle.jc_twin_simulation.specs.Mid.{SameThread, SameThreads, Mid}
+use Rattle.jc_twin_simulation.specs.Beside.{SameThread, SameThreads, Beside}
 use Rattle.jc_twin_simulation.specs.Probes.{hit_of, item_hit, place_hit, due_in, early_in}
-use Rattle.jc_twin_simulation.proofs.BeginLaws.{case_together}
+use Rattle.jc_twin_simulation.proofs.BeginLaws.{case_beside}
 use Rattle.jc_twin_simulation.proofs.FrameLaws.{located_is}
 use Rattle.jc_twin_simulation.proofs.RunLaws.{same_run}
 use Rattle.jc_twin_simulation.proofs.TurnLaws.{hit_top, inside_none}
@@ -59,7 +59,11 @@ module _ (p p' : Program) (sides : Entry → Side) (marks : Entry → Marks) (ar
       same_Some (sides m).body b (sym side.body_is ∙ ap (λ (x : Linked). slice_get x.bodies m.method) (class_of m c side h) ∙ k)
 
   pub no_init : HasNoInit p
-  no_init m c b h k = let side = are.side m c b h k in ap (λ (x : Body). is_init_name x.name) (sym (body_of_side m c b side h k)) ∙ side.named
+  no_init m c b h k =
+      let side = are.side m c b h k in (
+        ap (λ (x : Body). is_init_name x.name) (sym (body_of_side m c b side h k)) ∙ side.named,
+        ap declares_init (sym (class_of m c side h)) ∙ side.declares,
+      )
 
   -- in a class with probes the ids are those of its probed edges
   pub ids_are : (m : Entry) → IsChangedAt p' m.class → (c : Linked) (b : Body) → slice_get p.classes m.class ≡ Some c → slice_get c.bodies m.method ≡ Some b
@@ -122,7 +126,7 @@ module _ (p p' : Program) (sides : Entry → Side) (marks : Entry → Marks) (ar
   abbrev IsStood : Thread → Hit → Type 0
   IsStood x h = (e : ProgramEdge) × Contains (edges_stood p x) e × (probe_in p' sides e ≡ Some h)
 
-  thread_stood : (w w' : World) → Mid p p' sides w w' → (x x' : Thread) → SameThread p p' sides x x' → (h : Hit) → early_in p' sides x' ≡ Some h → IsStood x h
+  thread_stood : (w w' : World) → Beside p p' sides w w' → (x x' : Thread) → SameThread p p' sides x x' → (h : Hit) → early_in p' sides x' ≡ Some h → IsStood x h
   thread_stood w w' m (running f fs) (running f' fs') (inl s) h k =
       item_stood f.method s.0.one.side f.place f'.place s.0.item s.0.here s.0.at h (sym (hit_top p p' sides early_of f f' s.0) ∙ k)
   thread_stood w w' m (running f fs) (running f' fs') (inr i) h k =
@@ -134,7 +138,7 @@ module _ (p p' : Program) (sides : Entry → Side) (marks : Entry → Marks) (ar
   thread_stood w w' m x (threw c) s h k = absurd (none-some h k)
   thread_stood w w' m x y s h k = absurd s
 
-  world_stood : (w w' : World) → Mid p p' sides w w' → (h : Hit) → IsIn (early_in p' sides) w'.threads h
+  world_stood : (w w' : World) → Beside p p' sides w w' → (h : Hit) → IsIn (early_in p' sides) w'.threads h
       → (e : ProgramEdge) × Contains (flat_map (edges_stood p) w.threads) e × (probe_in p' sides e ≡ Some h)
   world_stood w w' m h i = by (slice_get w.threads i.0) refl (same_get p p' sides marks are told w.threads w'.threads m.threads i.0)
     where
@@ -184,21 +188,21 @@ module _ (p p' : Program) (sides : Entry → Side) (marks : Entry → Marks) (ar
     abbrev pub own_turns : List ℕ
     own_turns = kept_of p' marks case turns
 
-    begin_mid : Mid p p' sides (begin_case p case) (begin_case p' case)
-    begin_mid = case_together p p' sides are case entries have
+    begin_beside : Beside p p' sides (begin_case p case) (begin_case p' case)
+    begin_beside = case_beside p p' sides are case entries have
 
-    end_mid : Mid p p' sides (run p case own_turns) (run p' case turns)
-    end_mid = same_run p p' sides marks are told turns before before' begin_mid
+    end_beside : Beside p p' sides (run p case own_turns) (run p' case turns)
+    end_beside = same_run p p' sides marks are told turns before before' begin_beside
 
     marked : AreMarked p' sides (taken_from p before own_turns) (run p' case turns)
-    marked = run_marked p p' sides marks are told no_init turns before before' begin_mid (begin_good p no_init case) [] (begin_marked p p' sides case begin_mid)
+    marked = run_marked p p' sides marks are told no_init turns before before' begin_beside (begin_good p no_init case) [] (begin_marked p p' sides case begin_beside)
 
     -- each hit is the probe of a reached edge
     pub hit_reached : (h : Hit) → Contains (run p' case turns).hits h → (e : ProgramEdge) × Contains (reached_from p before own_turns) e × (probe_in p' sides e ≡ Some h)
     hit_reached h c =
         ⊎_elim
         (λ took. (took.0, taken_reached p own_turns before took.0 took.1, took.2))
-        (λ early. let s = world_stood (run p case own_turns) (run p' case turns) end_mid h early in (s.0, stood_reached p own_turns before s.0 s.1, s.2))
+        (λ early. let s = world_stood (run p case own_turns) (run p' case turns) end_beside h early in (s.0, stood_reached p own_turns before s.0 s.1, s.2))
         (marked.hit h c)
 
     -- where the case ends well, each hit is the probe of a taken edge, and each such probe is hit
@@ -213,10 +217,10 @@ module _ (p p' : Program) (sides : Entry → Side) (marks : Entry → Marks) (ar
 
     -- the original's run ends well too
     pub both_returned : EndsWell p' case turns → HaveReturned (run p case own_turns).threads
-    both_returned ends = all_returned (run p case own_turns).threads (run p' case turns).threads end_mid.threads ends.returned
+    both_returned ends = all_returned (run p case own_turns).threads (run p' case turns).threads end_beside.threads ends.returned
 
     pub both_calm : EndsWell p' case turns → (run p case own_turns).shared.raised ≡ false
-    both_calm ends = sym end_mid.shared.raised ∙ ends.calm
+    both_calm ends = sym end_beside.shared.raised ∙ ends.calm
 
     -- something came to each reached edge
     pub reached_came : (Took : ProgramEdge → Type 0) → ((e : ProgramEdge) → Contains (taken_from p before own_turns) e → Took e)

@@ -3,11 +3,14 @@ use Rattle.std.proofs.Common.{◌≡◌, ℕ, Bool, true, false, List, [], ◌�
 use Rattle.std.specs.Prelude.{⊤, slice_get, ◌&&◌, bytes_eq}
 use Rattle.std.specs.List.{AllByRecursion}
 use Rattle.std.proofs.lemmas.Option.{none-some}
+use Rattle.jc_bytes.proofs.BooleanLaws.{and_false}
 use Rattle.jc_bytes.proofs.ListLaws.{all_at}
 use Rattle.jc_methods.specs.Flow.{flow_of}
 use Rattle.jc_methods.specs.ProbeMembers.{init_type}
 use Rattle.jc_methods.specs.declared.insn.Flow.TheVariants as flows
 use Rattle.jc_methods.specs.declared.body.Body.{Body}
+use Rattle.jc_methods.specs.declared.body.What.{What}
+use Rattle.jc_methods.specs.declared.body.What.TheVariants as whats
 use Rattle.jc_methods.specs.declared.body.Handler.{Handler}
 use Rattle.jc_programs.specs.declared.program.Program.{Program}
 use Rattle.jc_programs.specs.declared.program.Linked.{Linked}
@@ -18,8 +21,8 @@ use Rattle.jc_programs.specs.declared.run_end.Thrown.TheVariants as thrown
 use Rattle.jc_machine_model.specs.Values.{Value, object, probes}
 use Rattle.jc_machine_model.specs.Heap.{throwable, has_room}
 use Rattle.jc_machine_model.specs.World.{Frame, Thread, running, returned, threw, stuck, Shared, World}
-use Rattle.jc_machine_model.specs.Methods.{is_init_name}
-use Rattle.jc_machine_model.specs.Profile.{init_of}
+use Rattle.jc_machine_model.specs.Methods.{is_init_name, declares_init}
+use Rattle.jc_machine_model.specs.Profile.{Location, has_constant, init_of, given_by, given_in}
 use Rattle.jc_machine_model.specs.Perform.{perform}
 use Rattle.jc_machine_model.specs.Results.{Result, goes, hits, calls, leaves, raises, throws, gets_stuck}
 use Rattle.jc_machine_model.specs.Step.{LocatedInsn, located, operation_at, result_of, handler_of, caught, unwound, Raised, out_of_memory, placed, overflows, new_frame, given_back, left, After, after, thrown_in, after_result, turn_of, step_of, step}
@@ -38,7 +41,18 @@ others = record { ints = λ x. tt; longs = λ x. tt; nulls = tt; objects = λ k.
 
 -- no method of the program is named `$jacocoInit`
 abbrev pub HasNoInit : Program → Type 0
-HasNoInit p = (m : Entry) (c : Linked) (b : Body) → slice_get p.classes m.class ≡ Some c → slice_get c.bodies m.method ≡ Some b → is_init_name b.name ≡ false
+HasNoInit p =
+    (m : Entry) (c : Linked) (b : Body) → slice_get p.classes m.class ≡ Some c → slice_get c.bodies m.method ≡ Some b
+    → (is_init_name b.name ≡ false) × (declares_init c ≡ false)
+
+-- without such a method a class gives nothing by a constant
+given_here : (at : Location) (what : Option What) (init : ProbeInit) → declares_init at.linked ≡ false → given_in at what ≡ Some init → ⊥
+given_here at (Some (whats.Computed name desc bootstrap)) init e h =
+    none-some init
+    (sym (ap (λ g. given_by g name desc bootstrap)
+    (ap (λ (b : Bool). if b then at.linked.probes else None)
+    (ap (λ d. has_constant at.linked && d) e ∙ and_false (has_constant at.linked)))) ∙ h)
+given_here at _ init e h = absurd (none-some init h)
 
 module _ (p : Program) where
   -- ---- frames
@@ -76,15 +90,22 @@ module _ (p : Program) (no_init : HasNoInit p) where
   none_fetched m q i e init h =
       let st = stands p m q i e in
       none-some init
-      (sym (ap (λ (n : Bool). if n && bytes_eq st.body.desc init_type then st.class.probes else None) (no_init m st.class st.body st.class_is st.body_is))
+      (sym (ap (λ (n : Bool). if n && bytes_eq st.body.desc init_type then st.class.probes else None) (no_init m st.class st.body st.class_is st.body_is).0)
       ∙ sym (ap init_of st.at_is) ∙ h)
+
+  none_given : (m : Entry) (q : ℕ) (i : LocatedInsn) → located p m q ≡ Some i → (what : Option What) (init : ProbeInit) → given_in i.at what ≡ Some init
+      → IsOther (probes i.at.class init.count)
+  none_given m q i e what init h =
+      let st = stands p m q i e in
+      absurd (given_here i.at what init
+      (ap (λ (l : Location). declares_init l.linked) st.at_is ∙ (no_init m st.class st.body st.class_is st.body_is).1) h)
 
   -- what a turn of the frame comes to
   pub turned_here : (s : Shared) (f : Frame) (i : LocatedInsn) → located p f.method f.place ≡ Some i → InFrame IsOther f → InStatics IsOther s.statics
       → Turned IsOther i.insn s f (result_of p s f)
   turned_here s f i e values statics =
       subst (Turned IsOther i.insn s f) (sym (ap (λ o. perform (operation_at p o) s f) e))
-      (turned IsOther others p s f values statics i.at i.insn (none_fetched f.method f.place i e))
+      (turned IsOther others p s f values statics i.at i.insn (none_fetched f.method f.place i e) (none_given f.method f.place i e))
 
   pub nowhere : (s : Shared) (f : Frame) → located p f.method f.place ≡ None → result_of p s f ≡ gets_stuck
   unfolding perform

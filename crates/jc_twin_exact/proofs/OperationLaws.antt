@@ -6,6 +6,7 @@ use Rattle.jc_bytes.specs.Descriptor.{FieldType}
 use Rattle.jc_methods.specs.Opcode as opcode
 use Rattle.jc_methods.specs.Flow.{flow_of, is_return}
 use Rattle.jc_methods.specs.DescriptorTypes.{field_type_in}
+use Rattle.jc_methods.specs.ProbeMembers.{data_type}
 use Rattle.jc_methods.specs.declared.insn.Insn.{Insn}
 use Rattle.jc_methods.specs.declared.insn.Insn.TheVariants as insns
 use Rattle.jc_methods.specs.declared.insn.Flow.{Flow}
@@ -22,7 +23,7 @@ use Rattle.jc_programs.specs.Members.{class_named, class_at, static_named}
 use Rattle.jc_machine_model.specs.Methods.{is_enterable}
 use Rattle.jc_machine_model.specs.Values.{Value, probes, ComputationalType, computational_type}
 use Rattle.jc_machine_model.specs.Operations.{FieldAt, Printed, Operation, pushes, computes, tests, jumps, indexes, matches, measures, returns, returns_nothing, throws_top, outside}
-use Rattle.jc_machine_model.specs.Profile.{Location, in_init, init_of, what_at, constant_operation, long_operation, may_name_field, field_operation, declared_field, linked_field, is_print_stream, field_named, may_name_method, callee_named, entered_if, body_entered, class_entered, method_entered, is_fetch, init_call, static_call, printed_by, print_operation, made_class, build_operation, call_named, member_operation, make_operation, class_operation, array_operation, elements_of, read_operation, write_operation, return_operation, simple_operation, local_type, load_operation, store_operation, local_operation, operation_of}
+use Rattle.jc_machine_model.specs.Profile.{Location, in_init, init_of, what_at, given_in, computed_operation, begins_with_array, cast_operation, constant_operation, long_operation, may_name_field, field_operation, declared_field, linked_field, is_print_stream, field_named, may_name_method, callee_named, entered_if, body_entered, class_entered, method_entered, is_fetch, init_call, static_call, printed_by, print_operation, made_class, build_operation, call_named, member_operation, make_operation, class_operation, array_operation, elements_of, read_operation, write_operation, return_operation, simple_operation, local_type, load_operation, store_operation, local_operation, operation_of}
 use Rattle.jc_twin_exact.proofs.ValueLaws.{HoldsOfOthers}
 use Rattle.jc_twin_exact.proofs.ResultLaws.{Pushed}
 
@@ -67,7 +68,8 @@ Does flows.Returns insn o = IsExit o
 Does flows.Throws insn o = o ≡ throws_top
 
 module _ (V : Value → Type 0) (hold : HoldsOfOthers V) (program : Program) (at : Location)
-    (fetched : (init : ProbeInit) → init_of at ≡ Some init → V (probes at.class init.count)) where
+    (fetched : (init : ProbeInit) → init_of at ≡ Some init → V (probes at.class init.count))
+    (given : (what : Option What) (init : ProbeInit) → given_in at what ≡ Some init → V (probes at.class init.count)) where
   abbrev Good : Operation → Type 0
   Good o = IsPlain o × Pushed V o
 
@@ -138,9 +140,15 @@ module _ (V : Value → Type 0) (hold : HoldsOfOthers V) (program : Program) (at
 
   -- ---- constants and local variables
 
+  good_computed : (what : Option What) (o : Option ProbeInit) → given_in at what ≡ o → Good (computed_operation at o)
+  good_computed what None e = out
+  good_computed what (Some init) e = if_good (nat_eq at.place 0) _ _ (tt, given what init e) out
+
   good_constant : (o : Option What) → Good (constant_operation at o)
   good_constant (Some (whats.Int value)) = (tt, hold.ints value)
   good_constant (Some whats.Text) = if_good (is_some (init_of at)) (pushes (Value.text at.class)) outside (tt, hold.texts at.class) out
+  good_constant (Some (whats.Computed name desc bootstrap)) =
+      good_computed (Some (whats.Computed name desc bootstrap)) (given_in at (Some (whats.Computed name desc bootstrap))) refl
   good_constant _ = out
 
   good_long : (o : Option What) → Good (long_operation o)
@@ -234,8 +242,12 @@ module _ (V : Value → Type 0) (hold : HoldsOfOthers V) (program : Program) (at
   good_make None = out
   good_make (Some c) = (tt, tt)
 
-  good_class_of : (op : ℕ) (o : Option What) → Good (class_operation op o)
-  good_class_of op (Some (whats.Class name)) = if_good (nat_eq op opcode.new) _ _ (good_make (made_class name)) out
+  good_cast : (name : List ℕ) → Good (cast_operation at name)
+  good_cast name = if_good (nat_eq at.place 1 && (bytes_eq name data_type && begins_with_array at at.body.code)) _ _ (tt, tt) out
+
+  good_class_of : (op : ℕ) (o : Option What) → Good (class_operation op at o)
+  good_class_of op (Some (whats.Class name)) =
+      if_good (nat_eq op opcode.new) _ _ (good_make (made_class name)) (if_good (nat_eq op opcode.checkcast) _ _ (good_cast name) out)
   good_class_of op _ = out
 
   good_array : (code : ℕ) → Good (array_operation code)

@@ -32,7 +32,7 @@ use Rattle.jc_machine_model.specs.Perform.{perform}
 use Rattle.jc_machine_model.specs.Step.{LocatedInsn, located, result_of, is_init_method, handler_in, handler_of, caught, unwound, Raised, placed, overflows, new_frame, given_back, left, After, after, thrown_in, after_result}
 use Rattle.jc_machine_model.specs.Taken.{outcome_of, edge_of, call_edges, thread_edges}
 use Rattle.jc_twin_simulation.specs.Sides.{Side, IsSide, AreSides}
-use Rattle.jc_twin_simulation.specs.Mid.{OneMethod, SameFrame, SameWaits, SameShared}
+use Rattle.jc_twin_simulation.specs.Beside.{OneMethod, SameFrame, SameWaits, SameShared}
 use Rattle.jc_twin_simulation.specs.Probes.{hit_of, item_hit, place_hit, frame_hit, due_in, early_in}
 use Rattle.jc_twin_simulation.proofs.FrameLaws.{body_is, location, located_is, result_is, twin_insn, own_result}
 use Rattle.jc_twin_simulation.proofs.OwnLaws.{SameResult, AtImage}
@@ -356,4 +356,4 @@ module _ (p p' : Program) (sides : Entry → Side) where
         own_by (result_of p s f) (result_of p' s' f') refl (own_result p p' sides are f f' new early o s s' ss)
         (turned_here p no_init s f i here values statics)
         (subst (Turned Any new s' f') (sym is)
-        (turned Any any_holds p' s' f' (frame_any f') (each_any (AllByRecursion Any) (λ xs. each_any Any (λ v. tt) xs) s'.statics) at' new (λ init e. tt)))
+        (turned Any any_holds p' s' f' (frame_any f') (each_any (AllByRecursion Any) (λ xs. each_any Any (λ v. tt) xs) s'.statics) at' new (λ init e. tt) (λ what init e. tt)))

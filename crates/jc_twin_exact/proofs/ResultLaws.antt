@@ -14,7 +14,7 @@ use Rattle.jc_plan.specs.Chosen.{table_target, lookup_target}
 use Rattle.jc_machine_model.specs.Values.{Value, int, long, null, object, memory_error, print_stream, probes, text, ComputationalType, is_of, is_reference, is_same, stored_as}
 use Rattle.jc_machine_model.specs.Heap.{HeapObject, array, throwable, has_room}
 use Rattle.jc_machine_model.specs.World.{Frame, Shared}
-use Rattle.jc_machine_model.specs.Operations.{FieldAt, Printed, an_int_line, a_long_line, a_boolean_line, an_empty_line, Operation, pushes, computes, loads, stores, counts, tests, jumps, indexes, matches, reads, writes, makes_array, measures, gets, puts, invokes, makes, builds, prints, fetches, returns, returns_nothing, throws_top, outside}
+use Rattle.jc_machine_model.specs.Operations.{FieldAt, Printed, an_int_line, a_long_line, a_boolean_line, an_empty_line, Operation, pushes, computes, loads, stores, counts, tests, jumps, indexes, matches, reads, writes, makes_array, measures, gets, puts, invokes, makes, builds, prints, fetches, casts, returns, returns_nothing, throws_top, outside}
 use Rattle.jc_machine_model.specs.Results.{Result, goes, hits, calls, leaves, raises, throws, gets_stuck, next_with, goes_with}
 use Rattle.jc_machine_model.specs.Effects.{Effect, gives, unfit, effect}
 use Rattle.jc_machine_model.specs.Effects as effects
@@ -23,7 +23,7 @@ use Rattle.jc_machine_model.specs.Jumps.{Tested, agrees, tested, zero_test, int_
 use Rattle.jc_machine_model.specs.Arrays.{index_within, Element, Found, found, fails, unsuited, find_element, element_value, read_found, by_read, element_number, with_element, write_number, write_found, by_probe, write_to, by_write, has_elements, by_make_array, measured, by_measure}
 use Rattle.jc_machine_model.specs.Statics.{static_at, with_static, by_get, by_put, is_of_type}
 use Rattle.jc_machine_model.specs.Calls.{Arguments, taken_for, by_call, by_return, returned_as}
-use Rattle.jc_machine_model.specs.Objects.{made, built, thrown_of, by_build, thrown_up, by_throw, most_printed, by_print, boolean_text, by_println, is_fetched, by_fetch}
+use Rattle.jc_machine_model.specs.Objects.{made, built, thrown_of, by_build, thrown_up, by_throw, most_printed, by_print, boolean_text, by_println, is_fetched, by_fetch, is_array_of, by_cast}
 use Rattle.jc_machine_model.specs.Perform.{by_effect, perform}
 use Rattle.jc_twin_exact.proofs.ValueLaws.{HoldsOfOthers, InSlot, All, InSlots, InStatics, append_all, drop_all, read_slot, static_there, static_set, set_slot, put_slot, locals_all, Given, given, element_holds, stored_holds, InEffect, effect_in}
 
@@ -239,6 +239,10 @@ module _ (V : Value → Type 0) where
           (on (probes class init.count ∷ st) (a, h.1.1.1)) tt
       on_fetch class init _ a h = tt
 
+      on_cast : (class : ℕ) (st : List Value) → All V st → To (by_cast class st s f)
+      on_cast class [] h = tt
+      on_cast class (v ∷ st) h = if_result (is_array_of class v) (goes_with s f (v ∷ st)) gets_stuck (on (v ∷ st) h) tt
+
     -- ---- calls, returns and throws
 
     on_call : IsCall op → (callee : Entry) (n : ℕ) (r : Option Arguments) → Given V r → To (by_call callee n r f)
@@ -343,6 +347,7 @@ module _ (V : Value → Type 0) where
     comes (builds c) p = on_build hold (builds c) s f values statics refl tt c f.stack values.stack
     comes (prints k) p = on_println hold (prints k) s f values statics refl tt k f.stack values.stack
     comes (fetches class init) p = on_fetch hold (fetches class init) s f values statics refl tt class init f.stack p values.stack
+    comes (casts class) p = on_cast hold (casts class) s f values statics refl tt class f.stack values.stack
     comes (returns c type) p = on_return hold (returns c type) s f values statics tt c type f.stack values.stack
     comes returns_nothing p = (tt, tt)
     comes throws_top p = on_throw hold throws_top s f values statics tt f.stack values.stack

@@ -14,9 +14,10 @@ use Rattle.jc_machine_model.specs.World.{Frame, Thread, running, returned, threw
 use Rattle.jc_machine_model.specs.Step.{result_of, after_result, turn_of, step_of, step}
 use Rattle.jc_machine_model.specs.Run.{run_from}
 use Rattle.jc_machine_model.specs.Taken.{thread_edges, turn_edges, taken_from}
-use Rattle.jc_twin_simulation.specs.Kept.{is_running, keeps, keeps_at, is_kept, turn_if, kept, step_if}
+use Rattle.jc_twin_simulation.specs.Kept.{is_running, keeps, keeps_at, is_kept, kept, step_if}
+use Rattle.jc_twin_simulation.specs.Schedules.{turn_when}
 use Rattle.jc_twin_simulation.specs.Sides.{Side, array_of, AreSides, AreMarksOf}
-use Rattle.jc_twin_simulation.specs.Mid.{pushed_of, SameLocals, SameFrame, SameWaits, SameShared, SameThread, Mid}
+use Rattle.jc_twin_simulation.specs.Beside.{pushed_of, SameLocals, SameFrame, SameWaits, SameShared, SameThread, Beside}
 use Rattle.jc_twin_simulation.specs.Probes.{hit_of, nothing, due_in, early_in}
 use Rattle.jc_twin_simulation.proofs.OwnLaws.{AtImage}
 use Rattle.jc_twin_simulation.proofs.TurnLaws.{hit_top}
@@ -88,7 +89,7 @@ module _ (p p' : Program) (sides : Entry → Side) (marks : Entry → Marks) (ar
 
   -- ---- the world
 
-  module _ (w w' : World) (t : ℕ) (mid : Mid p p' sides w w') (good : IsGoodWorld p w) (edges : List ProgramEdge) (marked : AreMarked p' sides edges w') where
+  module _ (w w' : World) (t : ℕ) (beside : Beside p p' sides w w') (good : IsGoodWorld p w) (edges : List ProgramEdge) (marked : AreMarked p' sides edges w') where
     step_by : (b : Bool) (o o' : Option Thread) → slice_get w.threads t ≡ o → slice_get w'.threads t ≡ o' → SameOption p p' sides marks are told o o'
         → keeps_at p' marks o' ≡ b → AreMarked p' sides (edges ++ edges_if b (thread_edges p w.shared o)) (step_of p' w' t o')
     step_by b None None e e' h k = subst (λ l. AreMarked p' sides l w') (sym (ap (λ c. edges ++ c) (none_if b) ∙ append-nil edges)) marked
@@ -98,20 +99,20 @@ module _ (p p' : Program) (sides : Entry → Side) (marks : Entry → Marks) (ar
         none_if false = refl
     step_by b (Some x) (Some x') e e' h k =
         turn_marked p' sides edges (edges_if b (thread_edges p w.shared (Some x))) w' t x' (turn_of p' w'.shared x') e'
-        (thread_moved w.shared w'.shared mid.shared good.statics x x' h (all_at (IsGood p) w.threads t x good.threads e) b k) marked
+        (thread_moved w.shared w'.shared beside.shared good.statics x x' h (all_at (IsGood p) w.threads t x good.threads e) b k) marked
     step_by b None (Some x') e e' h k = absurd h
     step_by b (Some x) None e e' h k = absurd h
 
     pub step_marked : (b : Bool) → is_kept p' marks w' t ≡ b → AreMarked p' sides (edges ++ edges_if b (turn_edges p w t)) (step p' w' t)
     unfolding step
     step_marked b k =
-        step_by b (slice_get w.threads t) (slice_get w'.threads t) refl refl (same_get p p' sides marks are told w.threads w'.threads mid.threads t) k
+        step_by b (slice_get w.threads t) (slice_get w'.threads t) refl refl (same_get p p' sides marks are told w.threads w'.threads beside.threads t) k
 
   if_good : (b : Bool) (w : World) (t : ℕ) → IsGoodWorld p w → IsGoodWorld p (step_if b p w t)
   if_good true w t g = step_good p no_init w t g
   if_good false w t g = g
 
-  pub run_marked : (turns : List ℕ) (w w' : World) → Mid p p' sides w w' → IsGoodWorld p w → (edges : List ProgramEdge) → AreMarked p' sides edges w'
+  pub run_marked : (turns : List ℕ) (w w' : World) → Beside p p' sides w w' → IsGoodWorld p w → (edges : List ProgramEdge) → AreMarked p' sides edges w'
       → AreMarked p' sides (edges ++ taken_from p w (kept p' marks w' turns)) (run_from p' w' turns)
   run_marked [] w w' m g edges h = subst (λ l. AreMarked p' sides l w') (sym (append-nil edges)) h
   run_marked (t ∷ turns) w w' m g edges h =
@@ -119,11 +120,11 @@ module _ (p p' : Program) (sides : Entry → Side) (marks : Entry → Marks) (ar
       (is_kept p' marks w' t) (one_turn p p' sides marks are told t w w' m) (if_good (is_kept p' marks w' t) w t g)
       (step_marked w w' t m g edges h (is_kept p' marks w' t) refl)
     where
-      by : ((v : World) → Mid p p' sides v (step p' w' t) → IsGoodWorld p v → (l : List ProgramEdge) → AreMarked p' sides l (step p' w' t)
+      by : ((v : World) → Beside p p' sides v (step p' w' t) → IsGoodWorld p v → (l : List ProgramEdge) → AreMarked p' sides l (step p' w' t)
           → AreMarked p' sides (l ++ taken_from p v (kept p' marks (step p' w' t) turns)) (run_from p' (step p' w' t) turns))
-          → (b : Bool) → Mid p p' sides (step_if b p w t) (step p' w' t) → IsGoodWorld p (step_if b p w t)
+          → (b : Bool) → Beside p p' sides (step_if b p w t) (step p' w' t) → IsGoodWorld p (step_if b p w t)
           → AreMarked p' sides (edges ++ edges_if b (turn_edges p w t)) (step p' w' t)
-          → AreMarked p' sides (edges ++ taken_from p w (turn_if p' marks b t (kept p' marks (step p' w' t) turns))) (run_from p' (step p' w' t) turns)
+          → AreMarked p' sides (edges ++ taken_from p w (turn_when b t (kept p' marks (step p' w' t) turns))) (run_from p' (step p' w' t) turns)
       by again true m g h =
           subst (λ l. AreMarked p' sides l (run_from p' (step p' w' t) turns))
           (append_assoc edges (turn_edges p w t) (taken_from p (step p w t) (kept p' marks (step p' w' t) turns)))

@@ -10,6 +10,7 @@ use Rattle.jc_methods.specs.declared.insn.Flow.{Flow}
 use Rattle.jc_methods.specs.declared.insn.Flow.TheVariants as flows
 use Rattle.jc_methods.specs.declared.insn.Arm.{Arm}
 use Rattle.jc_methods.specs.declared.body.Body.{Body}
+use Rattle.jc_methods.specs.declared.body.What.{What}
 use Rattle.jc_methods.proofs.ByFlowLaws.{insn_by}
 use Rattle.jc_programs.specs.declared.program.Program.{Program}
 use Rattle.jc_programs.specs.declared.program.Linked.{Linked}
@@ -26,7 +27,7 @@ use Rattle.jc_machine_model.specs.World.{Frame, Shared}
 use Rattle.jc_machine_model.specs.Operations.{Operation, tests, jumps, indexes, matches, invokes, returns, returns_nothing, throws_top, outside}
 use Rattle.jc_machine_model.specs.Results.{Result, goes, hits, calls, leaves, raises, throws, gets_stuck}
 use Rattle.jc_machine_model.specs.Jumps.{Tested, test_of}
-use Rattle.jc_machine_model.specs.Profile.{Location, init_of, operation_of}
+use Rattle.jc_machine_model.specs.Profile.{Location, init_of, given_in, operation_of}
 use Rattle.jc_machine_model.specs.Perform.{perform}
 use Rattle.jc_machine_model.specs.Step.{LocatedInsn, located_in_body, located_in_class, located}
 use Rattle.jc_machine_model.specs.Taken.{outcome_of_test, outcome_of}
@@ -250,9 +251,10 @@ module _ (V : Value → Type 0) where
 
   module _ (hold : HoldsOfOthers V) (program : Program) (s : Shared) (f : Frame) (values : InFrame V f) (statics : InStatics V s.statics) where
     pub turned : (at : Location) (insn : Insn) → ((init : ProbeInit) → init_of at ≡ Some init → V (probes at.class init.count))
+        → ((what : Option What) (init : ProbeInit) → given_in at what ≡ Some init → V (probes at.class init.count))
         → Turned insn s f (perform (operation_of program at insn) s f)
-    turned at insn fetched =
-        let d = does V hold program at fetched insn in
+    turned at insn fetched given =
+        let d = does V hold program at fetched given insn in
         by_flow s f (flow_of insn) insn (operation_of program at insn) refl d.0 (perform (operation_of program at insn) s f)
         (comes V hold s f values statics (operation_of program at insn) d.1)
 

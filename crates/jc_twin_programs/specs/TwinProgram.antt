@@ -10,7 +10,6 @@ use Rattle.jc_programs.specs.declared.program.Linked.{Linked}
 use Rattle.jc_programs.specs.declared.program.Program.{Program}
 use Rattle.jc_kinds.specs.Checked.{Checked}
 use Rattle.jc_plan.specs.Probed.{probe_count}
-use Rattle.jc_methods.specs.declared.probe_members.Fetch.TheVariants as fetches
 use Rattle.jc_methods.specs.ProbeMembers.{data_name, init_name, fetch_of}
 use Rattle.jc_emit.specs.TwinBodies.{AreSameBodies, AreTwinBodies}
 use Rattle.jc_emit.specs.Added.{IsAddedBody, giver_of, bootstrap_of, added_statics}
@@ -48,8 +47,6 @@ pub record HasNeither (class : Linked) : Type 0 where
 pub record IsChangedPair (names new_names : Names) (class new : Linked) : Type 0 where
   pub name : new.name ≡ class.name
   pub version : new.version ≡ class.version
-  -- The machine knows no dynamic constant yet, and every class that is accepted has a version in which the method gives the array.
-  pub by_member : fetch_of class.version ≡ fetches.Member
   pub has_clinit : new.has_clinit ≡ class.has_clinit
   pub none_added : HasNeither class
   pub no_probes : class.probes ≡ None

@@ -28,9 +28,10 @@ use Rattle.jc_machine_model.specs.Perform.{perform}
 use Rattle.jc_machine_model.specs.Step.{result_of}
 use Rattle.jc_twin_simulation.specs.Sides.{Side, array_of, count_in}
 use Rattle.jc_twin_simulation.specs.Probes.{hit_of}
-use Rattle.jc_twin_simulation.specs.Mid.{pushed_of, SameLocals, OneMethod, SameFrame}
-use Rattle.jc_twin_simulation.proofs.LocalLaws.{none_pushed, moves_on, reads_array, stores_array}
-use Rattle.jc_twin_simulation.proofs.FrameLaws.{location, result_is, no_constant, twin_insn}
+use Rattle.jc_twin_simulation.specs.Beside.{pushed_of, SameLocals, OneMethod, SameFrame}
+use Rattle.jc_twin_simulation.proofs.LocalLaws.{none_pushed, moves_on, stays_unready, reads_array, stores_array}
+use Rattle.jc_twin_simulation.proofs.FrameLaws.{location, result_is, start_way, twin_insn}
+use Rattle.jc_twin_simulation.proofs.ConstantLaws.{loads_constant, passes_cast}
 
 -- ---- the instructions of probes
 
@@ -146,27 +147,70 @@ module _ (p p' : Program) (sides : Entry → Side) where
     done : (x : Item) (insn : Insn) → slice_get t.twin.code f'.place ≡ Some insn → result_of p' s' f' ≡ perform (operation_of p' here_at insn) s' f'
     done x insn h = result_is p' s' f' f.method f'.place t.new t.twin insn o.method refl o.side.new_is o.side.twin_is h
 
+    -- the last instruction of the prelude, which stores the array
+    abbrev stored_frame : Frame
+    stored_frame = record f' { place = f'.place + 1; stack = f.stack; locals = put_local t.body.arg_slots a f'.locals }
+
+    stored_is : (x : Item) (insn : Insn) → slice_get t.twin.code f'.place ≡ Some insn → insn ≡ astore t.body.arg_slots → f'.stack ≡ a ∷ f.stack
+        → result_of p' s' f' ≡ goes s' stored_frame
+    stored_is x insn here is st =
+        done x insn here ∙ ap (λ i. perform (operation_of p' here_at i) s' f') is ∙ stores_it p' here_at s' f' t.body.arg_slots
+        ∙ ap (λ l. by_store reference_type t.body.arg_slots l s' f') st
+
+    stored_same : (x : Item) → Stands t.body.code t.slot t.ids t.items (f'.place + 1) 0 None → 0 ≡ f.place → SameLocals a t.slot f.locals f'.locals x
+        → (v : ℕ) → t.slot ≡ Some v → SameFrame p p' sides f stored_frame
+    stored_same x next at ls v e =
+        to_stand stored_frame (f'.place + 1) 0 None next refl refl (sym at) refl
+        (λ y. stores_array a t.slot t.body.arg_slots f.locals f'.locals x y (e ∙ ap Some (o.side.changed v e).slot) refl ls)
+
     pub aside_turn : (x : Item) → slice_get t.items f'.place ≡ Some x → own_of x ≡ false → (x ≡ start fetches.Member 0 → ⊥) → IsOk x → at_of x ≡ f.place
         → f'.stack ≡ pushed_of a x ++ f.stack
         → SameLocals a t.slot f.locals f'.locals x → (v : ℕ) → t.slot ≡ Some v → Alone f f' x s' (result_of p' s' f')
     aside_turn (start fetches.Member zero) h own other ok at st ls v e = absurd (other refl)
     aside_turn (start fetches.Member (suc zero)) h own other ok at st ls v e =
-        let c = twin_insn p p' sides f.method o.side f'.place (start fetches.Member (suc zero)) h in
-        let slot = t.body.arg_slots in
-        let same : t.slot ≡ Some slot = e ∙ ap Some (o.side.changed v e).slot in
-        let g = record f' { place = f'.place + 1; stack = f.stack; locals = put_local slot a f'.locals } in
+        let c = twin_insn p p' sides f.method o.side f'.place (start fetches.Member 1) h in
         record {
-          frame = g;
-          is =
-              done (start fetches.Member (suc zero)) c.0 c.1 ∙ ap (λ i. perform (operation_of p' here_at i) s' f') c.2 ∙ stores_it p' here_at s' f' slot
-              ∙ ap (λ l. by_store reference_type slot l s' f') st;
-          same =
-              to_stand g (f'.place + 1) 0 None ok.next.stands refl refl (sym at) refl
-              (λ y. stores_array a t.slot slot f.locals f'.locals (start fetches.Member (suc zero)) y same refl ls);
+          frame = stored_frame;
+          is = stored_is (start fetches.Member 1) c.0 c.1 c.2 st;
+          same = stored_same (start fetches.Member 1) ok.next.stands at ls v e;
           to = refl;
         }
     aside_turn (start fetches.Member (suc (suc k))) h own other ok at st ls v e = let within = ok.within in absurd (omega (arith, within))
-    aside_turn (start fetches.Constant k) h own other ok at st ls v e = absurd (no_constant p p' sides f.method o.side k f'.place h)
+    aside_turn (start fetches.Constant zero) h own other ok at st ls v e =
+        let way = sym (start_way p p' sides f.method o.side 0 f'.place fetches.Constant h).2 in
+        let c = twin_insn p p' sides f.method o.side f'.place (start fetches.Constant 0) h in
+        record {
+          frame = next_with f' (a ∷ f'.stack);
+          is =
+              done (start fetches.Constant 0) c.0 c.1 ∙ ap (λ i. perform (operation_of p' here_at i) s' f') c.2
+              ∙ loads_constant p p' sides f.method o.side v e way s' f' f'.place ok.place;
+          same =
+              to_item (next_with f' (a ∷ f'.stack)) (start fetches.Constant 1) refl ok.next at (ap (λ l. a ∷ l) st)
+              (stays_unready a t.slot f.locals f'.locals (start fetches.Constant 0) (start fetches.Constant 1) (λ b. b) ls);
+          to = refl;
+        }
+    aside_turn (start fetches.Constant (suc zero)) h own other ok at st ls v e =
+        let way = sym (start_way p p' sides f.method o.side 1 f'.place fetches.Constant h).2 in
+        let c = twin_insn p p' sides f.method o.side f'.place (start fetches.Constant 1) h in
+        record {
+          frame = next_with f' f'.stack;
+          is =
+              done (start fetches.Constant 1) c.0 c.1 ∙ ap (λ i. perform (operation_of p' here_at i) s' f') c.2
+              ∙ passes_cast p p' sides f.method o.side v e way s' f' f'.place ok.place f.stack st;
+          same =
+              to_item (next_with f' f'.stack) (start fetches.Constant 2) refl ok.next at st
+              (stays_unready a t.slot f.locals f'.locals (start fetches.Constant 1) (start fetches.Constant 2) (λ b. b) ls);
+          to = refl;
+        }
+    aside_turn (start fetches.Constant (suc (suc zero))) h own other ok at st ls v e =
+        let c = twin_insn p p' sides f.method o.side f'.place (start fetches.Constant 2) h in
+        record {
+          frame = stored_frame;
+          is = stored_is (start fetches.Constant 2) c.0 c.1 c.2 st;
+          same = stored_same (start fetches.Constant 2) ok.next.stands at ls v e;
+          to = refl;
+        }
+    aside_turn (start fetches.Constant (suc (suc (suc k)))) h own other ok at st ls v e = let within = ok.within in absurd (omega (arith, within))
     aside_turn (image insn i early) h own other ok at st ls v e = absurd (true≢false own)
     aside_turn (probe_array id i late) h own other ok at st ls v e =
         let c = twin_insn p p' sides f.method o.side f'.place (probe_array id i late) h in

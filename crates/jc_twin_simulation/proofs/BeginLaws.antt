@@ -37,10 +37,10 @@ use Rattle.jc_machine_model.specs.Methods.{is_enterable}
 use Rattle.jc_machine_model.specs.Calls.{spread_value, spread_values, locals_for}
 use Rattle.jc_machine_model.specs.Step.{new_frame}
 use Rattle.jc_machine_model.specs.Begin.{number_value, first_value, first_statics, argument_values, first_frame, thread_in, thread_for, first_thread, first_threads, first_shared, begin, entries_of, begin_case}
-use Rattle.jc_twin_simulation.specs.Sides.{Side, count_in, IsSide, AreSides}
-use Rattle.jc_twin_simulation.specs.Mid.{SameFrame, extra_in, SameStatics, SameShared, SameThread, SameThreads, Mid}
+use Rattle.jc_twin_simulation.specs.Sides.{Side, count_in, way_of, IsSide, AreSides}
+use Rattle.jc_twin_simulation.specs.Beside.{SameFrame, extra_in, SameStatics, SameShared, SameThread, SameThreads, Beside}
 use Rattle.jc_twin_simulation.proofs.PlaceLaws.{place, position_place, place_there, place_before, place_last, place-map}
-use Rattle.jc_twin_simulation.proofs.ClassLaws.{class_same, class_there, changed_init, changed_statics, unchanged_data, changed_data}
+use Rattle.jc_twin_simulation.proofs.ClassLaws.{class_same, class_there, added_name, changed_statics, constant_statics, unchanged_data, changed_data, constant_data}
 use Rattle.jc_twin_simulation.proofs.EnterLaws.{static_slots, enters_same}
 use Rattle.jc_twin_simulation.proofs.MemberLaws.{enterable_same, entered_static}
 use Rattle.jc_twin_simulation.proofs.SameLaws.{no_class}
@@ -71,10 +71,20 @@ module _ (p p' : Program) (sides : Entry → Side) (are : AreSides p p' sides) w
       subst (λ o. SameStatics o class (values c) (values new))
       (sym (ap extra_in there ∙ ap (λ b. if b then Some (count_in new.probes) else None) (unchanged_data p.names p'.names c new pair)))
       (ap (map first_value) pair.statics)
-  statics_by class c new there (inr pair) =
-      subst (λ o. SameStatics o class (values c) (values new))
-      (sym (ap extra_in there ∙ ap (λ b. if b then Some (count_in new.probes) else None) (changed_data p.names p'.names c new pair)))
-      (false, ap (map first_value) (changed_statics p.names p'.names c new pair) ∙ map_append first_value c.statics data_static ∙ ap (λ v. map first_value c.statics ++ v ∷ []) data_first)
+  statics_by class c new there (inr pair) = by (fetch_of c.version) refl
+    where
+      by : (fetch : Fetch) → fetch_of c.version ≡ fetch → SameStatics (extra_in (class_at p' class)) class (values c) (values new)
+      by fetches.Constant way =
+          subst (λ o. SameStatics o class (values c) (values new))
+          (sym (ap extra_in there ∙ ap (λ b. if b then Some (count_in new.probes) else None) (constant_data p.names p'.names c new pair way)))
+          (ap (map first_value) (constant_statics p.names p'.names c new pair way))
+      by fetches.Member way =
+          subst (λ o. SameStatics o class (values c) (values new))
+          (sym (ap extra_in there ∙ ap (λ b. if b then Some (count_in new.probes) else None) (changed_data p.names p'.names c new pair way))) (
+            false,
+            ap (map first_value) (changed_statics p.names p'.names c new pair way) ∙ map_append first_value c.statics data_static
+                ∙ ap (λ v. map first_value c.statics ++ v ∷ []) data_first,
+          )
 
   statics_at : (class : ℕ) (o : Option Linked) → slice_get p.classes class ≡ o
       → SameStatics (extra_in (class_at p' class)) class (slice_index_or (first_statics p) class []) (slice_index_or (first_statics p') class [])
@@ -204,7 +214,7 @@ module _ (names new_names : Names) (thread : ThreadLine) where
   position_same c new (inl pair) = place_entry new.bodies ∙ ap (place (λ x. x)) (same_entries c.bodies new.bodies pair.bodies) ∙ sym (place_entry c.bodies)
   position_same c new (inr pair) =
       place_entry new.bodies ∙ ap (place (λ x. x)) (twin_entries (fetch_of c.version) (giver_of (fetch_of c.version) c.name pair.bootstrap) 0 c.bodies new.bodies pair.added pair.bodies)
-      ∙ ap (λ b. place (λ x. x) (map (is_entry thread) c.bodies ++ b ∷ [])) (no_entry pair.added (changed_init names new_names c new pair).method.name)
+      ∙ ap (λ b. place (λ x. x) (map (is_entry thread) c.bodies ++ b ∷ [])) (no_entry pair.added (added_name names new_names c new pair))
       ∙ none_last (map (is_entry thread) c.bodies) (place (λ x. x) (map (is_entry thread) c.bodies)) refl
       ∙ sym (place_entry c.bodies)
 
@@ -234,7 +244,7 @@ module _ (p p' : Program) (sides : Entry → Side) (are : AreSides p p' sides) w
     where
       by : (o : Option ℕ) → (sides m).slot ≡ o → (x : Item) × (slice_get (sides m).items 0 ≡ Some x) × (at_of x ≡ 0)
       by None e = let s = (subst (OkStart (sides m).body.code (sides m).slot (sides m).ids (sides m).items) e side.ok.start).stands in (s.item, s.here, s.at_is)
-      by (Some v) e = (start fetches.Member 0, (side.changed v e).gets.starts, refl)
+      by (Some v) e = (start (way_of (sides m)) 0, (side.changed v e).gets.starts, refl)
 
   thread_same : (thread : ThreadLine) (entry : Entry) → IsThere p thread entry
       → SameThread p p' sides (first_thread p entry thread.args) (first_thread p' entry thread.args)
@@ -293,10 +303,10 @@ module _ (p p' : Program) (sides : Entry → Side) (are : AreSides p p' sides) w
   threads_same (t ∷ threads) [] h = absurd h
   threads_same (t ∷ threads) (e ∷ entries) h = (thread_same t e (entry_there p t e h.0), threads_same threads entries h.1)
 
-  pub begin_together : (threads : List ThreadLine) (entries : List Entry) → AreEntries p threads entries
-      → Mid p p' sides (begin p threads entries) (begin p' threads entries)
+  pub begin_beside : (threads : List ThreadLine) (entries : List Entry) → AreEntries p threads entries
+      → Beside p p' sides (begin p threads entries) (begin p' threads entries)
   unfolding begin
-  begin_together threads entries h = record { shared = begin_shared p p' sides are; threads = threads_same threads entries h }
+  begin_beside threads entries h = record { shared = begin_shared p p' sides are; threads = threads_same threads entries h }
 
   -- ---- a case
 
@@ -315,7 +325,7 @@ module _ (p p' : Program) (sides : Entry → Side) (are : AreSides p p' sides) w
       ap (λ o. elim o [ None ↦ entries_of p' threads | Some x ↦ x ∷ entries_of p' threads ]) (entry_alike t ∙ h.0)
       ∙ ap (λ l. e ∷ l) (new_entries threads entries h.1)
 
-  pub case_together : (case : Case) (entries : List Entry) → AreEntries p case.threads entries → Mid p p' sides (begin_case p case) (begin_case p' case)
-  case_together case entries h =
-      subst₂ (λ a b. Mid p p' sides (begin p case.threads a) (begin p' case.threads b)) (sym (entries_are case.threads entries h))
-      (sym (new_entries case.threads entries h)) (begin_together case.threads entries h)
+  pub case_beside : (case : Case) (entries : List Entry) → AreEntries p case.threads entries → Beside p p' sides (begin_case p case) (begin_case p' case)
+  case_beside case entries h =
+      subst₂ (λ a b. Beside p p' sides (begin p case.threads a) (begin p' case.threads b)) (sym (entries_are case.threads entries h))
+      (sym (new_entries case.threads entries h)) (begin_beside case.threads entries h)

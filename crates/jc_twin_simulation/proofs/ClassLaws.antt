@@ -4,7 +4,7 @@ use Rattle.std.specs.Prelude.{slice_get, bytes_eq}
 use Rattle.std.specs.Int.{w64, cast_signed}
 use Rattle.std.specs.List.{list_any, sum_by}
 use Rattle.std.proofs.lemmas.Bool.{and_parts, and_from, false_from_ne_true}
-use Rattle.std.proofs.lemmas.List.{length-map}
+use Rattle.std.proofs.lemmas.List.{append-nil, length-map}
 use Rattle.std.proofs.lemmas.Option.{none-some}
 use Rattle.jc_bytes.proofs.BooleanLaws.{stands_in}
 use Rattle.jc_bytes.proofs.TextEqualLaws.{same_bytes, bytes_are}
@@ -13,6 +13,7 @@ use Rattle.jc_methods.specs.VerificationTypes.{Names}
 use Rattle.jc_methods.specs.ProbeMembers.{init_name, init_type, data_name, data_type, fetch_of}
 use Rattle.jc_methods.specs.declared.body.What.{What}
 use Rattle.jc_methods.specs.declared.probe_members.Fetch.{Fetch}
+use Rattle.jc_methods.specs.declared.probe_members.Fetch.TheVariants as fetches
 use Rattle.jc_methods.specs.declared.body.Body.{Body}
 use Rattle.jc_programs.specs.declared.program.Program.{Program}
 use Rattle.jc_programs.specs.declared.program.Linked.{Linked}
@@ -23,7 +24,7 @@ use Rattle.jc_emit.specs.Added.{IsInitBody, IsAddedBody, giver_of, bootstrap_of,
 use Rattle.jc_emit.specs.TwinBodies.{AreSameBodies, AreTwinBodies}
 use Rattle.jc_twin_programs.specs.TwinProgram.{IsPair, IsChangedPair, IsUnchangedPair, DifferInName}
 use Rattle.jc_machine_model.specs.Methods.{is_init_name, declares_init}
-use Rattle.jc_twin_simulation.specs.Mid.{has_data}
+use Rattle.jc_twin_simulation.specs.Beside.{has_data}
 use Rattle.jc_twin_simulation.proofs.PlaceLaws.{place, position_place, place_there, place_before, place_last, place_none, place_is, any_at, none_at, place-map}
 
 -- ---- names
@@ -76,15 +77,28 @@ module _ (names new_names : Names) (c new : Linked) (pair : IsChangedPair names 
   changed_keys =
       twin_keys names new_names (fetch_of c.version) (giver_of (fetch_of c.version) c.name pair.bootstrap) 0 c.bodies new.bodies pair.added pair.bodies
 
-  pub changed_init : IsInitBody new_names c.name (cast_signed w64 pair.id) (sum_by probe_count c.bodies) pair.added
-  changed_init = subst (λ f. IsAddedBody f new_names c.name (cast_signed w64 pair.id) (sum_by probe_count c.bodies) pair.added) pair.by_member pair.added_is
+  -- the added method has one name both ways
+  pub added_name : pair.added.name ≡ init_name
+  added_name = by (fetch_of c.version) pair.added_is
+    where
+      by : (fetch : Fetch) → IsAddedBody fetch new_names c.name (cast_signed w64 pair.id) (sum_by probe_count c.bodies) pair.added → pair.added.name ≡ init_name
+      by fetches.Member is = is.method.name
+      by fetches.Constant is = is.method.name
 
-  pub changed_statics : new.statics ≡ c.statics ++ data_static ∷ []
-  changed_statics = pair.statics ∙ ap (λ f. c.statics ++ added_statics f) pair.by_member
+  module _ (way : fetch_of c.version ≡ fetches.Member) where
+    pub changed_init : IsInitBody new_names c.name (cast_signed w64 pair.id) (sum_by probe_count c.bodies) pair.added
+    changed_init = subst (λ f. IsAddedBody f new_names c.name (cast_signed w64 pair.id) (sum_by probe_count c.bodies) pair.added) way pair.added_is
 
-  pub changed_probes : new.probes ≡ Some (record { id = pair.id; count = sum_by probe_count c.bodies; bootstrap = None })
-  changed_probes =
-      pair.probes ∙ ap (λ f. Some (record { id = pair.id; count = sum_by probe_count c.bodies; bootstrap = bootstrap_of f pair.bootstrap })) pair.by_member
+    pub changed_statics : new.statics ≡ c.statics ++ data_static ∷ []
+    changed_statics = pair.statics ∙ ap (λ f. c.statics ++ added_statics f) way
+
+    pub changed_probes : new.probes ≡ Some (record { id = pair.id; count = sum_by probe_count c.bodies; bootstrap = None })
+    changed_probes =
+        pair.probes ∙ ap (λ f. Some (record { id = pair.id; count = sum_by probe_count c.bodies; bootstrap = bootstrap_of f pair.bootstrap })) way
+
+  -- a class that gets its array by a constant has no field for it
+  pub constant_statics : fetch_of c.version ≡ fetches.Constant → new.statics ≡ c.statics
+  constant_statics way = pair.statics ∙ ap (λ f. c.statics ++ added_statics f) way ∙ append-nil c.statics
 
 -- ---- what is found
 
@@ -107,24 +121,35 @@ module _ (names new_names : Names) (c new : Linked) where
   pub statics_found : IsPair names new_names c new → (name desc : List ℕ) (k : ℕ) → static_named c.statics name desc ≡ Some k
       → static_named new.statics name desc ≡ Some k
   statics_found (inl pair) name desc k h = ap (λ l. static_named l name desc) pair.statics ∙ h
-  statics_found (inr pair) name desc k h =
-      static_place new.statics name desc
-      ∙ found_before (fits_key name desc) (map field_key c.statics) (field_key data_static ∷ []) (map field_key new.statics) k
-      (ap (map field_key) (changed_statics names new_names c new pair) ∙ map_append field_key c.statics data_static) (sym (static_place c.statics name desc) ∙ h)
+  statics_found (inr pair) name desc k h = by (fetch_of c.version) refl
+    where
+      by : (fetch : Fetch) → fetch_of c.version ≡ fetch → static_named new.statics name desc ≡ Some k
+      by fetches.Constant way = ap (λ l. static_named l name desc) (constant_statics names new_names c new pair way) ∙ h
+      by fetches.Member way =
+          static_place new.statics name desc
+          ∙ found_before (fits_key name desc) (map field_key c.statics) (field_key data_static ∷ []) (map field_key new.statics) k
+          (ap (map field_key) (changed_statics names new_names c new pair way) ∙ map_append field_key c.statics data_static)
+          (sym (static_place c.statics name desc) ∙ h)
 
   pub statics_missing : IsPair names new_names c new → (name desc : List ℕ) → static_named c.statics name desc ≡ None
       → (static_named new.statics name desc ≡ None) ⊎ ((k : ℕ) × (static_named new.statics name desc ≡ Some k) × (bytes_eq name data_name ≡ true))
   statics_missing (inl pair) name desc h = inl (ap (λ l. static_named l name desc) pair.statics ∙ h)
-  statics_missing (inr pair) name desc h = ⊎_elim
-      (λ none. inl (static_place new.statics name desc ∙ none))
-      (λ last. inr (
-        length (map field_key c.statics),
-        static_place new.statics name desc
-            ∙ last.0,
-        same_bytes name data_name (sym (bytes_are data_name name (and_parts (bytes_eq data_name name) (bytes_eq data_type desc) last.1).0)),
-      ))
-      (found_last (fits_key name desc) (map field_key c.statics) (field_key data_static) (map field_key new.statics)
-      (ap (map field_key) (changed_statics names new_names c new pair) ∙ map_append field_key c.statics data_static) (sym (static_place c.statics name desc) ∙ h))
+  statics_missing (inr pair) name desc h = by (fetch_of c.version) refl
+    where
+      by : (fetch : Fetch) → fetch_of c.version ≡ fetch
+          → (static_named new.statics name desc ≡ None) ⊎ ((k : ℕ) × (static_named new.statics name desc ≡ Some k) × (bytes_eq name data_name ≡ true))
+      by fetches.Constant way = inl (ap (λ l. static_named l name desc) (constant_statics names new_names c new pair way) ∙ h)
+      by fetches.Member way = ⊎_elim
+          (λ none. inl (static_place new.statics name desc ∙ none))
+          (λ last. inr (
+            length (map field_key c.statics),
+            static_place new.statics name desc
+                ∙ last.0,
+            same_bytes name data_name (sym (bytes_are data_name name (and_parts (bytes_eq data_name name) (bytes_eq data_type desc) last.1).0)),
+          ))
+          (found_last (fits_key name desc) (map field_key c.statics) (field_key data_static) (map field_key new.statics)
+          (ap (map field_key) (changed_statics names new_names c new pair way) ∙ map_append field_key c.statics data_static)
+          (sym (static_place c.statics name desc) ∙ h))
 
   -- ---- methods
 
@@ -198,11 +223,11 @@ class_again p differ k c e =
 -- ---- the added members
 
 -- no field of the original is `$jacocoData`, so the added one is found
-pub data_found : (names new_names : Names) (c new : Linked) → IsChangedPair names new_names c new
+pub data_found : (names new_names : Names) (c new : Linked) → IsChangedPair names new_names c new → fetch_of c.version ≡ fetches.Member
     → static_named new.statics data_name data_type ≡ Some (length c.statics)
-data_found names new_names c new pair =
+data_found names new_names c new pair way =
     position_place (fits_field data_name data_type) new.statics
-    ∙ ap (place (fits_field data_name data_type)) (changed_statics names new_names c new pair)
+    ∙ ap (place (fits_field data_name data_type)) (changed_statics names new_names c new pair way)
     ∙ place_last (fits_field data_name data_type) c.statics data_static
     (place_none (fits_field data_name data_type) c.statics
     (λ k f e. ap (λ b. b && bytes_eq f.desc data_type)
@@ -212,9 +237,9 @@ data_found names new_names c new pair =
     fits_field name desc f = bytes_eq f.name name && bytes_eq f.desc desc
 
 -- and no method is `$jacocoInit`
-pub init_found : (names new_names : Names) (c new : Linked) (pair : IsChangedPair names new_names c new)
+pub init_found : (names new_names : Names) (c new : Linked) (pair : IsChangedPair names new_names c new) → fetch_of c.version ≡ fetches.Member
     → method_named new.bodies init_name init_type ≡ Some (length c.bodies)
-init_found names new_names c new pair =
+init_found names new_names c new pair way =
     method_place new.bodies init_name init_type
     ∙ ap (place (fits_key init_name init_type)) (changed_keys names new_names c new pair)
     ∙ place_last (fits_key init_name init_type) (map body_key c.bodies) (body_key pair.added) (sym (method_place c.bodies init_name init_type) ∙ missing)
@@ -228,8 +253,8 @@ init_found names new_names c new pair =
         (other_name b.name init_name (λ same. pair.none_added.bodies b (stands_in c.bodies k b e) (inl same))))
 
     fits : fits_key init_name init_type (body_key pair.added) ≡ true
-    fits = and_from _ _ (same_bytes pair.added.name init_name (changed_init names new_names c new pair).method.name)
-        (same_bytes pair.added.desc init_type (changed_init names new_names c new pair).method.desc_is)
+    fits = and_from _ _ (same_bytes pair.added.name init_name (added_name names new_names c new pair))
+        (same_bytes pair.added.desc init_type (changed_init names new_names c new pair way).method.desc_is)
 
 -- ---- which classes declare `$jacocoInit`
 
@@ -257,7 +282,7 @@ pub changed_declares : (names new_names : Names) (c new : Linked) (pair : IsChan
     → slice_get new.bodies (length c.bodies) ≡ Some pair.added → declares_init new ≡ true
 changed_declares names new_names c new pair e =
     any_at (λ (b : Body). is_init_name b.name) new.bodies (length c.bodies) pair.added e
-    (same_bytes pair.added.name init_name (changed_init names new_names c new pair).method.name)
+    (same_bytes pair.added.name init_name (added_name names new_names c new pair))
 
 -- ---- which classes have `$jacocoData`
 
@@ -271,7 +296,15 @@ unchanged_data names new_names c new pair =
     ∙ none_at (λ (f : StaticField). bytes_eq f.name data_name) c.statics
     (λ k f e. other_name f.name data_name (λ same. pair.none_added.statics f (stands_in c.statics k f e) same))
 
-pub changed_data : (names new_names : Names) (c new : Linked) → IsChangedPair names new_names c new → has_data new ≡ true
-changed_data names new_names c new pair =
+pub changed_data : (names new_names : Names) (c new : Linked) → IsChangedPair names new_names c new → fetch_of c.version ≡ fetches.Member → has_data new ≡ true
+changed_data names new_names c new pair way =
     any_at (λ (f : StaticField). bytes_eq f.name data_name) new.statics (length c.statics) data_static
-    (ap (λ l. slice_get l (length c.statics)) (changed_statics names new_names c new pair) ∙ last_field c.statics data_static) (same_bytes data_name data_name refl)
+    (ap (λ l. slice_get l (length c.statics)) (changed_statics names new_names c new pair way) ∙ last_field c.statics data_static)
+    (same_bytes data_name data_name refl)
+
+pub constant_data : (names new_names : Names) (c new : Linked) → IsChangedPair names new_names c new → fetch_of c.version ≡ fetches.Constant
+    → has_data new ≡ false
+constant_data names new_names c new pair way =
+    ap (list_any (λ (f : StaticField). bytes_eq f.name data_name)) (constant_statics names new_names c new pair way)
+    ∙ none_at (λ (f : StaticField). bytes_eq f.name data_name) c.statics
+    (λ k f e. other_name f.name data_name (λ same. pair.none_added.statics f (stands_in c.statics k f e) (inr same)))

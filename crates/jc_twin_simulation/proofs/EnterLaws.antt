@@ -11,7 +11,7 @@ use Rattle.jc_methods.specs.DescriptorTypes.{method_type_in}
 use Rattle.jc_methods.specs.EntryState.{is_static}
 use Rattle.jc_methods.specs.WellMade.{TakeSlots}
 use Rattle.jc_methods.proofs.DescriptorTypesLaws.{method_again}
-use Rattle.jc_methods.specs.declared.probe_members.Fetch.TheVariants as fetches
+use Rattle.jc_methods.specs.declared.probe_members.Fetch.{Fetch}
 use Rattle.jc_programs.specs.declared.program.Program.{Program}
 use Rattle.jc_programs.specs.declared.run_end.Entry.{Entry}
 use Rattle.jc_emit.specs.Items.{Item, start, at_of}
@@ -20,8 +20,8 @@ use Rattle.jc_machine_model.specs.Values.{Value, int, long, int_type, long_type,
 use Rattle.jc_machine_model.specs.Statics.{is_of_type}
 use Rattle.jc_machine_model.specs.Calls.{Arguments, argument_before, taken_for, spread_value, spread_values, locals_for}
 use Rattle.jc_machine_model.specs.Step.{new_frame}
-use Rattle.jc_twin_simulation.specs.Sides.{Side, array_of, IsSide}
-use Rattle.jc_twin_simulation.specs.Mid.{pushed_of, SameFrame}
+use Rattle.jc_twin_simulation.specs.Sides.{Side, array_of, way_of, IsSide}
+use Rattle.jc_twin_simulation.specs.Beside.{pushed_of, SameFrame}
 use Rattle.jc_twin_simulation.proofs.SlotLaws.{Locals}
 use Rattle.jc_twin_simulation.proofs.LocalLaws.{none_pushed, Ends, new_locals}
 
@@ -128,7 +128,7 @@ module _ (p p' : Program) (sides : Entry → Side) where
       a : Value
       a = array_of t m.class
 
-      frame : (item : Item) → slice_get t.items 0 ≡ Some item → at_of item ≡ 0 → pushed_of a item ≡ [] → ((v : ℕ) → t.slot ≡ Some v → item ≡ start fetches.Member 0)
+      frame : (item : Item) → slice_get t.items 0 ≡ Some item → at_of item ≡ 0 → pushed_of a item ≡ [] → ((v : ℕ) → t.slot ≡ Some v → (fetch : Fetch) × (item ≡ start fetch 0))
           → SameFrame p p' sides (new_frame m (locals_for t.body.max_locals values)) (new_frame m (locals_for t.twin.max_locals values))
       frame item here at none new = record {
         one = record { method = refl; side = side; entered = entered };
@@ -147,4 +147,4 @@ module _ (p p' : Program) (sides : Entry → Side) where
           let begins = subst (OkStart t.body.code t.slot t.ids t.items) e side.ok.start in
           let s = begins.stands in
           frame s.item s.here s.at_is (none_pushed a t 0 0 None s) (λ v q. absurd (none-some v (sym e ∙ q)))
-      by (Some v) e = frame (start fetches.Member 0) (side.changed v e).gets.starts refl refl (λ u q. refl)
+      by (Some v) e = frame (start (way_of t) 0) (side.changed v e).gets.starts refl refl (λ u q. (way_of t, refl))

@@ -14,6 +14,7 @@ use Rattle.jc_methods.specs.ProbeMembers.{init_name, init_type, data_name, data_
 use Rattle.jc_methods.specs.declared.insn.Insn.{Insn}
 use Rattle.jc_methods.specs.declared.insn.Insn.TheVariants as insns
 use Rattle.jc_methods.specs.declared.body.Body.{Body}
+use Rattle.jc_methods.specs.declared.probe_members.Fetch.TheVariants as fetches
 use Rattle.jc_programs.specs.declared.program.Program.{Program}
 use Rattle.jc_programs.specs.declared.program.Linked.{Linked}
 use Rattle.jc_programs.specs.declared.program.ProbeInit.{ProbeInit}
@@ -34,8 +35,8 @@ use Rattle.jc_machine_model.specs.Objects.{by_fetch}
 use Rattle.jc_machine_model.specs.Perform.{by_effect, perform}
 use Rattle.jc_machine_model.specs.Profile.{Location, in_init, init_of, constant_operation, long_operation, may_name_field, field_operation, declared_field, linked_field, is_print_stream, is_fetch, init_call, member_operation, operation_of, method_entered, callee_named}
 use Rattle.jc_machine_model.specs.Step.{result_of}
-use Rattle.jc_twin_simulation.specs.Sides.{Side, count_in, IsChanged, IsSide, AreSides}
-use Rattle.jc_twin_simulation.specs.Mid.{null_or, InitStep, reads_field, doubles, asks_null, clears, wants_id, wants_text, wants_count, fetches_array, keeps_array, writes_field, gives_back, step_place, step_stack, extra_in, values_of, SameShared}
+use Rattle.jc_twin_simulation.specs.Sides.{Side, count_in, IsChanged, IsSide, AreSides, way_of}
+use Rattle.jc_twin_simulation.specs.Beside.{null_or, InitStep, reads_field, doubles, asks_null, clears, wants_id, wants_text, wants_count, fetches_array, keeps_array, writes_field, gives_back, step_place, step_stack, extra_in, values_of, SameShared}
 use Rattle.jc_twin_simulation.proofs.StaticLaws.{reads_extra, puts_extra}
 use Rattle.jc_twin_simulation.proofs.ClassLaws.{class_same, class_again, changed_init, changed_probes, changed_data, data_found}
 use Rattle.jc_twin_simulation.proofs.FrameLaws.{location, result_is}
@@ -99,6 +100,7 @@ module _ (p p' : Program) (sides : Entry → Side) where
   Stepped s s' f' class init step r = Steps s s' f' class init step r ⊎ ((r ≡ leaves (Some (probes class init.count))) × (step ≡ gives_back))
 
   module _ (are : AreSides p p' sides) (m : Entry) (side : IsSide p p' m (sides m)) (v : ℕ) (c : IsChanged p p' (sides m) v)
+      (way : way_of (sides m) ≡ fetches.Member)
       (s s' : Shared) (ss : SameShared p p' sides s s') (f' : Frame)
       (is_init : f'.method ≡ record { class = m.class; method = length (sides m).class.bodies }) where
     abbrev t : Side
@@ -117,7 +119,7 @@ module _ (p p' : Program) (sides : Entry → Side) where
     array = probes k init.count
 
     i : IsInitBody p'.names t.class.name (cast_signed w64 c.pair.id) (sum_by probe_count t.class.bodies) b
-    i = changed_init p.names p'.names t.class t.new c.pair
+    i = changed_init p.names p'.names t.class t.new c.pair way
 
     abbrev code : List Insn
     code = init_code i.places init.count
@@ -160,8 +162,8 @@ module _ (p p' : Program) (sides : Entry → Side) where
     extra : extra_in (class_at p' k) ≡ Some init.count
     extra =
         ap extra_in side.new_is
-        ∙ ap (λ b. if b then Some (count_in t.new.probes) else None) (changed_data p.names p'.names t.class t.new c.pair)
-        ∙ ap (λ o. Some (count_in o)) (changed_probes p.names p'.names t.class t.new c.pair)
+        ∙ ap (λ b. if b then Some (count_in t.new.probes) else None) (changed_data p.names p'.names t.class t.new c.pair way)
+        ∙ ap (λ o. Some (count_in o)) (changed_probes p.names p'.names t.class t.new c.pair way)
 
     may_name : (q : ℕ) → may_name_field (at q) k data_name ≡ true
     may_name q =
@@ -181,7 +183,7 @@ module _ (p p' : Program) (sides : Entry → Side) where
         ∙ ap (λ b. if b then pushes Value.print_stream else linked_field op (at q) p' data_name data_type (class_named p' t.class.name)) (no_stream op)
         ∙ ap (linked_field op (at q) p' data_name data_type) class_is
         ∙ ap (λ o. declared_field op (at q) k data_name data_type (option_and_then (λ (x : Linked). static_named x.statics data_name data_type) o)) side.new_is
-        ∙ ap (declared_field op (at q) k data_name data_type) (data_found p.names p'.names t.class t.new c.pair)
+        ∙ ap (declared_field op (at q) k data_name data_type) (data_found p.names p'.names t.class t.new c.pair way)
         ∙ ap (λ b. if b then field_operation op (record { class = k; field = length t.class.statics }) (field_type_in data_type) else outside) (may_name q)
         ∙ ap (field_operation op (record { class = k; field = length t.class.statics })) data_type_is
         ∙ ap (λ n. field_operation op (record { class = k; field = n }) (Some (Array Boolean))) (sym size)
@@ -204,7 +206,7 @@ module _ (p p' : Program) (sides : Entry → Side) where
     init_is_there q =
         ap (λ x. if x && bytes_eq b.desc init_type then t.new.probes else None) (named q)
         ∙ ap (λ x. if x then t.new.probes else None) (same_bytes b.desc init_type i.method.desc_is)
-        ∙ changed_probes p.names p'.names t.class t.new c.pair
+        ∙ changed_probes p.names p'.names t.class t.new c.pair way
 
     pushes_text : (q : ℕ) → perform (operation_of p' (at q) (insns.Constant i.places.name)) s' f' ≡ goes_with s' f' (text k ∷ f'.stack)
     unfolding operation_of perform

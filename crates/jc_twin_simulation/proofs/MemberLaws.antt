@@ -24,11 +24,11 @@ use Rattle.jc_emit.specs.Seen.{with_more}
 use Rattle.jc_machine_model.specs.Values.{computational_type}
 use Rattle.jc_machine_model.specs.Methods.{is_init_name, declares_init, is_wide, is_enterable}
 use Rattle.jc_machine_model.specs.Operations.{FieldAt, Operation, invokes, outside, Printed}
-use Rattle.jc_machine_model.specs.Profile.{Location, in_init, may_name_field, field_operation, declared_field, linked_field, is_print_stream, field_named, may_name_method, method_in, callee_named, entered_if, body_entered, class_entered, method_entered, is_fetch, init_call, init_of, static_call, printed_by, print_operation, virtual_call, made_class, build_operation, special_call, call_named, member_operation}
+use Rattle.jc_machine_model.specs.Profile.{Location, in_init, has_constant, may_name_field, field_operation, declared_field, linked_field, is_print_stream, field_named, may_name_method, method_in, callee_named, entered_if, body_entered, class_entered, method_entered, is_fetch, init_call, init_of, static_call, printed_by, print_operation, virtual_call, made_class, build_operation, special_call, call_named, member_operation}
 use Rattle.jc_twin_simulation.specs.Sides.{Side, IsSide, AreSides}
 use Rattle.jc_twin_simulation.proofs.OwnLaws.{IsField, Alike, Next}
 use Rattle.jc_twin_simulation.proofs.PlaceLaws.{any_at}
-use Rattle.jc_twin_simulation.proofs.ClassLaws.{class_same, class_there, static_there, method_there, statics_found, statics_missing, methods_found, methods_missing, changed_init}
+use Rattle.jc_twin_simulation.proofs.ClassLaws.{class_same, class_there, static_there, method_there, statics_found, statics_missing, methods_found, methods_missing, added_name}
 
 -- ---- a thread may enter a method where it may enter its twin
 
@@ -159,11 +159,12 @@ module _ (p p' : Program) (sides : Entry → Side) (are : AreSides p p' sides) (
       u = sides e
 
       tests : (is_enterable u.class u.body && may_name_method at e.class u.body.name) ≡ (is_enterable u.class u.body && true)
-      tests = ap (λ b. is_enterable u.class u.body && (not b || (nat_eq i 0 && nat_eq m.class e.class))) s.named
+      tests = ap (λ b. is_enterable u.class u.body && (not b || (nat_eq i 0 && (nat_eq m.class e.class && not (has_constant t.class))))) s.named
 
       tests' : (is_enterable u.new u.twin && may_name_method at' e.class u.twin.name) ≡ (is_enterable u.class u.body && true)
       tests' =
-          ap (λ b. is_enterable u.new u.twin && (not b || (nat_eq q 0 && nat_eq m.class e.class))) (ap is_init_name s.same.name ∙ s.named)
+          ap (λ b. is_enterable u.new u.twin && (not b || (nat_eq q 0 && (nat_eq m.class e.class && not (has_constant t.new)))))
+          (ap is_init_name s.same.name ∙ s.named)
           ∙ ap (λ b. b && true) (enterable_same p p' e u s)
 
       by : (b : Bool) → is_enterable u.class u.body ≡ b → Both (entered_if (b && true) e u.body) (entered_if (b && true) e u.twin)
@@ -179,13 +180,13 @@ module _ (p p' : Program) (sides : Entry → Side) (are : AreSides p p' sides) (
   not_added : (k : ℕ) (c new : Linked) → slice_get p'.classes k ≡ Some new → (pair : IsChangedPair p.names p'.names c new)
       → may_name_method at' k pair.added.name ≡ false
   not_added k c new there pair =
-      ap (λ b. not b || (nat_eq q 0 && nat_eq m.class k)) (same_bytes pair.added.name init_name (changed_init p.names p'.names c new pair).method.name)
+      ap (λ b. not b || (nat_eq q 0 && (nat_eq m.class k && not (has_constant t.new)))) (same_bytes pair.added.name init_name (added_name p.names p'.names c new pair))
       ∙ by (nat_eq m.class k) refl
     where
       declares : declares_init new ≡ true
       declares =
           any_at (λ (b : Body). is_init_name b.name) new.bodies (length c.bodies) pair.added (are.added c new pair)
-          (same_bytes pair.added.name init_name (changed_init p.names p'.names c new pair).method.name)
+          (same_bytes pair.added.name init_name (added_name p.names p'.names c new pair))
 
       in_class : m.class ≡ k → (o : Option ℕ) → t.slot ≡ o → nat_eq q 0 ≡ false
       in_class same None e =
@@ -193,8 +194,8 @@ module _ (p p' : Program) (sides : Entry → Side) (are : AreSides p p' sides) (
           absurd (true≢false (sym (ap declares_init news ∙ declares) ∙ (side.unchanged e).declares))
       in_class same (Some v) e = past v e
 
-      by : (b : Bool) → nat_eq m.class k ≡ b → (nat_eq q 0 && b) ≡ false
-      by true h = ap (λ b. b && true) (in_class (eqb-true m.class k h) t.slot refl)
+      by : (b : Bool) → nat_eq m.class k ≡ b → (nat_eq q 0 && (b && not (has_constant t.new))) ≡ false
+      by true h = ap (λ b. b && not (has_constant t.new)) (in_class (eqb-true m.class k h) t.slot refl)
       by false h = and_false (nat_eq q 0)
 
   own_method : Go → (k : ℕ) (c new : Linked) (name desc : List ℕ) → slice_get p.classes k ≡ Some c → slice_get p'.classes k ≡ Some new

@@ -1,12 +1,12 @@
 -- The operation of an instruction, and that of its image.
-use Rattle.std.proofs.Common.{◌≡◌, inl, inr, ℕ, ◌+◌, ◌-◌, ◌<◌, Bool, true, false, ◌&&◌, ◌||◌, List, [], ◌∷◌, length, map, Option, Some, None, nat_eq, nat_lt, nat_le, is_some, refl, sym, ap, ◌∙◌, subst, subst₂, arith, if◌then◌else◌}
+use Rattle.std.proofs.Common.{◌≡◌, ◌⊎◌, inl, inr, ⊎_elim, ℕ, ◌+◌, ◌-◌, ◌<◌, Bool, true, false, ◌&&◌, ◌||◌, List, [], ◌∷◌, length, map, Option, Some, None, nat_eq, nat_lt, nat_le, is_some, refl, sym, ap, ◌∙◌, subst, subst₂, arith, if◌then◌else◌}
 use Rattle.std.specs.Prelude.{slice_get, Contains, bytes_eq}
 use Rattle.std.proofs.lemmas.Option.{slice_get_within, get_or_from_slice_get, slice_get-get_or}
 use Rattle.std.proofs.lemmas.Bool.{leb-true, eqb-true, and_parts}
 use Rattle.jc_bytes.specs.Descriptor.{FieldType}
 use Rattle.jc_bytes.specs.PlainLists.{map_from}
 use Rattle.jc_bytes.specs.FirstSeen.{first_seen}
-use Rattle.jc_bytes.proofs.BooleanLaws.{stands_in}
+use Rattle.jc_bytes.proofs.BooleanLaws.{stands_in, and_false}
 use Rattle.jc_methods.specs.Opcode as opcode
 use Rattle.jc_methods.specs.Flow.{flow_of, is_return, inverse_of}
 use Rattle.jc_methods.specs.Insn.{IsWellFormed}
@@ -14,7 +14,7 @@ use Rattle.jc_methods.specs.InsnUse.{pool_place, is_of_two_slots}
 use Rattle.jc_methods.specs.Slots.{with_slots}
 use Rattle.jc_methods.proofs.SlotsLaws.{slots_same}
 use Rattle.jc_methods.specs.DescriptorTypes.{method_type_in}
-use Rattle.jc_methods.specs.ProbeMembers.{init_type}
+use Rattle.jc_methods.specs.ProbeMembers.{init_type, data_type}
 use Rattle.jc_methods.specs.declared.insn.Insn.{Insn}
 use Rattle.jc_methods.specs.declared.insn.Insn.TheVariants as insns
 use Rattle.jc_methods.specs.declared.insn.Flow.{Flow}
@@ -23,6 +23,7 @@ use Rattle.jc_methods.specs.declared.insn.Arm.{Arm}
 use Rattle.jc_methods.specs.declared.body.What.{What}
 use Rattle.jc_methods.specs.declared.body.What.TheVariants as whats
 use Rattle.jc_programs.specs.declared.program.Program.{Program}
+use Rattle.jc_programs.specs.declared.program.ProbeInit.{ProbeInit}
 use Rattle.jc_programs.specs.declared.run_end.Entry.{Entry}
 use Rattle.jc_programs.specs.declared.run_end.Thrown.{Thrown}
 use Rattle.jc_plan.specs.Edges.{arm, sequence, jump, branches_of}
@@ -31,8 +32,8 @@ use Rattle.jc_emit.specs.Local.{Stands, moved_insn, SwitchesAlike, OkImage}
 use Rattle.jc_emit.proofs.ConditionalBranchLaws.{test_op}
 use Rattle.jc_machine_model.specs.Values.{Value, int, ComputationalType, int_type, long_type, reference_type}
 use Rattle.jc_machine_model.specs.Methods.{is_init_name}
-use Rattle.jc_machine_model.specs.Operations.{Operation, pushes, computes, counts, tests, jumps, measures, returns, returns_nothing, throws_top, outside}
-use Rattle.jc_machine_model.specs.Profile.{Location, in_init, init_of, what_at, constant_operation, long_operation, member_operation, make_operation, made_class, class_operation, array_operation, elements_of, read_operation, write_operation, return_operation, simple_operation, local_type, load_operation, store_operation, local_operation, operation_of}
+use Rattle.jc_machine_model.specs.Operations.{Operation, pushes, computes, counts, tests, jumps, measures, casts, returns, returns_nothing, throws_top, outside}
+use Rattle.jc_machine_model.specs.Profile.{Location, in_init, init_of, what_at, has_constant, given_of, given_by, given_in, begins_with_array, cast_operation, computed_operation, constant_operation, long_operation, member_operation, make_operation, made_class, class_operation, array_operation, elements_of, read_operation, write_operation, return_operation, simple_operation, local_type, load_operation, store_operation, local_operation, operation_of}
 use Rattle.jc_twin_simulation.specs.Same.{twin_slot}
 use Rattle.jc_twin_simulation.specs.Sides.{Side, GoesOnAt, IsSide, AreSides}
 use Rattle.jc_twin_simulation.proofs.MemberLaws.{own_member}
@@ -72,7 +73,7 @@ two_slots op e = by (nat_eq op 21 || nat_eq op 54) (nat_eq op 22 || nat_eq op 55
     by false false q e = absurd (rest (nat_eq op 25 || nat_eq op 58) e)
 
 module _ (p p' : Program) (sides : Entry → Side) (are : AreSides p p' sides) (m : Entry) (side : IsSide p p' m (sides m)) (q i : ℕ)
-    (past : (v : ℕ) → (sides m).slot ≡ Some v → nat_eq q 0 ≡ false) (new : Insn) where
+    (past : (v : ℕ) → (sides m).slot ≡ Some v → nat_eq q 0 ≡ false) (beyond : (given_of (sides m).new ≡ None) ⊎ (nat_eq q 1 ≡ false)) (new : Insn) where
   abbrev t : Side
   t = sides m
 
@@ -192,11 +193,73 @@ module _ (p p' : Program) (sides : Entry → Side) (are : AreSides p p' sides) (
   none_of' : init_of at' ≡ None
   none_of' = ap (λ b. if b && bytes_eq t.twin.desc init_type then t.new.probes else None) no_init'
 
+  -- ---- what a class gives by a constant
+
+  abbrev given_if : Bool → Option ProbeInit → Option ProbeInit
+  given_if test probes = if test then probes else None
+
+  -- a class without `$jacocoInit` gives nothing, as each class of the original
+  none_of_class : given_of t.class ≡ None
+  none_of_class = ap (λ b. given_if b t.class.probes) (ap (λ d. has_constant t.class && d) side.declares ∙ and_false (has_constant t.class))
+
+  none_of_unchanged : t.slot ≡ None → given_of t.new ≡ None
+  none_of_unchanged e = ap (λ b. given_if b t.new.probes) (ap (λ d. has_constant t.new && d) (side.unchanged e).declares ∙ and_false (has_constant t.new))
+
+  none_given : (o : Option What) → given_in at o ≡ None
+  none_given (Some (whats.Computed name desc bootstrap)) = ap (λ g. given_by g name desc bootstrap) none_of_class
+  none_given _ = refl
+
+  none_given' : given_of t.new ≡ None → (o : Option What) → given_in at' o ≡ None
+  none_given' e (Some (whats.Computed name desc bootstrap)) = ap (λ g. given_by g name desc bootstrap) e
+  none_given' e _ = refl
+
+  none_begins : (code : List Insn) → begins_with_array at code ≡ false
+  none_begins (insns.Constant place ∷ code) = ap is_some (none_given (what_at at place))
+  none_begins code = refl
+
+  none_begins' : given_of t.new ≡ None → (code : List Insn) → begins_with_array at' code ≡ false
+  none_begins' e (insns.Constant place ∷ code) = ap is_some (none_given' e (what_at at' place))
+  none_begins' e code = refl
+
+  -- behind the prelude no instruction is in the profile that gets the array
+  computed_outside : (o : Option What) → computed_operation at' (given_in at' o) ≡ outside
+  computed_outside o = by t.slot refl
+    where
+      elsewhere : (g : Option ProbeInit) → nat_eq q 0 ≡ false → computed_operation at' g ≡ outside
+      elsewhere None e = refl
+      elsewhere (Some init) e = ap (λ b. if b then pushes (Value.probes m.class init.count) else outside) e
+
+      by : (slot : Option ℕ) → t.slot ≡ slot → computed_operation at' (given_in at' o) ≡ outside
+      by None e = ap (computed_operation at') (none_given' (none_of_unchanged e) o)
+      by (Some v) e = elsewhere (given_in at' o) (past v e)
+
+  own_computed : (o : Option What) → Both (computed_operation at (given_in at o)) (computed_operation at' (given_in at' o))
+  own_computed o = subst₂ Both (sym (ap (computed_operation at) (none_given o))) (sym (computed_outside o)) refl
+
+  abbrev cast_test : List ℕ → ℕ → Bool → Bool
+  cast_test name k begins = nat_eq k 1 && (bytes_eq name data_type && begins)
+
+  none_casts : (k : ℕ) (name : List ℕ) (begins : Bool) → begins ≡ false → cast_test name k begins ≡ false
+  none_casts k name begins e =
+      ap (λ b. nat_eq k 1 && (bytes_eq name data_type && b)) e
+      ∙ ap (λ b. nat_eq k 1 && b) (and_false (bytes_eq name data_type)) ∙ and_false (nat_eq k 1)
+
+  own_cast : (name : List ℕ) → Both (cast_operation at name) (cast_operation at' name)
+  own_cast name =
+      subst₂ Both (sym (ap (λ b. if b then casts m.class else outside) (none_casts i name (begins_with_array at t.body.code) (none_begins t.body.code))))
+      (sym (ap (λ b. if b then casts m.class else outside) off)) refl
+    where
+      off : cast_test name q (begins_with_array at' t.twin.code) ≡ false
+      off =
+          ⊎_elim (λ none. none_casts q name (begins_with_array at' t.twin.code) (none_begins' none t.twin.code))
+          (λ place. ap (λ b. b && (bytes_eq name data_type && begins_with_array at' t.twin.code)) place) beyond
+
   own_constant : Go → (o : Option What) → Both (constant_operation at o) (constant_operation at' o)
   own_constant go (Some (whats.Int value)) = (refl, go)
   own_constant go (Some whats.Text) =
       subst₂ (λ a b. Both (if is_some a then pushes (Value.text m.class) else outside) (if is_some b then pushes (Value.text m.class) else outside))
       (sym none_of) (sym none_of') refl
+  own_constant go (Some (whats.Computed name desc bootstrap)) = own_computed (Some (whats.Computed name desc bootstrap))
   own_constant go _ = refl
 
   own_long : Go → (o : Option What) → Both (long_operation o) (long_operation o)
@@ -207,8 +270,9 @@ module _ (p p' : Program) (sides : Entry → Side) (are : AreSides p p' sides) (
   own_make go None = refl
   own_make go (Some c) = (refl, go)
 
-  own_class : Go → (op : ℕ) (o : Option What) → Both (class_operation op o) (class_operation op o)
-  own_class go op (Some (whats.Class name)) = both_if (nat_eq op opcode.new) _ _ _ _ (own_make go (made_class name)) refl
+  own_class : Go → (op : ℕ) (o : Option What) → Both (class_operation op at o) (class_operation op at' o)
+  own_class go op (Some (whats.Class name)) =
+      both_if (nat_eq op opcode.new) _ _ _ _ (own_make go (made_class name)) (both_if (nat_eq op opcode.checkcast) _ _ _ _ (own_cast name) refl)
   own_class go op _ = refl
 
   own_array : Go → (code : ℕ) → Both (array_operation code) (array_operation code)
@@ -329,8 +393,8 @@ module _ (p p' : Program) (sides : Entry → Side) (are : AreSides p p' sides) (
   alike_of (insns.Interface place count) here well h = led outside (insns.Interface place count) (moved (insns.Interface place count) h) refl
   alike_of (insns.Dynamic place) here well h = led outside (insns.Dynamic place) (moved (insns.Dynamic place) h) refl
   alike_of (insns.OfClass op place) here well h =
-      led (class_operation op (what_at at place)) (insns.OfClass op place) (moved (insns.OfClass op place) h)
-      (subst (λ o. Both (class_operation op (what_at at place)) (class_operation op o)) (sym (what_same (insns.OfClass op place) place here refl))
+      led (class_operation op at (what_at at place)) (insns.OfClass op place) (moved (insns.OfClass op place) h)
+      (subst (λ o. Both (class_operation op at (what_at at place)) (class_operation op at' o)) (sym (what_same (insns.OfClass op place) place here refl))
       (own_class (go_on (insns.OfClass op place) h) op (what_at at place)))
   alike_of (insns.NewArray elem) here well h =
       led (array_operation elem) (insns.NewArray elem) (moved (insns.NewArray elem) h) (own_array (go_on (insns.NewArray elem) h) elem)

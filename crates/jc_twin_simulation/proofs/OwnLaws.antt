@@ -22,7 +22,7 @@ use Rattle.jc_emit.specs.Items.{image}
 use Rattle.jc_machine_model.specs.Values.{Value, int, long, null, object, memory_error, print_stream, probes, text, ComputationalType, long_type, int_type, reference_type, is_of, is_pair, stored_as}
 use Rattle.jc_machine_model.specs.Heap.{HeapObject, array, throwable, has_room}
 use Rattle.jc_machine_model.specs.World.{Frame, Shared}
-use Rattle.jc_machine_model.specs.Operations.{FieldAt, Printed, an_int_line, a_long_line, a_boolean_line, an_empty_line, Operation, pushes, computes, loads, stores, counts, tests, jumps, indexes, matches, reads, writes, makes_array, measures, gets, puts, invokes, makes, builds, prints, fetches, returns, returns_nothing, throws_top, outside}
+use Rattle.jc_machine_model.specs.Operations.{FieldAt, Printed, an_int_line, a_long_line, a_boolean_line, an_empty_line, Operation, pushes, computes, loads, stores, counts, tests, jumps, indexes, matches, reads, writes, makes_array, measures, gets, puts, invokes, makes, builds, prints, fetches, casts, returns, returns_nothing, throws_top, outside}
 use Rattle.jc_machine_model.specs.Results.{Result, goes, hits, calls, leaves, raises, throws, gets_stuck, next_with, goes_with}
 use Rattle.jc_machine_model.specs.Effects.{Effect, gives, unfit, effect}
 use Rattle.jc_machine_model.specs.Effects as effects
@@ -37,7 +37,7 @@ use Rattle.jc_machine_model.specs.Perform.{by_effect, perform}
 use Rattle.jc_machine_model.specs.Step.{new_frame}
 use Rattle.jc_twin_simulation.specs.Same.{twin_slot}
 use Rattle.jc_twin_simulation.specs.Sides.{Side, array_of, GoesOnAt, IsSide}
-use Rattle.jc_twin_simulation.specs.Mid.{SameLocals, OneMethod, SameFrame, SameWait, SameShared, values_of}
+use Rattle.jc_twin_simulation.specs.Beside.{SameLocals, OneMethod, SameFrame, SameWait, SameShared, values_of}
 use Rattle.jc_twin_simulation.proofs.LocalLaws.{none_pushed, reads_local, puts_local, sets_local, moves_on}
 use Rattle.jc_twin_simulation.proofs.EnterLaws.{AreFor, taken_fits, static_slots, enters_same}
 use Rattle.jc_twin_simulation.proofs.ArmLaws.{index_arm, match_arm}
@@ -97,6 +97,7 @@ module _ (p p' : Program) (sides : Entry → Side) where
     Alike (puts at type) op' = (op' ≡ puts at type) × IsField at × Next
     Alike (invokes callee ps n) op' = (op' ≡ invokes callee ps (sides callee).twin.max_locals) × IsCallee callee ps n × Next
     Alike (fetches class init) op' = ⊥
+    Alike (casts class) op' = ⊥
     Alike (returns c type) op' = op' ≡ returns c type
     Alike returns_nothing op' = op' ≡ returns_nothing
     Alike throws_top op' = op' ≡ throws_top
@@ -317,7 +318,7 @@ module _ (p p' : Program) (sides : Entry → Side) where
         by true e = (
           ss,
           on (f'.place + 1) (f.place + 1) h (put_local k v f.locals) (put_local (twin_slot t.slot k) v f'.locals)
-              (puts_local a t.slot f.locals f'.locals (image new f.place early) o.locals k v (λ u same pair. off u same (long_is c v e pair))) st,
+              (puts_local a t.slot f.locals f'.locals (image new f.place early) o.locals tt refl k v (λ u same pair. off u same (long_is c v e pair))) st,
         )
 
     own_count : Go → (k : ℕ) (by : ℤ) (v : Option Value) (st : List Value)
@@ -486,6 +487,7 @@ module _ (p p' : Program) (sides : Entry → Side) where
     performed (prints k) op' h =
         led (prints k) op' (prints k) h.0 (over (λ st. Both (by_println k f.stack s f) (by_println k st s' f')) (prints_alike h.1 k f.stack))
     performed (fetches class init) op' h = absurd h
+    performed (casts class) op' h = absurd h
     performed (returns c type) op' h =
         led (returns c type) op' (returns c type) h (over (λ st. Both (by_return c type f.stack) (by_return c type st)) (own_return c type f.stack))
     performed returns_nothing op' h = led returns_nothing op' returns_nothing h refl

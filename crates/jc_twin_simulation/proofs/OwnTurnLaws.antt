@@ -12,7 +12,7 @@ use Rattle.jc_machine_model.specs.Methods.{is_init_name}
 use Rattle.jc_machine_model.specs.Results.{Result, goes, hits, calls, leaves, raises, throws, gets_stuck, next_with}
 use Rattle.jc_machine_model.specs.Step.{is_init_method, counted_frames, overflows, new_frame, given_back, left, After, after, placed, thrown_in, after_result}
 use Rattle.jc_twin_simulation.specs.Sides.{Side}
-use Rattle.jc_twin_simulation.specs.Mid.{OneMethod, SameFrame, SameWait, SameWaits, SameShared, SameThread}
+use Rattle.jc_twin_simulation.specs.Beside.{OneMethod, SameFrame, SameWait, SameWaits, SameShared, SameThread}
 use Rattle.jc_twin_simulation.proofs.OwnLaws.{SameResult, AtImage}
 use Rattle.jc_twin_simulation.proofs.FrameLaws.{init_is, arrives}
 use Rattle.jc_twin_simulation.proofs.ThrowLaws.{placed_same, SameAfter, thrown_same}

@@ -1,4 +1,4 @@
--- The laws of programs and their twins, from worlds that belong together.
+-- The laws of programs and their twins, from worlds that stand beside each other.
 use Rattle.std.proofs.Common.{◌≡◌, ℕ, List, Option, Some, None, refl, sym, ap, ◌∙◌, subst, []}
 use Rattle.std.specs.Prelude.{slice_get}
 use Rattle.std.proofs.lemmas.Option.{none-some}
@@ -14,14 +14,14 @@ use Rattle.jc_twin_programs.specs.TwinProgram.{TwinProgram}
 use Rattle.jc_twin_programs.proofs.SeenProgramLaws.{body_seen, marks_one}
 use Rattle.jc_machine_model.specs.Begin.{begin_case}
 use Rattle.jc_twin_simulation.specs.Marking.{AreMarks}
-use Rattle.jc_twin_simulation.specs.Laws.{HaveMarks, HaveOneMarks, HaveSides, CasesBeginTogether, TurnsStayTogether, TogetherIsSame, RunsAreSame, IsKeptBySpread, SchedulesAreKept, ProbeTurnsAreFew}
-use Rattle.jc_twin_simulation.specs.Mid.{Mid}
-use Rattle.jc_twin_simulation.specs.Together.{EachBeginsTogether, EachTurnKeeps}
-use Rattle.jc_twin_simulation.proofs.ApartLaws.{together_mid}
-use Rattle.jc_twin_simulation.proofs.BeginLaws.{case_together}
-use Rattle.jc_twin_simulation.proofs.SameLaws.{together_same}
+use Rattle.jc_twin_simulation.specs.Laws.{HaveMarks, HaveOneMarks, HaveSides, CasesBeginBeside, TurnsStayBeside, BesideIsSame, RunsAreSame, IsKeptBySpread, SchedulesAreKept, ProbeTurnsAreFew, ProbeTurnsAreFewer}
+use Rattle.jc_twin_simulation.specs.Beside.{Beside}
+use Rattle.jc_twin_simulation.specs.Mid.{EachBeginsInMid, EachTurnKeeps}
+use Rattle.jc_twin_simulation.proofs.BesideLaws.{mid_beside}
+use Rattle.jc_twin_simulation.proofs.BeginLaws.{case_beside}
+use Rattle.jc_twin_simulation.proofs.SameLaws.{beside_same}
 use Rattle.jc_twin_simulation.proofs.SideLaws.{sides, are_sides, are_told}
-use Rattle.jc_twin_simulation.proofs.TogetherLaws.{mid_together}
+use Rattle.jc_twin_simulation.proofs.MidLaws.{beside_mid}
 use Rattle.jc_twin_simulation.proofs.WorldLaws.{one_turn}
 use Rattle.jc_twin_simulation.proofs.RunLaws as runs
 
@@ -29,8 +29,8 @@ use Rattle.jc_twin_simulation.proofs.RunLaws as runs
 
 module _ (p p' : Program) (marks : Entry → Marks) (t : TwinProgram p p') (are : AreMarks p p' marks)
     (case : Case) (entries : List Entry) (h : AreEntries p case.threads entries) where
-  begins : Mid p p' (sides p p' t marks are) (begin_case p case) (begin_case p' case)
-  begins = case_together p p' (sides p p' t marks are) (are_sides p p' t marks are) case entries h
+  begins : Beside p p' (sides p p' t marks are) (begin_case p case) (begin_case p' case)
+  begins = case_beside p p' (sides p p' t marks are) (are_sides p p' t marks are) case entries h
 
   spreads : (q : List ℕ) → IsKeptBySpread p p' marks case q
   spreads q =
@@ -49,7 +49,7 @@ module _ (p p' : Program) (marks : Entry → Marks) (t : TwinProgram p p') (are 
 pub runs_are_same : RunsAreSame
 runs_are_same p p' marks t are case entries h turns =
     let s = sides p p' t marks are in
-    together_same p p' s marks (are_sides p p' t marks are) (are_told p p' t marks are) _ _
+    beside_same p p' s marks (are_sides p p' t marks are) (are_told p p' t marks are) _ _
     (runs.same_run p p' s marks (are_sides p p' t marks are) (are_told p p' t marks are) turns (begin_case p case) (begin_case p' case)
     (begins p p' marks t are case entries h))
 
@@ -61,30 +61,36 @@ probe_turns_are_few p p' marks t are case entries h k turns =
     runs.few_probe_turns p p' (sides p p' t marks are) marks (are_sides p p' t marks are) (are_told p p' t marks are) k turns (begin_case p case)
     (begin_case p' case) (begins p p' marks t are case entries h)
 
+pub probe_turns_are_fewer : ProbeTurnsAreFewer
+probe_turns_are_fewer p p' marks t are case entries h all k turns =
+    runs.fewer_probe_turns p p' (sides p p' t marks are) marks (are_sides p p' t marks are) (are_told p p' t marks are)
+    (λ m side v e. let s = sides p p' t marks are m in all m.class s.class s.new side.class_is side.new_is (side.changed v e).pair) k turns (begin_case p case)
+    (begin_case p' case) (begins p p' marks t are case entries h)
+
 -- ---- one turn
 
 pub have_sides : HaveSides
 have_sides p p' marks t are = (sides p p' t marks are, are_sides p p' t marks are, are_told p p' t marks are)
 
-pub cases_begin_together : CasesBeginTogether
-cases_begin_together p p' marks s t are told case entries h = case_together p p' s are case entries h
+pub cases_begin_beside : CasesBeginBeside
+cases_begin_beside p p' marks s t are told case entries h = case_beside p p' s are case entries h
 
-pub turns_stay_together : TurnsStayTogether
-turns_stay_together p p' marks s t are told w w' k h = one_turn p p' s marks are told k w w' h
+pub turns_stay_beside : TurnsStayBeside
+turns_stay_beside p p' marks s t are told w w' k h = one_turn p p' s marks are told k w w' h
 
-pub together_is_same : TogetherIsSame
-together_is_same p p' marks s t are told w w' h = together_same p p' s marks are told w w' h
+pub beside_is_same : BesideIsSame
+beside_is_same p p' marks s t are told w w' h = beside_same p p' s marks are told w w' h
 
--- in terms of the two programs: worlds in which a case begins are together, and those behind a turn are
-pub begins_together : EachBeginsTogether
-begins_together p p' marks t told case entries h =
+-- in terms of the two programs: worlds in which a case begins are in the relation, and those behind a turn are
+pub begins_in_mid : EachBeginsInMid
+begins_in_mid p p' marks t told case entries h =
     let s = have_sides p p' marks t told in
-    mid_together p p' s.0 marks s.1 s.2 _ _ (case_together p p' s.0 s.1 case entries h)
+    beside_mid p p' s.0 marks s.1 s.2 _ _ (case_beside p p' s.0 s.1 case entries h)
 
-pub turns_keep_together : EachTurnKeeps
-turns_keep_together p p' marks t told w w' k fits fits' h =
+pub turns_keep_mid : EachTurnKeeps
+turns_keep_mid p p' marks t told w w' k fits fits' h =
     let s = have_sides p p' marks t told in
-    mid_together p p' s.0 marks s.1 s.2 _ _ (one_turn p p' s.0 marks s.1 s.2 k w w' (together_mid p p' s.0 marks s.1 s.2 w w' fits fits' h))
+    beside_mid p p' s.0 marks s.1 s.2 _ _ (one_turn p p' s.0 marks s.1 s.2 k w w' (mid_beside p p' s.0 marks s.1 s.2 w w' fits fits' h))
 
 -- ---- marks
 

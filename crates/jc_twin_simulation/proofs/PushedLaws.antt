@@ -11,18 +11,17 @@ use Rattle.jc_methods.specs.declared.body.Use.{Use}
 use Rattle.jc_methods.specs.declared.body.What.{What}
 use Rattle.jc_methods.specs.declared.body.What.TheVariants as whats
 use Rattle.jc_methods.specs.declared.probe_members.Fetch.{Fetch}
-use Rattle.jc_methods.specs.declared.probe_members.Fetch.TheVariants as fetches
 use Rattle.jc_programs.specs.declared.program.Program.{Program}
 use Rattle.jc_programs.specs.declared.run_end.Entry.{Entry}
 use Rattle.jc_emit.specs.Items.{Item, start, image, probe_array, probe_id, probe_one, probe_store, hop, own_of, extra_of}
 use Rattle.jc_emit.specs.Local.{IsBehind}
 use Rattle.jc_emit.specs.Marks.{push, PushesBy, Pushes, prelude_size}
 use Rattle.jc_machine_model.specs.Values.{Value, int}
-use Rattle.jc_twin_simulation.specs.Sides.{Side, IsSide}
-use Rattle.jc_twin_simulation.specs.Mid.{pushed_of}
-use Rattle.jc_twin_simulation.specs.Together.{IsPushedBy, IsPushedIn, ArePushed}
+use Rattle.jc_twin_simulation.specs.Sides.{Side, way_of, IsSide}
+use Rattle.jc_twin_simulation.specs.Beside.{pushed_of}
+use Rattle.jc_twin_simulation.specs.Mid.{IsPushedBy, IsPushedIn, ArePushed}
 use Rattle.jc_twin_simulation.proofs.FrameLaws.{twin_insn}
-use Rattle.jc_twin_simulation.proofs.TogetherLaws.{IsNoLocal, no_local, start_within, aside_past, start_behind, id_behind, one_behind, last_behind}
+use Rattle.jc_twin_simulation.proofs.MidLaws.{IsNoLocal, no_local, start_within, aside_past, start_behind, id_behind, one_behind, last_behind}
 
 -- ---- what was pushed
 
@@ -66,10 +65,10 @@ module _ (p p' : Program) (sides : Entry → Side) (m : Entry) (side : IsSide p 
 
   -- how many instructions the prelude has
   abbrev most : ℕ
-  most = prelude_size fetches.Member
+  most = prelude_size (way_of t)
 
   abbrev Pushed : ℕ → ℕ → List Value → Type 0
-  Pushed q extra stack = ArePushed a t.twin q extra stack
+  Pushed q extra stack = ArePushed most a t.twin q extra stack
 
   -- one value less, by the instruction in front
   record Down (r n : ℕ) (insn : Insn) (stack : List Value) : Type 0 where

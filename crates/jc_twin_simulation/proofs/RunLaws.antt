@@ -1,26 +1,30 @@
 -- Runs of a twin and of its original.
-use Rattle.std.proofs.Common.{◌≡◌, inl, inr, ℕ, zero, suc, ◌+◌, ◌*◌, ◌<◌, ◌≤◌, Bool, true, false, List, [], ◌∷◌, ◌++◌, length, replicate, Option, Some, None, nat_eq, refl, sym, ap, ◌∙◌, subst, arith, length-append, append_assoc}
+use Rattle.std.proofs.Common.{◌≡◌, inl, inr, ℕ, zero, suc, ◌*◌, ◌<◌, ◌≤◌, true, false, List, [], ◌∷◌, ◌++◌, length, Option, Some, None, refl, sym, ap, ◌∙◌, subst, arith}
 use Rattle.std.specs.Prelude.{slice_get, slice_set}
-use Rattle.std.proofs.Math.ListN.{length-replicate}
-use Rattle.std.proofs.lemmas.Bool.{eqb-true, eqb-false, true≢false}
+use Rattle.std.proofs.lemmas.Bool.{eqb-false, true≢false}
 use Rattle.std.proofs.lemmas.Option.{none-some}
 use Rattle.jc_programs.specs.declared.program.Program.{Program}
 use Rattle.jc_programs.specs.declared.run_end.Entry.{Entry}
+use Rattle.jc_methods.specs.declared.probe_members.Fetch.{Fetch}
 use Rattle.jc_methods.specs.declared.probe_members.Fetch.TheVariants as fetches
 use Rattle.jc_methods.specs.Flow.{flow_of}
 use Rattle.jc_emit.specs.Sizes.{insn_at, early_by, probe_size}
 use Rattle.jc_emit.specs.Items.{Item, image, own_of}
 use Rattle.jc_emit.specs.Marks.{Marks}
+use Rattle.jc_emit.specs.Ranks.{most_row}
 use Rattle.jc_emit.specs.Seen.{IsPlain}
 use Rattle.jc_machine_model.specs.World.{Frame, Thread, running, returned, threw, stuck, Shared, World}
 use Rattle.jc_machine_model.specs.Step.{turn_of, with_after, step_of, step}
 use Rattle.jc_machine_model.specs.Run.{run_from}
-use Rattle.jc_twin_simulation.specs.Kept.{is_running, runs_at, runs, keeps_at, is_kept, turn_if, kept, row_behind, row, step_if}
-use Rattle.jc_twin_simulation.specs.Spread.{IsLead, IsSpread}
-use Rattle.jc_twin_simulation.specs.Sides.{Side, AreSides, AreMarksOf}
-use Rattle.jc_twin_simulation.specs.Mid.{SameFrame, SameShared, SameThread, Mid}
+use Rattle.jc_twin_simulation.specs.Kept.{is_running, runs_at, runs, keeps_at, is_kept, kept, row, step_if}
+use Rattle.jc_twin_simulation.specs.Schedules.{run_by, IsSimulated}
+use Rattle.jc_twin_simulation.specs.Spread.{IsSpread}
+use Rattle.jc_twin_simulation.specs.Sides.{Side, way_of, IsSide, AreSides, AreMarksOf}
+use Rattle.jc_twin_simulation.specs.Beside.{SameFrame, SameShared, SameThread, Beside}
+use Rattle.jc_twin_simulation.proofs.FrameLaws.{start_way}
 use Rattle.jc_twin_simulation.proofs.TurnLaws.{item_rank, inside_rank, frames_rank, thread_rank, rank_top, inside_named}
 use Rattle.jc_twin_simulation.proofs.WorldLaws.{aside_thread, SameOption, same_get, one_turn}
+use Rattle.jc_twin_simulation.proofs.ScheduleLaws as schedules
 
 -- ---- one thread among others
 
@@ -75,46 +79,17 @@ pub run_append : (r : Program) (xs ys : List ℕ) (w : World) → run_from r w (
 run_append r [] ys w = refl
 run_append r (k ∷ xs) ys w = run_append r xs ys (step r w k)
 
-module _ (p' : Program) (marks : Entry → Marks) where
-  turn_append : (b : Bool) (k : ℕ) (xs ys : List ℕ) → turn_if p' marks b k (xs ++ ys) ≡ turn_if p' marks b k xs ++ ys
-  turn_append true k xs ys = refl
-  turn_append false k xs ys = refl
-
-  pub kept_append : (xs ys : List ℕ) (w : World) → kept p' marks w (xs ++ ys) ≡ kept p' marks w xs ++ kept p' marks (run_from p' w xs) ys
-  kept_append [] ys w = refl
-  kept_append (k ∷ xs) ys w =
-      ap (turn_if p' marks (is_kept p' marks w k) k) (kept_append xs ys (step p' w k))
-      ∙ turn_append (is_kept p' marks w k) k (kept p' marks (step p' w k) xs) (kept p' marks (run_from p' w (k ∷ xs)) ys)
-
-  -- the lead behind one turn
-  next_lead : (w : World) (t n : ℕ) → IsLead p' marks w t (suc n) → IsLead p' marks (step p' w t) t n
-  next_lead w t n l = record { comes = l.comes; none_before = λ k lt. l.none_before (suc k) (omega arith) }
-
-  -- the turns of a lead, and one more, have one kept turn, the last
-  pub lead_kept : (n t : ℕ) (w : World) → IsLead p' marks w t n → kept p' marks w (replicate n t ++ (t ∷ [])) ≡ t ∷ []
-  lead_kept zero t w l = ap (λ b. turn_if p' marks b t []) l.comes
-  lead_kept (suc n) t w l =
-      ap (λ b. turn_if p' marks b t (kept p' marks (step p' w t) (replicate n t ++ (t ∷ [])))) (l.none_before 0 (omega arith))
-      ∙ lead_kept n t (step p' w t) (next_lead w t n l)
+-- a run is one of the system whose turns are those of the program
+run_is : (r : Program) (turns : List ℕ) (w : World) → run_by (step r) w turns ≡ run_from r w turns
+run_is r [] w = refl
+run_is r (t ∷ turns) w = run_is r turns (step r w t)
 
 module _ (p p' : Program) (sides : Entry → Side) (marks : Entry → Marks) (are : AreSides p p' sides) (told : AreMarksOf p p' marks sides) where
   abbrev Pair : World → World → Type 0
-  Pair w w' = Mid p p' sides w w'
-
-  -- ---- a run of the twin and its kept turns
-
-  run_if : (b : Bool) (t : ℕ) (turns : List ℕ) (w : World) → run_from p w (turn_if p' marks b t turns) ≡ run_from p (step_if b p w t) turns
-  run_if true t turns w = refl
-  run_if false t turns w = refl
+  Pair w w' = Beside p p' sides w w'
 
   one : (w w' : World) (t : ℕ) → Pair w w' → Pair (step_if (is_kept p' marks w' t) p w t) (step p' w' t)
   one w w' t h = one_turn p p' sides marks are told t w w' h
-
-  pub same_run : (turns : List ℕ) (w w' : World) → Pair w w' → Pair (run_from p w (kept p' marks w' turns)) (run_from p' w' turns)
-  same_run [] w w' h = h
-  same_run (t ∷ turns) w w' h =
-      subst (λ v. Pair v (run_from p' (step p' w' t) turns)) (sym (run_if (is_kept p' marks w' t) t (kept p' marks (step p' w' t) turns) w))
-      (same_run turns (step_if (is_kept p' marks w' t) p w t) (step p' w' t) (one w w' t h))
 
   -- ---- threads run in both worlds
 
@@ -184,9 +159,6 @@ module _ (p p' : Program) (sides : Entry → Side) (marks : Entry → Marks) (ar
   nearer : (w w' : World) (t : ℕ) → Pair w w' → runs w' t ≡ true → is_kept p' marks w' t ≡ false → Nearer w' t
   nearer w w' t h r n = nearer_at w w' t h (slice_get w.threads t) (slice_get w'.threads t) refl (there w w' t h) r n
 
-  aside_pair : (w w' : World) (t : ℕ) → Pair w w' → is_kept p' marks w' t ≡ false → Pair w (step p' w' t)
-  aside_pair w w' t h n = subst (λ b. Pair (step_if b p w t) (step p' w' t)) n (one w w' t h)
-
   -- ---- the rank is small
 
   probe_small : (o : Option ℕ) → probe_size o ≤ 4
@@ -201,160 +173,98 @@ module _ (p p' : Program) (sides : Entry → Side) (marks : Entry → Marks) (ar
       omega (arith, small)
 
   -- a body that gets no array has images alone
-  own_small : (t : Side) (q : ℕ) (x : Item) → own_of x ≡ true → item_rank p p' sides t q x ≤ 17
-  own_small t q (image insn at early) own = omega arith
+  own_small : (t : Side) (q : ℕ) (x : Item) → own_of x ≡ true → item_rank p p' sides t q x ≡ 0
+  own_small t q (image insn at early) own = refl
   own_small t q x own = absurd (true≢false (sym own))
 
-  item_small : (f f' : Frame) (h : SameFrame p p' sides f f') → item_rank p p' sides (sides f.method) f'.place h.item ≤ 17
-  item_small f f' h = by (sides f.method).slot refl
-    where
-      by : (o : Option ℕ) → (sides f.method).slot ≡ o → item_rank p p' sides (sides f.method) f'.place h.item ≤ 17
-      by None e =
-          own_small (sides f.method) f'.place h.item (subst (λ s. IsPlain s (sides f.method).items) e h.one.side.plain f'.place h.item h.here)
-      by (Some v) e = h.one.side.ranked.small fetches.Member (h.one.side.changed v e).gets.starts f'.place h.item h.here
+  -- each method that gets its array has at most so many turns in a row that aren't kept
+  abbrev pub AreBelow : ℕ → Type 0
+  AreBelow most = (m : Entry) → IsSide p p' m (sides m) → (v : ℕ) → (sides m).slot ≡ Some v → most_row (way_of (sides m)) ≤ most
 
-  thread_small : (s s' : Shared) → SameShared p p' sides s s' → (x x' : Thread) → SameThread p p' sides x x' → thread_rank p p' sides x' ≤ 17
-  thread_small s s' ss (running f fs) (running f' fs') (inl h) =
-      let small = item_small f f' h.0 in
-      let is = rank_top p p' sides f f' fs' h.0 in
-      omega (arith, small, is)
-  thread_small s s' ss (running f fs) (running f' fs') (inr i) =
-      let is : thread_rank p p' sides (running f' fs') ≡ inside_rank p p' sides f'.place fs' =
-      ap (λ b. frames_rank p p' sides b f' fs') (inside_named p p' sides are s s' ss f f' fs fs' i) in
-      let small = inside_small f'.place fs' in
-      omega (arith, is, small)
-  thread_small s s' ss x (returned v) h = omega arith
-  thread_small s s' ss x (threw c) h = omega arith
-  thread_small s s' ss x (stuck m q) h = omega arith
-  thread_small s s' ss x y h = absurd h
+  module _ (most : ℕ) (below : AreBelow most) where
+    item_small : (f f' : Frame) (h : SameFrame p p' sides f f') → item_rank p p' sides (sides f.method) f'.place h.item ≤ most
+    item_small f f' h = by (sides f.method).slot refl
+      where
+        by : (o : Option ℕ) → (sides f.method).slot ≡ o → item_rank p p' sides (sides f.method) f'.place h.item ≤ most
+        by None e =
+            let none = own_small (sides f.method) f'.place h.item (subst (λ s. IsPlain s (sides f.method).items) e h.one.side.plain f'.place h.item h.here) in
+            omega (arith, none)
+        by (Some v) e =
+            let small = h.one.side.ranked.small (way_of (sides f.method)) (h.one.side.changed v e).gets.starts f'.place h.item h.here in
+            let bound = below f.method h.one.side v e in
+            omega (arith, small, bound)
 
-  option_small : (s s' : Shared) → SameShared p p' sides s s' → (o o' : Option Thread) → SameOne o o' → option_rank o' ≤ 17
-  option_small s s' ss None None h = omega arith
-  option_small s s' ss (Some x) (Some x') h = thread_small s s' ss x x' h
-  option_small s s' ss None (Some x') h = absurd h
-  option_small s s' ss (Some x) None h = absurd h
+    thread_small : (s s' : Shared) → SameShared p p' sides s s' → (x x' : Thread) → SameThread p p' sides x x' → thread_rank p p' sides x' ≤ most
+    thread_small s s' ss (running f fs) (running f' fs') (inl h) =
+        let small = item_small f f' h.0 in
+        let is = rank_top p p' sides f f' fs' h.0 in
+        omega (arith, small, is)
+    thread_small s s' ss (running f fs) (running f' fs') (inr i) =
+        let is : thread_rank p p' sides (running f' fs') ≡ inside_rank p p' sides f'.place fs' =
+        ap (λ b. frames_rank p p' sides b f' fs') (inside_named p p' sides are s s' ss f f' fs fs' i) in
+        let small = inside_small f'.place fs' in
+        let way = start_way p p' sides f.method i.base.one.side 0 i.below.place fetches.Member (i.base.here ∙ ap Some i.at_call) in
+        let bound : 17 ≤ most = subst (λ fetch. most_row fetch ≤ most) (sym way.2) (below f.method i.base.one.side way.0 way.1) in
+        omega (arith, is, small, bound)
+    thread_small s s' ss x (returned v) h = omega arith
+    thread_small s s' ss x (threw c) h = omega arith
+    thread_small s s' ss x (stuck m q) h = omega arith
+    thread_small s s' ss x y h = absurd h
 
-  rank_small : (w w' : World) (t : ℕ) → Pair w w' → rank_of w' t ≤ 17
-  rank_small w w' t h = option_small w.shared w'.shared h.shared (slice_get w.threads t) (slice_get w'.threads t) (there w w' t h)
+    option_small : (s s' : Shared) → SameShared p p' sides s s' → (o o' : Option Thread) → SameOne o o' → option_rank o' ≤ most
+    option_small s s' ss None None h = omega arith
+    option_small s s' ss (Some x) (Some x') h = thread_small s s' ss x x' h
+    option_small s s' ss None (Some x') h = absurd h
+    option_small s s' ss (Some x) None h = absurd h
 
-  -- ---- the turns in front of a kept one
+    rank_small : (w w' : World) (t : ℕ) → Pair w w' → rank_of w' t ≤ most
+    rank_small w w' t h = option_small w.shared w'.shared h.shared (slice_get w.threads t) (slice_get w'.threads t) (there w w' t h)
 
-  lead_by : (n : ℕ) (w w' : World) (t : ℕ) → Pair w w' → runs w' t ≡ true → rank_of w' t ≤ n → (b : Bool) → is_kept p' marks w' t ≡ b
-      → (k : ℕ) × IsLead p' marks w' t k
-  lead_by n w w' t h r le true e = (0, record { comes = e; none_before = λ k lt. absurd (omega arith) })
-  lead_by zero w w' t h r le false e = let lower = (nearer w w' t h r e).falls in absurd (omega (arith, lower, le))
-  lead_by (suc n) w w' t h r le false e =
-      let a = nearer w w' t h r e in
-      let lower = a.falls in
-      let more = lead_by n w (step p' w' t) t (aside_pair w w' t h e) a.runs_on (omega (arith, lower, le)) (is_kept p' marks (step p' w' t) t) refl in
-      (suc more.0, record { comes = more.1.comes; none_before = before e more.1 })
-    where
-      before : is_kept p' marks w' t ≡ false → {k : ℕ} → IsLead p' marks (step p' w' t) t k → (j : ℕ) → j < suc k
-          → is_kept p' marks (run_from p' w' (replicate j t)) t ≡ false
-      before e l zero lt = e
-      before e l (suc j) lt = l.none_before j (omega arith)
+    simulated_by : IsSimulated (step p) (step p') (is_kept p' marks) runs runs Pair rank_of most
+    simulated_by = record {
+      one = one;
+      both_run = worlds_run;
+      idle = idle p;
+      idle_twin = idle p';
+      runs_on = λ w w' t h r n. (nearer w w' t h r n).runs_on;
+      falls = λ w w' t h r n. (nearer w w' t h r n).falls;
+      small = rank_small;
+      others = λ w' k t apart. ap option_rank (step_other p' w' k t (eqb-false k t apart));
+    }
 
-  lead_short : (n k : ℕ) (w w' : World) (t : ℕ) → Pair w w' → runs w' t ≡ true → rank_of w' t ≤ n → IsLead p' marks w' t k → k ≤ n
-  lead_short n zero w w' t h r le l = omega arith
-  lead_short zero (suc k) w w' t h r le l = let lower = (nearer w w' t h r (l.none_before 0 (omega arith))).falls in absurd (omega (arith, lower, le))
-  lead_short (suc n) (suc k) w w' t h r le l =
-      let e = l.none_before 0 (omega arith) in
-      let a = nearer w w' t h r e in
-      let lower = a.falls in
-      let short = lead_short n k w (step p' w' t) t (aside_pair w w' t h e) a.runs_on (omega (arith, lower, le)) (next_lead p' marks w' t k l) in
-      omega (arith, short)
+  -- ---- what follows for runs
 
-  -- a turn of the original, and the turns for it
-  pub lead_run : (w w' : World) (t n : ℕ) → Pair w w' → IsLead p' marks w' t n → Pair (step p w t) (run_from p' w' (replicate n t ++ (t ∷ [])))
-  lead_run w w' t n h l =
-      subst (λ q. Pair (run_from p w q) (run_from p' w' (replicate n t ++ (t ∷ [])))) (lead_kept p' marks n t w' l)
-      (same_run (replicate n t ++ (t ∷ [])) w w' h)
+  each_row : (fetch : Fetch) → most_row fetch ≤ 17
+  each_row fetches.Member = omega arith
+  each_row fetches.Constant = omega arith
 
-  idle_same : (w w' : World) (t : ℕ) → Pair w w' → runs w' t ≡ false → step p w t ≡ w
-  idle_same w w' t h e = idle p w t (sym (worlds_run w w' t h) ∙ e)
+  is_simulated : IsSimulated (step p) (step p') (is_kept p' marks) runs runs Pair rank_of 17
+  is_simulated = simulated_by 17 (λ m side v e. each_row (way_of (sides m)))
 
-  -- each schedule of the original can be spread
-  abbrev Spread : World → List ℕ → List ℕ → Type 0
-  Spread w q turns = IsSpread p' marks w q turns
+  pub same_run : (turns : List ℕ) (w w' : World) → Pair w w' → Pair (run_from p w (kept p' marks w' turns)) (run_from p' w' turns)
+  same_run turns w w' h =
+      subst (λ v. Pair v (run_from p' w' turns)) (run_is p (kept p' marks w' turns) w)
+      (subst (Pair (run_by (step p) w (kept p' marks w' turns))) (run_is p' turns w')
+      (schedules.same_run (step p) (step p') (is_kept p' marks) runs runs Pair rank_of 17 is_simulated turns w w' h))
 
-  abbrev OneSpread : World → ℕ → List ℕ → List ℕ → Bool → Type 0
-  OneSpread w t q turns b =
-      elim b [
-        | true ↦ (n : ℕ) × (rest : List ℕ) × IsLead p' marks w t n × (turns ≡ replicate n t ++ (t ∷ rest))
-            × IsSpread p' marks (run_from p' w (replicate n t ++ (t ∷ []))) q rest
-        | false ↦ IsSpread p' marks w q turns
-      ]
-
-  pub spread_there : (q : List ℕ) (w w' : World) → Pair w w' → (turns : List ℕ) × Spread w' q turns
-  spread_there [] w w' h = ([], refl)
-  spread_there (t ∷ q) w w' h = by (runs w' t) refl (λ v v' k. spread_there q v v' k)
-    where
-      by : (b : Bool) → runs w' t ≡ b → ((v v' : World) → Pair v v' → (turns : List ℕ) × Spread v' q turns) → (turns : List ℕ) × OneSpread w' t q turns b
-      by true e go =
-          let l = lead_by 17 w w' t h e (rank_small w w' t h) (is_kept p' marks w' t) refl in
-          let rest = go (step p w t) (run_from p' w' (replicate l.0 t ++ (t ∷ []))) (lead_run w w' t l.0 h l.1) in
-          (replicate l.0 t ++ (t ∷ rest.0), (l.0, rest.0, l.1, refl, rest.1))
-      by false e go = go w w' h
+  pub spread_there : (q : List ℕ) (w w' : World) → Pair w w' → (turns : List ℕ) × IsSpread p' marks w' q turns
+  spread_there = schedules.spread_there (step p) (step p') (is_kept p' marks) runs runs Pair rank_of 17 is_simulated
 
   -- no schedule is lost, and each is at most 18 times as long
   pub record Spreads (q turns : List ℕ) (w w' : World) : Type 0 where
     pub same : run_from p w (kept p' marks w' turns) ≡ run_from p w q
     pub short : length turns ≤ 18 * length q
 
-  pub spread_same : (q turns : List ℕ) (w w' : World) → Pair w w' → Spread w' q turns → Spreads q turns w w'
-  spread_same [] turns w w' h s = record { same = ap (λ l. run_from p w (kept p' marks w' l)) s; short = let e = ap length s in omega (arith, e) }
-  spread_same (t ∷ q) turns w w' h s = by (runs w' t) refl s (λ rest v v' k m. spread_same q rest v v' k m)
-    where
-      by : (b : Bool) → runs w' t ≡ b → OneSpread w' t q turns b → ((rest : List ℕ) (v v' : World) → Pair v v' → Spread v' q rest → Spreads q rest v v')
-          → Spreads (t ∷ q) turns w w'
-      by true e (n, rest, lead, is, more) go =
-          let front = replicate n t ++ (t ∷ []) in
-          let v' = run_from p' w' front in
-          let k = go rest (step p w t) v' (lead_run w w' t n h lead) more in
-          let parts : turns ≡ front ++ rest = is ∙ sym (append_assoc (replicate n t) (t ∷ []) rest) in
-          let few = lead_short 17 n w w' t h e (rank_small w w' t h) lead in
-          let size = length-append (replicate n t) (t ∷ rest) in
-          let many : length (replicate n t) ≡ n = length-replicate n t in
-          let all = ap length is in
-          let short = k.short in
-          record {
-            same =
-                ap (λ l. run_from p w (kept p' marks w' l)) parts
-                ∙ ap (run_from p w) (kept_append p' marks front rest w' ∙ ap (λ l. l ++ kept p' marks v' rest) (lead_kept p' marks n t w' lead))
-                ∙ k.same;
-            short = omega (arith, few, size, many, all, short);
-          }
-      by false e m go =
-          let k = go turns w w' h m in
-          let short = k.short in
-          record { same = k.same ∙ ap (λ v. run_from p v q) (sym (idle_same w w' t h e)); short = omega (arith, short) }
-
-  -- ---- few turns in a row aren't kept
-
-  row_small : (k t : ℕ) (w w' : World) (n : ℕ) → Pair w w' → n + rank_of w' t ≤ 17 → (its now on : Bool) → nat_eq k t ≡ its → is_kept p' marks w' k ≡ now
-      → runs w' k ≡ on
-      → row_behind p' marks its now on n + rank_of (step p' w' k) t ≤ 17
-  row_small k t w w' n h le false now on e e' e'' =
-      let same : rank_of (step p' w' k) t ≡ rank_of w' t = ap option_rank (step_other p' w' k t (eqb-false k t e)) in
-      omega (arith, same, le)
-  row_small k t w w' n h le true true on e e' e'' =
-      let small = rank_small (step_if true p w k) (step p' w' k) t (subst (λ b. Pair (step_if b p w k) (step p' w' k)) e' (one w w' k h)) in
-      omega (arith, small)
-  row_small k t w w' n h le true false true e e' e'' =
-      let same = eqb-true k t e in
-      let lower = (nearer w w' k h e'' e').falls in
-      let a : rank_of w' k ≡ rank_of w' t = ap (rank_of w') same in
-      let b : rank_of (step p' w' k) k ≡ rank_of (step p' w' k) t = ap (rank_of (step p' w' k)) same in
-      omega (arith, lower, a, b, le)
-  row_small k t w w' n h le true false false e e' e'' =
-      let still : rank_of (step p' w' k) t ≡ rank_of w' t = ap (λ v. rank_of v t) (idle p' w' k e'') in
-      omega (arith, still, le)
-
-  few : (t : ℕ) (turns : List ℕ) (w w' : World) (n : ℕ) → Pair w w' → n + rank_of w' t ≤ 17 → row p' marks w' t turns n ≤ 17
-  few t [] w w' n h le = omega (arith, le)
-  few t (k ∷ turns) w w' n h le =
-      few t turns (step_if (is_kept p' marks w' k) p w k) (step p' w' k) (row_behind p' marks (nat_eq k t) (is_kept p' marks w' k) (runs w' k) n) (one w w' k h)
-      (row_small k t w w' n h le (nat_eq k t) (is_kept p' marks w' k) (runs w' k) refl refl refl)
+  pub spread_same : (q turns : List ℕ) (w w' : World) → Pair w w' → IsSpread p' marks w' q turns → Spreads q turns w w'
+  spread_same q turns w w' h s =
+      let k = schedules.spread_same (step p) (step p') (is_kept p' marks) runs runs Pair rank_of 17 is_simulated q turns w w' h s in
+      record { same = sym (run_is p (kept p' marks w' turns) w) ∙ k.same ∙ run_is p q w; short = k.short }
 
   pub few_probe_turns : (t : ℕ) (turns : List ℕ) (w w' : World) → Pair w w' → row p' marks w' t turns 0 ≤ 17
-  few_probe_turns t turns w w' h = let r = rank_small w w' t h in few t turns w w' 0 h (omega (arith, r))
+  few_probe_turns = schedules.few_probe_turns (step p) (step p') (is_kept p' marks) runs runs Pair rank_of 17 is_simulated
+
+  -- fewer, where each class gets its array by a constant
+  pub fewer_probe_turns : ((m : Entry) → IsSide p p' m (sides m) → (v : ℕ) → (sides m).slot ≡ Some v → way_of (sides m) ≡ fetches.Constant)
+      → (t : ℕ) (turns : List ℕ) (w w' : World) → Pair w w' → row p' marks w' t turns 0 ≤ 9
+  fewer_probe_turns each = schedules.few_probe_turns (step p) (step p') (is_kept p' marks) runs runs Pair rank_of 9
+      (simulated_by 9 (λ m side v e. subst (λ fetch. most_row fetch ≤ 9) (sym (each m side v e)) (omega arith)))

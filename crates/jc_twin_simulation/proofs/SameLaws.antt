@@ -1,10 +1,12 @@
--- Worlds that belong together look the same.
+-- Worlds that stand beside each other look the same.
 use Rattle.std.proofs.Common.{◌≡◌, inl, inr, ℕ, zero, suc, ◌≤◌, true, false, List, [], ◌∷◌, ◌++◌, length, drop, Option, Some, None, refl, sym, ap, ◌∙◌, subst, subst₂, arith, if◌then◌else◌}
 use Rattle.std.specs.Prelude.{slice_get}
 use Rattle.std.proofs.lemmas.Bool.{true≢false}
 use Rattle.std.proofs.lemmas.Option.{none-some, slice_get_past}
 use Rattle.jc_bytes.proofs.TextEqualLaws.{same_bytes}
-use Rattle.jc_methods.specs.ProbeMembers.{data_name}
+use Rattle.jc_methods.specs.ProbeMembers.{data_name, fetch_of}
+use Rattle.jc_methods.specs.declared.probe_members.Fetch.{Fetch}
+use Rattle.jc_methods.specs.declared.probe_members.Fetch.TheVariants as fetches
 use Rattle.jc_programs.specs.declared.program.Program.{Program}
 use Rattle.jc_programs.specs.declared.program.Linked.{Linked}
 use Rattle.jc_programs.specs.declared.run_end.Entry.{Entry}
@@ -20,9 +22,9 @@ use Rattle.jc_machine_model.specs.Methods.{declares_init}
 use Rattle.jc_twin_simulation.specs.Same.{slot_in_body, slot_in_class, array_slot, twin_slot, is_named_data, is_data_in, is_data, frames_of}
 use Rattle.jc_twin_simulation.specs.Same as spec
 use Rattle.jc_twin_simulation.specs.Sides.{Side, count_in, array_of, IsSide, AreSides, AreMarksOf}
-use Rattle.jc_twin_simulation.specs.Mid.{pushed_of, null_or, SameLocals, OneMethod, SameFrame, SameWait, SameWaits, extra_in, SameStatics, values_of, SameShared, SameThread, SameThreads, Mid}
+use Rattle.jc_twin_simulation.specs.Beside.{pushed_of, null_or, SameLocals, OneMethod, SameFrame, SameWait, SameWaits, extra_in, SameStatics, values_of, SameShared, SameThread, SameThreads, Beside}
 use Rattle.jc_twin_simulation.proofs.LocalLaws.{gets_local}
-use Rattle.jc_twin_simulation.proofs.ClassLaws.{changed_statics, unchanged_data}
+use Rattle.jc_twin_simulation.proofs.ClassLaws.{changed_statics, unchanged_data, constant_data}
 use Rattle.jc_twin_simulation.proofs.OwnTurnLaws.{new_no_init}
 use Rattle.jc_twin_simulation.proofs.TurnLaws.{inside_named}
 
@@ -131,9 +133,9 @@ module _ (p p' : Program) (sides : Entry → Side) where
 
     -- the added field is a `$jacocoData`
     pub is_added : (class : ℕ) (c new : Linked) → slice_get p'.classes class ≡ Some new → IsChangedPair p.names p'.names c new
-        → is_data p' class (length c.statics) ≡ true
-    is_added class c new there pair =
-        ap (is_data_in (length c.statics)) there ∙ ap (λ l. is_named_data (slice_get l (length c.statics))) (changed_statics p.names p'.names c new pair)
+        → fetch_of c.version ≡ fetches.Member → is_data p' class (length c.statics) ≡ true
+    is_added class c new there pair way =
+        ap (is_data_in (length c.statics)) there ∙ ap (λ l. is_named_data (slice_get l (length c.statics))) (changed_statics p.names p'.names c new pair way)
         ∙ ap is_named_data (last_is c.statics data_static)
         ∙ same_bytes data_name data_name refl
 
@@ -159,14 +161,20 @@ module _ (p p' : Program) (sides : Entry → Side) where
               by_pair (new, there, inl pair) =
                   values_same None class field (ap extra_in there
                   ∙ ap (λ b. if b then Some (count_in new.probes) else None) (unchanged_data p.names p'.names c new pair)) (λ last. refl)
-              by_pair (new, there, inr pair) =
-                  values_same (extra_in (class_at p' class)) class field refl
-                  (λ last. absurd (true≢false (sym (is_added class c new there pair) ∙ ap (is_data p' class) (sym (ss.counts class c e) ∙ last) ∙ other)))
+              by_pair (new, there, inr pair) = by_way (fetch_of c.version) refl
+                where
+                  by_way : (fetch : Fetch) → fetch_of c.version ≡ fetch → slice_get (values_of s' class) field ≡ slice_get (values_of s class) field
+                  by_way fetches.Constant way =
+                      values_same None class field (ap extra_in there
+                      ∙ ap (λ b. if b then Some (count_in new.probes) else None) (constant_data p.names p'.names c new pair way)) (λ last. refl)
+                  by_way fetches.Member way =
+                      values_same (extra_in (class_at p' class)) class field refl
+                      (λ last. absurd (true≢false (sym (is_added class c new there pair way) ∙ ap (is_data p' class) (sym (ss.counts class c e) ∙ last) ∙ other)))
 
     -- ---- worlds
 
-    pub together_same : (w w' : World) → Mid p p' sides w w' → spec.Same p' marks w w'
-    together_same w w' h = record {
+    pub beside_same : (w w' : World) → Beside p p' sides w w' → spec.Same p' marks w w'
+    beside_same w w' h = record {
       output = h.shared.output;
       heap = h.shared.heap;
       raised = h.shared.raised;

@@ -11,15 +11,17 @@ use Rattle.jc_methods.specs.declared.body.Body.{Body}
 use Rattle.jc_programs.specs.declared.program.Program.{Program}
 use Rattle.jc_programs.specs.declared.program.Linked.{Linked}
 use Rattle.jc_programs.specs.declared.run_end.Entry.{Entry}
+use Rattle.jc_kinds.specs.Checked.{Checked}
 use Rattle.jc_plan.specs.Probed.{probe_count, first_id, probe_of}
 use Rattle.jc_emit.specs.Added.{giver_of}
 use Rattle.jc_emit.specs.Local.{no_ids}
-use Rattle.jc_emit.specs.Marks.{unplaced, Marks}
-use Rattle.jc_emit.specs.Seen.{GetsArray}
+use Rattle.jc_emit.specs.Marks.{unplaced, Marks, prelude_size}
 use Rattle.jc_twin_programs.specs.SeenProgram.{IsSeenTwin, IsSeenSame, IsSeenAt}
 use Rattle.jc_twin_programs.specs.TwinProgram.{IsPair, ArePairs, IsChangedPair, TwinProgram}
 use Rattle.jc_emit.proofs.EdgeIdLaws.{each_within}
 use Rattle.jc_emit.proofs.RankLaws.{ranked}
+use Rattle.jc_emit.proofs.TwinPremisesLaws.{premises}
+use Rattle.jc_emit.proofs.TwinStatesLaws.{prelude_state}
 use Rattle.jc_emit.proofs.SeenLaws.{seen as items_seen}
 use Rattle.jc_twin_programs.proofs.SeenProgramLaws.{classes_alike, class_pair, added_last, ids_seen}
 use Rattle.jc_machine_model.specs.Methods.{is_init_name}
@@ -68,6 +70,9 @@ module _ (p p' : Program) (t : TwinProgram p p') (marks : Entry → Marks) (are 
     well : IsWellMadeOfAnySize b
     well = (t.checked c (stands_in p.classes m.class c at.class_at) b (stands_in c.bodies m.method b at.body_at)).0.of_any_size
 
+    is_checked : Checked p.names b
+    is_checked = (t.checked c (stands_in p.classes m.class c at.class_at) b (stands_in c.bodies m.method b at.body_at)).1
+
     same_slot : (x y : ℕ) → Some x ≡ Some y → y ≡ x
     same_slot x y e = cc
 
@@ -91,6 +96,7 @@ module _ (p p' : Program) (t : TwinProgram p p') (marks : Entry → Marks) (are 
               named = not_named (inr pair);
               declares = original_declares p.names p'.names c new (inr pair);
               has_clinit = pair.has_clinit;
+              version = pair.version;
               well = well;
               same = seen.method;
               uses = seen.uses;
@@ -106,8 +112,13 @@ module _ (p p' : Program) (t : TwinProgram p p') (marks : Entry → Marks) (are 
                 pair = pair;
                 added_at = added;
                 declares = changed_declares p.names p'.names c new pair added;
-                gets = subst (λ f. GetsArray f (giver_of f c.name pair.bootstrap) b'.uses seen.items seen.places) pair.by_member seen.gets;
+                gets = seen.gets;
                 within = λ q id x here h. within first pair (each_within fetch giver first b b' t.marks seen q id x here h).1;
+                begins = λ q lt.
+                    prelude_state p.names p'.names states first t.form t.places b b'
+                    (premises p.names p'.names states fetch c.name pair.bootstrap first b b' well is_checked s.twin.are
+                    (pair.none_straddles b (stands_in c.bodies m.method b at.body_at)) t)
+                    q (subst (λ f. q < prelude_size f) (sym t.fetch_is) lt);
               };
               unchanged = λ e. absurd (none-some b.arg_slots (sym e));
               ids_are = λ v e. refl;
@@ -142,6 +153,7 @@ module _ (p p' : Program) (t : TwinProgram p p') (marks : Entry → Marks) (are 
               named = not_named (inl pair);
               declares = original_declares p.names p'.names c new (inl pair);
               has_clinit = pair.has_clinit;
+              version = pair.version;
               well = well;
               same = seen.method;
               uses = seen.uses;

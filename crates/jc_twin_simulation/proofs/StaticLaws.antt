@@ -11,7 +11,7 @@ use Rattle.jc_machine_model.specs.World.{Shared}
 use Rattle.jc_machine_model.specs.Operations.{FieldAt}
 use Rattle.jc_machine_model.specs.Statics.{static_at, with_static}
 use Rattle.jc_twin_simulation.specs.Sides.{Side}
-use Rattle.jc_twin_simulation.specs.Mid.{null_or, extra_in, SameStatics, values_of, SameShared}
+use Rattle.jc_twin_simulation.specs.Beside.{null_or, extra_in, SameStatics, values_of, SameShared}
 
 -- ---- one value more behind a list
 

@@ -22,7 +22,7 @@ use Rattle.jc_machine_model.specs.Heap.{throwable, has_room}
 use Rattle.jc_machine_model.specs.World.{Frame, Thread, Shared}
 use Rattle.jc_machine_model.specs.Step.{catches, handles, handler_in, caught, unwound, Raised, out_of_memory, placed, After, thrown_in}
 use Rattle.jc_twin_simulation.specs.Sides.{Side, GoesOnAt, IsSide}
-use Rattle.jc_twin_simulation.specs.Mid.{SameWaits, SameShared, SameThread}
+use Rattle.jc_twin_simulation.specs.Beside.{SameWaits, SameShared, SameThread}
 use Rattle.jc_twin_simulation.proofs.OwnLaws.{AtImage}
 use Rattle.jc_twin_simulation.proofs.FrameLaws.{body_is, arrives}
 

@@ -5,18 +5,19 @@ use Rattle.std.proofs.lemmas.Bool.{eq-eqb, true≢false}
 use Rattle.std.proofs.lemmas.Option.{same_Some}
 use Rattle.jc_methods.specs.Opcode as opcode
 use Rattle.jc_methods.specs.DescriptorTypes.{types_from, method_type_in}
-use Rattle.jc_methods.specs.ProbeMembers.{init_name, init_type}
+use Rattle.jc_methods.specs.ProbeMembers.{init_name, init_type, fetch_of}
 use Rattle.jc_methods.specs.declared.insn.Insn.{Insn}
 use Rattle.jc_methods.specs.declared.insn.Insn.TheVariants as insns
 use Rattle.jc_methods.specs.declared.body.Body.{Body}
 use Rattle.jc_methods.specs.declared.probe_members.Fetch.TheVariants as fetches
+use Rattle.jc_methods.specs.WellMade.{what_used}
 use Rattle.jc_programs.specs.declared.program.Program.{Program}
 use Rattle.jc_programs.specs.declared.program.ProbeInit.{ProbeInit}
 use Rattle.jc_programs.specs.declared.run_end.Entry.{Entry}
 use Rattle.jc_programs.specs.declared.run_end.Thrown.TheVariants as thrown
 use Rattle.jc_programs.specs.Members.{class_named, class_at}
 use Rattle.jc_emit.specs.Items.{Item, start, image, probe_array, probe_id, probe_one, probe_store, hop, at_of, own_of, extra_of}
-use Rattle.jc_emit.specs.Added.{init_code, IsPlainMethod}
+use Rattle.jc_emit.specs.Added.{init_code, IsPlainMethod, giver_of}
 use Rattle.jc_emit.specs.Local.{Ok, StartsOn, due_of, early_of}
 use Rattle.jc_emit.specs.Marks.{prelude_size}
 use Rattle.jc_emit.specs.Seen.{IsPlain}
@@ -30,17 +31,17 @@ use Rattle.jc_machine_model.specs.Methods.{is_init_name, is_enterable, is_wide}
 use Rattle.jc_machine_model.specs.Operations.{invokes}
 use Rattle.jc_machine_model.specs.Results.{Result, calls, leaves, next_with}
 use Rattle.jc_machine_model.specs.Perform.{perform}
-use Rattle.jc_machine_model.specs.Profile.{Location, in_init, init_of, may_name_method, method_in, callee_named, entered_if, body_entered, class_entered, method_entered, is_fetch, member_operation, operation_of}
+use Rattle.jc_machine_model.specs.Profile.{Location, in_init, gets_by, has_constant, init_of, may_name_method, method_in, callee_named, entered_if, body_entered, class_entered, method_entered, is_fetch, member_operation, operation_of}
 use Rattle.jc_machine_model.specs.Profile as profile
 use Rattle.jc_machine_model.specs.Step.{is_init_method, counted_frames, new_frame, After, after, placed, thrown_in, result_of, after_result}
-use Rattle.jc_twin_simulation.specs.Sides.{Side, count_in, array_of, IsChanged, AreSides}
+use Rattle.jc_twin_simulation.specs.Sides.{Side, count_in, array_of, way_of, IsChanged, AreSides}
 use Rattle.jc_twin_simulation.specs.Probes.{hit_of, item_hit, Passes, nothing, a_late_one, an_early_one, place_hit, frame_hit, due_in, early_in}
-use Rattle.jc_twin_simulation.specs.Mid.{pushed_of, SameLocals, SameFrame, SameWaits, InitStep, reads_field, gives_back, step_place, step_stack, init_method, Inside, SameShared, SameThread}
+use Rattle.jc_twin_simulation.specs.Beside.{pushed_of, SameLocals, SameFrame, SameWaits, InitStep, reads_field, gives_back, step_place, step_stack, init_method, Inside, SameShared, SameThread}
 use Rattle.jc_twin_simulation.proofs.LocalLaws.{stays_unready}
 use Rattle.jc_twin_simulation.proofs.MemberLaws.{enter_by}
 use Rattle.jc_twin_simulation.proofs.ClassLaws.{class_same, class_again, init_found, changed_init, changed_probes}
 use Rattle.jc_twin_simulation.proofs.OwnLaws.{AtImage}
-use Rattle.jc_twin_simulation.proofs.FrameLaws.{location, result_is, init_is, no_constant, twin_insn, own_result}
+use Rattle.jc_twin_simulation.proofs.FrameLaws.{location, result_is, init_is, fetch_in, start_way, twin_insn, own_result}
 use Rattle.jc_twin_simulation.proofs.ThrowLaws.{SameAfter}
 use Rattle.jc_twin_simulation.proofs.OwnTurnLaws.{new_no_init, after_same}
 use Rattle.jc_twin_simulation.proofs.AsideLaws.{aside_result, aside_hits, Alone, aside_turn}
@@ -204,8 +205,15 @@ module _ (p p' : Program) (sides : Entry → Side) where
       abbrev here_at : Location
       here_at = location f.method f'.place t.new t.twin
 
-      added : IsPlainMethod t.class.name init_type 0 0 (init_code (changed_init p.names p'.names t.class t.new c.pair).places (sum_by probe_count t.class.bodies)) b
-      added = (changed_init p.names p'.names t.class t.new c.pair).method
+      -- a class in which the method gives the array
+      way : way_of t ≡ fetches.Member
+      way = sym (start_way p p' sides f.method h.one.side 0 f'.place fetches.Member (h.here ∙ ap Some call)).2
+
+      added : IsPlainMethod t.class.name init_type 0 0 (init_code (changed_init p.names p'.names t.class t.new c.pair way).places (sum_by probe_count t.class.bodies)) b
+      added = (changed_init p.names p'.names t.class t.new c.pair way).method
+
+      pub its_probes : t.new.probes ≡ Some (record { id = c.pair.id; count = sum_by probe_count t.class.bodies; bootstrap = None })
+      its_probes = changed_probes p.names p'.names t.class t.new c.pair way
 
       first : f'.place ≡ 0
       first = (subst (λ x. Ok t.body.code t.slot t.ids t.items f'.place x) call (h.one.side.ok.ok f'.place h.item h.here)).place
@@ -227,21 +235,28 @@ module _ (p p' : Program) (sides : Entry → Side) where
           ∙ ap (λ x. enter_by 0x100a false (nat_lt (if x then 1004 else 1000) (b.max_locals + b.max_stack))) c.declares
           ∙ ap₂ (λ x y. enter_by 0x100a false (nat_lt 1004 (x + y))) added.max_locals_is added.max_stack
 
+      by_method : has_constant t.new ≡ false
+      by_method = ap (λ n. gets_by (fetch_of n)) h.one.side.version ∙ ap gets_by way
+
       may_name : may_name_method here_at f.method.class b.name ≡ true
       may_name =
-          ap (λ q. not (is_init_name b.name) || (nat_eq q 0 && nat_eq f.method.class f.method.class)) first
-          ∙ ap (λ x. not (is_init_name b.name) || x) (eq-eqb f.method.class f.method.class refl) ∙ or_true (not (is_init_name b.name))
+          ap (λ q. not (is_init_name b.name) || (nat_eq q 0 && (nat_eq f.method.class f.method.class && not (has_constant t.new)))) first
+          ∙ ap (λ x. not (is_init_name b.name) || (x && not (has_constant t.new))) (eq-eqb f.method.class f.method.class refl)
+          ∙ ap (λ x. not (is_init_name b.name) || not x) by_method ∙ or_true (not (is_init_name b.name))
+
+      pub giver_is : what_used t.twin.uses t.places.giver ≡ Some (giver_of fetches.Member t.class.name c.pair.bootstrap)
+      giver_is = c.gets.giver_is ∙ ap (λ fetch. Some (giver_of fetch t.class.name c.pair.bootstrap)) way
 
       pub called : callee_named p' t.class.name init_name init_type ≡ Some e
       called =
           ap (option_and_then (λ (k : ℕ). option_and_then (method_in init_name init_type k) (class_at p' k))) class_is
           ∙ ap (option_and_then (method_in init_name init_type f.method.class)) h.one.side.new_is
-          ∙ ap (option_map (λ (j : ℕ). record { class = f.method.class; method = j })) (init_found p.names p'.names t.class t.new c.pair)
+          ∙ ap (option_map (λ (j : ℕ). record { class = f.method.class; method = j })) (init_found p.names p'.names t.class t.new c.pair way)
 
       operation : operation_of p' here_at (insns.Member opcode.invokestatic t.places.giver) ≡ invokes e [] 0
       unfolding operation_of
       operation =
-          ap (member_operation opcode.invokestatic here_at p') c.gets.giver_is
+          ap (member_operation opcode.invokestatic here_at p') giver_is
           ∙ ap (λ x. if x then profile.init_call here_at (is_fetch t.class.name init_name init_type) (init_of here_at) else method_entered here_at p'
           (callee_named p' t.class.name init_name init_type)) not_in_init
           ∙ ap (method_entered here_at p') called
@@ -292,7 +307,7 @@ module _ (p p' : Program) (sides : Entry → Side) where
             waits = w;
             method = refl;
             init = _;
-            has = changed_probes p.names p'.names t.class t.new c.pair;
+            has = its_probes f f' h call slot.0 c;
             step = reads_field;
             place = refl;
             stack = refl;
@@ -335,12 +350,12 @@ module _ (p p' : Program) (sides : Entry → Side) where
       its_init = record { id = change.pair.id; count = sum_by probe_count under.class.bodies; bootstrap = None }
 
       which_init : its_init ≡ i.init
-      which_init = init_same its_init i.init (sym (changed_probes p.names p'.names under.class under.new change.pair) ∙ i.has)
+      which_init = init_same its_init i.init (sym (its_probes f i.below i.base i.at_call base_changed.0 change) ∙ i.has)
 
       turned : Stepped p p' sides s s' f' f.method.class i.init i.step (result_of p' s' f')
       turned =
           subst (λ x. Stepped p p' sides s s' f' f.method.class x i.step (result_of p' s' f')) which_init
-          (init_turn p p' sides are f.method i.base.one.side base_changed.0 change s s' ss f' i.method i.step i.place
+          (init_turn p p' sides are f.method i.base.one.side base_changed.0 change (way f i.below i.base i.at_call base_changed.0 change) s s' ss f' i.method i.step i.place
           (i.stack ∙ ap (λ x. step_stack f.method.class x i.step) (sym which_init)))
 
       goes_turned : (r : Result) → Steps p p' sides s s' f' f.method.class i.init i.step r
@@ -416,7 +431,10 @@ module _ (p p' : Program) (sides : Entry → Side) where
       where
         apart : start fetches.Member (suc k) ≡ start fetches.Member 0 → ⊥
         apart q = let one : 1 ≡ 0 = ap extra_of q in omega (arith, one)
-    aside_turned f f' fs fs' h w (start fetches.Constant k) e aside = absurd (no_constant p p' sides f.method h.one.side k f'.place (h.here ∙ ap Some e))
+    aside_turned f f' fs fs' h w (start fetches.Constant k) e aside = plain_turned f f' fs fs' h w (ap own_of e) (λ q. apart (sym e ∙ q))
+      where
+        apart : start fetches.Constant k ≡ start fetches.Member 0 → ⊥
+        apart q = let no = ap fetch_in q in cc
     aside_turned f f' fs fs' h w (image insn at early) e aside = absurd (true≢false aside)
     aside_turned f f' fs fs' h w (probe_array id at late) e aside = plain_turned f f' fs fs' h w (ap own_of e) (λ q. apart (sym e ∙ q))
       where

@@ -11,7 +11,7 @@ use Rattle.jc_machine_model.specs.World.{Frame, Thread, running, returned, threw
 use Rattle.jc_machine_model.specs.Step.{turn_of, with_after, step_of, step}
 use Rattle.jc_twin_simulation.specs.Kept.{is_running, is_own, keeps, keeps_at, is_kept, step_if}
 use Rattle.jc_twin_simulation.specs.Sides.{Side, AreSides, AreMarksOf}
-use Rattle.jc_twin_simulation.specs.Mid.{SameFrame, SameWaits, Inside, SameShared, SameThread, SameThreads, Mid}
+use Rattle.jc_twin_simulation.specs.Beside.{SameFrame, SameWaits, Inside, SameShared, SameThread, SameThreads, Beside}
 use Rattle.jc_twin_simulation.proofs.ThrowLaws.{SameAfter}
 use Rattle.jc_twin_simulation.proofs.OwnTurnLaws.{new_no_init}
 use Rattle.jc_twin_simulation.proofs.TurnLaws.{AsideTurned, aside_turned, inside_turned, inside_named, own_turned}
@@ -104,12 +104,12 @@ module _ (p p' : Program) (sides : Entry → Side) (marks : Entry → Marks) (ar
   same_set_right [] (z' ∷ xs') h k x y' e s = absurd h
   same_set_right (z ∷ xs) [] h k x y' e s = absurd h
 
-  module _ (t : ℕ) (w w' : World) (h : Mid p p' sides w w') where
+  module _ (t : ℕ) (w w' : World) (h : Beside p p' sides w w') where
     turned_by : (b : Bool) (x x' : Thread) → slice_get w.threads t ≡ Some x → ThreadTurned w.shared w'.shared h.shared b x x'
-        → Mid p p' sides (step_if b p w t) (with_after t w' (turn_of p' w'.shared x'))
+        → Beside p p' sides (step_if b p w t) (with_after t w' (turn_of p' w'.shared x'))
     unfolding step
     turned_by true x x' e a =
-        subst (λ v. Mid p p' sides v (with_after t w' (turn_of p' w'.shared x'))) (sym (ap (step_of p w t) e))
+        subst (λ v. Beside p p' sides v (with_after t w' (turn_of p' w'.shared x'))) (sym (ap (step_of p w t) e))
         (record {
           shared = a.shared;
           threads = same_set w.threads w'.threads h.threads t (turn_of p w.shared x).thread
@@ -117,19 +117,19 @@ module _ (p p' : Program) (sides : Entry → Side) (marks : Entry → Marks) (ar
         })
     turned_by false x x' e a = record { shared = a.0; threads = same_set_right w.threads w'.threads h.threads t x (turn_of p' w'.shared x').thread e a.1 }
 
-    none_turned : (b : Bool) → slice_get w.threads t ≡ None → Mid p p' sides (step_if b p w t) w'
+    none_turned : (b : Bool) → slice_get w.threads t ≡ None → Beside p p' sides (step_if b p w t) w'
     unfolding step
-    none_turned true e = subst (λ v. Mid p p' sides v w') (sym (ap (step_of p w t) e)) h
+    none_turned true e = subst (λ v. Beside p p' sides v w') (sym (ap (step_of p w t) e)) h
     none_turned false e = h
 
     turned_at : (o o' : Option Thread) → slice_get w.threads t ≡ o → SameOption o o'
-        → Mid p p' sides (step_if (keeps_at p' marks o') p w t) (step_of p' w' t o')
+        → Beside p p' sides (step_if (keeps_at p' marks o') p w t) (step_of p' w' t o')
     turned_at None None e same = none_turned false e
     turned_at (Some x) (Some x') e same = turned_by (keeps p' marks x') x x' e (thread_turned w.shared w'.shared h.shared x x' same)
     turned_at None (Some x') e same = absurd same
     turned_at (Some x) None e same = absurd same
 
     -- a kept turn steps both worlds, and another one the twin's alone
-    pub one_turn : Mid p p' sides (step_if (is_kept p' marks w' t) p w t) (step p' w' t)
+    pub one_turn : Beside p p' sides (step_if (is_kept p' marks w' t) p w t) (step p' w' t)
     unfolding step
     one_turn = turned_at (slice_get w.threads t) (slice_get w'.threads t) refl (same_get w.threads w'.threads h.threads t)

@@ -1,5 +1,7 @@
 -- The laws of programs and their twins.
 use Rattle.std.specs.Prelude.{◌≡◌, ℕ, ◌*◌, ◌≤◌, List, length, Some, slice_get}
+use Rattle.jc_methods.specs.ProbeMembers.{fetch_of}
+use Rattle.jc_methods.specs.declared.probe_members.Fetch.TheVariants as fetches
 use Rattle.jc_methods.specs.declared.body.Body.{Body}
 use Rattle.jc_programs.specs.declared.program.Program.{Program}
 use Rattle.jc_programs.specs.declared.program.Linked.{Linked}
@@ -7,7 +9,7 @@ use Rattle.jc_programs.specs.declared.run_plan.Case.{Case}
 use Rattle.jc_programs.specs.declared.run_end.Entry.{Entry}
 use Rattle.jc_programs.specs.Entries.{AreEntries}
 use Rattle.jc_emit.specs.Marks.{Marks}
-use Rattle.jc_twin_programs.specs.TwinProgram.{TwinProgram}
+use Rattle.jc_twin_programs.specs.TwinProgram.{IsChangedPair, TwinProgram}
 use Rattle.jc_machine_model.specs.World.{World}
 use Rattle.jc_machine_model.specs.Step.{step}
 use Rattle.jc_machine_model.specs.Begin.{begin_case}
@@ -17,7 +19,7 @@ use Rattle.jc_twin_simulation.specs.Kept.{is_kept, kept, row, step_if}
 use Rattle.jc_twin_simulation.specs.Spread.{IsSpread}
 use Rattle.jc_twin_simulation.specs.Same.{Same}
 use Rattle.jc_twin_simulation.specs.Sides.{Side, AreSides, AreMarksOf}
-use Rattle.jc_twin_simulation.specs.Mid.{Mid}
+use Rattle.jc_twin_simulation.specs.Beside.{Beside}
 
 -- ---- marks
 
@@ -43,19 +45,19 @@ abbrev pub ForSides : ((p p' : Program) → (Entry → Marks) → (Entry → Sid
 ForSides Law = (p p' : Program) (marks : Entry → Marks) (sides : Entry → Side) → TwinProgram p p' → AreSides p p' sides
     → AreMarksOf p p' marks sides → Law p p' marks sides
 
--- the worlds in which a case begins belong together
-abbrev pub CasesBeginTogether : Type 0
-CasesBeginTogether = ForSides (λ p p' marks sides. (case : Case) (entries : List Entry) → AreEntries p case.threads entries
-    → Mid p p' sides (begin_case p case) (begin_case p' case))
+-- the worlds in which a case begins stand beside each other
+abbrev pub CasesBeginBeside : Type 0
+CasesBeginBeside = ForSides (λ p p' marks sides. (case : Case) (entries : List Entry) → AreEntries p case.threads entries
+    → Beside p p' sides (begin_case p case) (begin_case p' case))
 
--- A turn that is kept is one of both worlds, and another one is a turn of the twin's world alone: they still belong together.
-abbrev pub TurnsStayTogether : Type 0
-TurnsStayTogether = ForSides (λ p p' marks sides. (w w' : World) (t : ℕ) → Mid p p' sides w w'
-    → Mid p p' sides (step_if (is_kept p' marks w' t) p w t) (step p' w' t))
+-- A turn that is kept is one of both worlds, and another one is a turn of the twin's world alone: they still stand beside each other.
+abbrev pub TurnsStayBeside : Type 0
+TurnsStayBeside = ForSides (λ p p' marks sides. (w w' : World) (t : ℕ) → Beside p p' sides w w'
+    → Beside p p' sides (step_if (is_kept p' marks w' t) p w t) (step p' w' t))
 
--- worlds that belong together look the same
-abbrev pub TogetherIsSame : Type 0
-TogetherIsSame = ForSides (λ p p' marks sides. (w w' : World) → Mid p p' sides w w' → Same p' marks w w')
+-- worlds that stand beside each other look the same
+abbrev pub BesideIsSame : Type 0
+BesideIsSame = ForSides (λ p p' marks sides. (w w' : World) → Beside p p' sides w w' → Same p' marks w w')
 
 -- ---- runs
 
@@ -90,3 +92,13 @@ SchedulesAreKept = ForCases (λ p p' marks case. (q : List ℕ) → IsKeptBySpre
 -- a thread takes at most 17 probe turns in a row, wherever the run is cut
 abbrev pub ProbeTurnsAreFew : Type 0
 ProbeTurnsAreFew = ForCases (λ p p' marks case. (t : ℕ) (turns : List ℕ) → row p' marks (begin_case p' case) t turns 0 ≤ 17)
+
+-- each class that has probes in the twin gets its array by a constant, as classes of its version do
+abbrev pub AllByConstant : (p p' : Program) → Type 0
+AllByConstant p p' = (place : ℕ) (class new : Linked) → slice_get p.classes place ≡ Some class → slice_get p'.classes place ≡ Some new
+    → IsChangedPair p.names p'.names class new → fetch_of class.version ≡ fetches.Constant
+
+-- then it takes at most 9
+abbrev pub ProbeTurnsAreFewer : Type 0
+ProbeTurnsAreFewer = ForCases (λ p p' marks case. AllByConstant p p'
+    → (t : ℕ) (turns : List ℕ) → row p' marks (begin_case p' case) t turns 0 ≤ 9)

@@ -1,197 +1,126 @@
--- The simulation relation: worlds of a program and of its twin that belong together. Each turn keeps it.
-use Rattle.std.specs.Prelude.{◌≡◌, ◌⊎◌, ℕ, suc, ◌+◌, ◌≤◌, pos, Bool, true, false, List, [], ◌∷◌, ◌++◌, length, Option, Some, None, insert, if◌then◌else◌, ⊤, slice_get, slice_index_or, bytes_eq}
-use Rattle.std.specs.Int.{w64, cast_signed}
-use Rattle.std.specs.List.{list_any}
-use Rattle.jc_methods.specs.ProbeMembers.{data_name}
-use Rattle.jc_methods.specs.declared.probe_members.Fetch.TheVariants as fetches
+-- The simulation relation, in terms of the two programs: worlds that look the same, and what the twin's world has more.
+use Rattle.std.specs.Prelude.{◌≡◌, ⊤, ℕ, zero, suc, ◌≤◌, pos, Bool, true, false, List, [], ◌∷◌, Option, Some, None, nat_lt, slice_get}
+use Rattle.std.specs.List.{AllByRecursion}
 use Rattle.jc_methods.specs.declared.insn.Insn.{Insn}
+use Rattle.jc_methods.specs.declared.insn.Insn.TheVariants as insns
+use Rattle.jc_methods.specs.declared.body.Body.{Body}
+use Rattle.jc_methods.specs.declared.body.Use.{Use}
+use Rattle.jc_methods.specs.ProbeMembers.{fetch_of}
 use Rattle.jc_programs.specs.declared.program.Program.{Program}
 use Rattle.jc_programs.specs.declared.program.Linked.{Linked}
 use Rattle.jc_programs.specs.declared.program.ProbeInit.{ProbeInit}
-use Rattle.jc_programs.specs.declared.program.StaticField.{StaticField}
 use Rattle.jc_programs.specs.declared.run_end.Entry.{Entry}
-use Rattle.jc_programs.specs.Members.{class_at}
-use Rattle.jc_emit.specs.Items.{Item, start, image, probe_id, probe_one, probe_store, at_of}
-use Rattle.jc_emit.specs.Local.{IsBehind}
-use Rattle.jc_machine_model.specs.Values.{Value, int, long, null, probes, text}
-use Rattle.jc_machine_model.specs.World.{Frame, Thread, running, returned, threw, stuck, Shared, World}
-use Rattle.jc_machine_model.specs.Locals.{is_pair_there}
-use Rattle.jc_twin_simulation.specs.Sides.{Side, count_in, array_of, GoesOnAt, IsSide}
+use Rattle.jc_programs.specs.Members.{class_at, body_of}
+use Rattle.jc_programs.specs.declared.run_plan.Case.{Case}
+use Rattle.jc_programs.specs.Entries.{AreEntries}
+use Rattle.jc_emit.specs.Marks.{Marks, Pushes, prelude_size}
+use Rattle.jc_twin_programs.specs.TwinProgram.{TwinProgram}
+use Rattle.jc_machine_model.specs.Values.{Value, int, probes}
+use Rattle.jc_machine_model.specs.World.{Frame, Thread, running, World}
+use Rattle.jc_machine_model.specs.Fits.{FitsWorld}
+use Rattle.jc_machine_model.specs.Step.{is_init_method, step}
+use Rattle.jc_machine_model.specs.Begin.{begin_case}
+use Rattle.jc_twin_simulation.specs.Marking.{AreMarks}
+use Rattle.jc_twin_simulation.specs.Kept.{is_kept, step_if}
+use Rattle.jc_twin_simulation.specs.Same.{array_slot, is_data, static_in, Same}
+use Rattle.jc_twin_simulation.specs.Sides.{count_in}
+use Rattle.jc_twin_simulation.specs.Beside.{null_or, InitStep, step_place, step_stack}
 
--- ---- frames
+-- how many probes a class has
+abbrev pub count_of : Option Linked → ℕ
+count_of None = 0
+count_of (Some c) = count_in c.probes
 
--- what the prelude or a probe has pushed in front of an item
-abbrev pub pushed_of : (array : Value) → Item → List Value
-pushed_of array (start fetch (suc k)) = array ∷ []
-pushed_of array (probe_id id at late) = array ∷ []
-pushed_of array (probe_one id at late) = int (pos id) ∷ array ∷ []
-pushed_of array (probe_store id at late) = int (pos 1) ∷ int (pos id) ∷ array ∷ []
-pushed_of array _ = []
+-- the probe array of a class
+abbrev pub array_in : Program → ℕ → Value
+array_in p' class = probes class (count_of (class_at p' class))
 
--- The local variables of the twin are those of the method with one more, which holds the probe array behind the prelude. No
--- long begins in it or right in front of it.
-pub record HasArray (array : Value) (v : ℕ) (ls ls' : List (Option Value)) (item : Item) : Type 0 where
-  pub room : v ≤ length ls
-  pub held : Option Value
-  pub around : ls' ≡ insert ls v held
-  pub ready : IsBehind item → held ≡ Some array
-  pub narrow : is_pair_there held ≡ false
-  pub apart : (k : ℕ) → v ≡ suc k → is_pair_there (slice_index_or ls k None) ≡ false
+-- ---- what was pushed
 
-abbrev pub SameLocals : (array : Value) → Option ℕ → (ls ls' : List (Option Value)) → Item → Type 0
-SameLocals array None ls ls' item = ls' ≡ ls
-SameLocals array (Some v) ls ls' item = HasArray array v ls ls' item
+-- Behind an instruction of a probe the value lies on the stack: the probe array, which was loaded, or a number.
+abbrev pub IsPushedBy : List Use → (array : Value) → Insn → Value → Type 0
+IsPushedBy uses array (insns.Local op slot) v = v ≡ array
+IsPushedBy uses array insn v = (n : ℕ) × Pushes uses insn n × (v ≡ int (pos n))
 
--- ---- `$jacocoInit`
+-- Behind each instruction of the prelude it is the probe array.
+abbrev pub IsPushedIn : (in_prelude : Bool) → List Use → (array : Value) → Insn → Value → Type 0
+IsPushedIn true uses array insn v = v ≡ array
+IsPushedIn false uses array insn v = IsPushedBy uses array insn v
 
--- where a frame of it stands, and whether it found the array
-pub data InitStep : Type 0 where
-  reads_field : InitStep
-  doubles : (found : Bool) → InitStep
-  asks_null : (found : Bool) → InitStep
-  clears : InitStep
-  wants_id : InitStep
-  wants_text : InitStep
-  wants_count : InitStep
-  fetches_array : InitStep
-  keeps_array : InitStep
-  writes_field : InitStep
-  gives_back : InitStep
+-- So many values on top of the stack are what the instructions directly in front of q of a body have pushed, whose prelude has so
+-- many instructions.
+abbrev pub ArePushed : (prelude : ℕ) → (array : Value) → Body → (q extra : ℕ) → List Value → Type 0
+ArePushed prelude array b q zero stack = ⊤
+ArePushed prelude array b q (suc n) [] = ⊥
+ArePushed prelude array b q (suc n) (v ∷ stack) =
+    (r : ℕ) × (insn : Insn) × (q ≡ suc r) × (slice_get b.code r ≡ Some insn) × IsPushedIn (nat_lt r prelude) b.uses array insn v
+    × ArePushed prelude array b r n stack
 
-abbrev pub step_place : InitStep → ℕ
-step_place reads_field = 0
-step_place (doubles found) = 1
-step_place (asks_null found) = 2
-step_place clears = 3
-step_place wants_id = 4
-step_place wants_text = 5
-step_place wants_count = 6
-step_place fetches_array = 7
-step_place keeps_array = 8
-step_place writes_field = 9
-step_place gives_back = 10
+-- how many instructions the preludes of a class have, by its version
+abbrev pub prelude_in : Option Linked → ℕ
+prelude_in None = 0
+prelude_in (Some c) = prelude_size (fetch_of c.version)
 
--- null, or the probe array
-abbrev pub null_or : Bool → Value → Value
-null_or false array = null
-null_or true array = array
+abbrev pub prelude_of : Program → ℕ → ℕ
+prelude_of p' class = prelude_in (class_at p' class)
 
--- the stack that its code has made
-abbrev pub step_stack : (class : ℕ) → ProbeInit → InitStep → List Value
-step_stack class init reads_field = []
-step_stack class init (doubles found) = null_or found (probes class init.count) ∷ []
-step_stack class init (asks_null found) = null_or found (probes class init.count) ∷ null_or found (probes class init.count) ∷ []
-step_stack class init clears = null ∷ []
-step_stack class init wants_id = []
-step_stack class init wants_text = long (cast_signed w64 init.id) ∷ []
-step_stack class init wants_count = text class ∷ long (cast_signed w64 init.id) ∷ []
-step_stack class init fetches_array = int (pos init.count) ∷ text class ∷ long (cast_signed w64 init.id) ∷ []
-step_stack class init keeps_array = probes class init.count ∷ []
-step_stack class init writes_field = probes class init.count ∷ probes class init.count ∷ []
-step_stack class init gives_back = probes class init.count ∷ []
+module _ (p' : Program) (marks : Entry → Marks) where
+  -- ---- frames
 
--- ---- static fields
+  -- behind the prelude local variable v holds the probe array
+  abbrev pub KeepsArray : Frame → (v : ℕ) → Type 0
+  KeepsArray f' v = prelude_of p' f'.method.class ≤ f'.place → slice_get f'.locals v ≡ Some (Some (array_in p' f'.method.class))
 
--- the class has a field that keeps its probe array
-abbrev pub has_data : Linked → Bool
-has_data c = list_any (λ (f : StaticField). bytes_eq f.name data_name) c.statics
+  -- of a method that isn't `$jacocoInit`
+  pub record HasProbeState (f' : Frame) : Type 0 where
+    pub pushed : (b : Body) (extra : ℕ) → body_of p' f'.method ≡ Some b → slice_get (marks f'.method).extra f'.place ≡ Some extra
+        → ArePushed (prelude_of p' f'.method.class) (array_in p' f'.method.class) b f'.place extra f'.stack
+    pub array : (v : ℕ) → array_slot p' f'.method ≡ Some v → KeepsArray f' v
 
--- how many probes a class has that keeps its array in a field
-abbrev pub extra_in : Option Linked → Option ℕ
-extra_in None = None
-extra_in (Some c) = if has_data c then Some (count_in c.probes) else None
-
--- such a class has one static field more than the original, which holds null or its probe array
-abbrev pub SameStatics : Option ℕ → (class : ℕ) → List Value → List Value → Type 0
-SameStatics None class xs xs' = xs' ≡ xs
-SameStatics (Some count) class xs xs' = (found : Bool) × (xs' ≡ xs ++ (null_or found (probes class count) ∷ []))
-
-abbrev pub values_of : Shared → ℕ → List Value
-values_of s class = slice_index_or s.statics class []
-
-module _ (p p' : Program) (sides : Entry → Side) where
-  -- the two are frames of one method, which a thread may enter
-  pub record OneMethod (f f' : Frame) : Type 0 where
-    pub method : f'.method ≡ f.method
-    pub side : IsSide p p' f.method (sides f.method)
-    pub entered : (sides f.method).class.has_clinit ≡ false
-
-  pub record SameFrame (f f' : Frame) : Type 0 where
-    pub one : OneMethod f f'
-    pub item : Item
-    pub here : slice_get (sides f.method).items f'.place ≡ Some item
-    pub at : at_of item ≡ f.place
-    pub stack : f'.stack ≡ pushed_of (array_of (sides f.method) f.method.class) item ++ f.stack
-    pub locals : SameLocals (array_of (sides f.method) f.method.class) (sides f.method).slot f.locals f'.locals item
-
-  -- a frame that waits stands at the image of a call, behind which both go on
-  pub record SameWait (f f' : Frame) : Type 0 where
-    pub one : OneMethod f f'
-    pub insn : Insn
-    pub early : Option ℕ
-    pub here : slice_get (sides f.method).items f'.place ≡ Some (image insn f.place early)
-    pub next : GoesOnAt (sides f.method) (f'.place + 1) (f.place + 1)
-    pub stack : f'.stack ≡ f.stack
-    pub locals : SameLocals (array_of (sides f.method) f.method.class) (sides f.method).slot f.locals f'.locals (image insn f.place early)
-
-  abbrev pub SameWaits : List Frame → List Frame → Type 0
-  SameWaits [] [] = ⊤
-  SameWaits (f ∷ fs) (f' ∷ fs') = SameWait f f' × SameWaits fs fs'
-  SameWaits [] (f' ∷ fs') = ⊥
-  SameWaits (f ∷ fs) [] = ⊥
-
-  -- ---- `$jacocoInit`
-
-  -- the added method of a class
-  abbrev pub init_method : Entry → Entry
-  init_method method = record { class = method.class; method = length (sides method).class.bodies }
-
-  -- a frame of `$jacocoInit` on top of a frame that stands at the prelude's call
-  pub record Inside (f : Frame) (fs : List Frame) (f' : Frame) (fs' : List Frame) : Type 0 where
-    pub below : Frame
-    pub rest : List Frame
-    pub waiting : fs' ≡ below ∷ rest
-    pub base : SameFrame f below
-    pub at_call : base.item ≡ start fetches.Member 0
-    pub waits : SameWaits fs rest
-    pub method : f'.method ≡ init_method f.method
+  -- a frame of `$jacocoInit` has the stack that its code has made
+  pub record HasInitState (f' : Frame) : Type 0 where
+    pub class : Linked
+    pub class_is : class_at p' f'.method.class ≡ Some class
     pub init : ProbeInit
-    pub has : (sides f.method).new.probes ≡ Some init
+    pub has : class.probes ≡ Some init
     pub step : InitStep
     pub place : f'.place ≡ step_place step
-    pub stack : f'.stack ≡ step_stack f.method.class init step
+    pub stack : f'.stack ≡ step_stack f'.method.class init step
 
-  -- ---- static fields
+  abbrev pub HasTopState : Bool → Frame → Type 0
+  HasTopState true f' = HasInitState f'
+  HasTopState false f' = HasProbeState f'
 
-  pub record SameShared (s s' : Shared) : Type 0 where
-    pub heap : s'.heap ≡ s.heap
-    pub output : s'.output ≡ s.output
-    pub raised : s'.raised ≡ s.raised
-    pub statics : (class : ℕ) → SameStatics (extra_in (class_at p' class)) class (values_of s class) (values_of s' class)
-    pub counts : (class : ℕ) (c : Linked) → class_at p class ≡ Some c → length (values_of s class) ≡ length c.statics
+  abbrev pub HasState : Thread → Type 0
+  HasState (running f' waiting) = HasTopState (is_init_method p' f'.method) f' × AllByRecursion HasProbeState waiting
+  HasState _ = ⊤
 
-  -- ---- threads
+-- The worlds look the same. Each `$jacocoData` holds null or the probe array of its class, and each frame of the twin has what the
+-- prelude, a probe or `$jacocoInit` has made.
+pub record Mid (p p' : Program) (marks : Entry → Marks) (w w' : World) : Type 0 where
+  pub same : Same p' marks w w'
+  pub arrays : (class field : ℕ) → is_data p' class field ≡ true
+      → (found : Bool) × (static_in w' class field ≡ Some (null_or found (array_in p' class)))
+  pub threads : AllByRecursion (HasState p' marks) w'.threads
 
-  pub record SameStuck (method : Entry) (place : ℕ) (method' : Entry) (place' : ℕ) : Type 0 where
-    pub same : method' ≡ method
-    pub side : IsSide p p' method (sides method)
-    pub item : Item
-    pub here : slice_get (sides method).items place' ≡ Some item
-    pub at : at_of item ≡ place
+-- ---- turns
 
-  abbrev pub SameThread : Thread → Thread → Type 0
-  SameThread (running f fs) (running f' fs') = (SameFrame f f' × SameWaits fs fs') ⊎ Inside f fs f' fs'
-  SameThread (returned v) (returned v') = v' ≡ v
-  SameThread (threw c) (threw c') = c' ≡ c
-  SameThread (stuck m q) (stuck m' q') = SameStuck m q m' q'
-  SameThread _ _ = ⊥
+-- each case begins in such worlds
+abbrev pub BeginsInMid : (before after : Program) → Type 0
+BeginsInMid before after =
+    (marks : Entry → Marks) → TwinProgram before after → AreMarks before after marks → (case : Case) (entries : List Entry)
+    → AreEntries before case.threads entries → Mid before after marks (begin_case before case) (begin_case after case)
 
-  abbrev pub SameThreads : List Thread → List Thread → Type 0
-  SameThreads [] [] = ⊤
-  SameThreads (x ∷ xs) (x' ∷ xs') = SameThread x x' × SameThreads xs xs'
-  SameThreads [] (x' ∷ xs') = ⊥
-  SameThreads (x ∷ xs) [] = ⊥
+-- A kept turn is one of both worlds, and another one is a turn of the twin's world alone. Worlds that fit and are in the
+-- relation are so behind it.
+abbrev pub OneTurn : (before after : Program) → Type 0
+OneTurn before after =
+    (marks : Entry → Marks) → TwinProgram before after → AreMarks before after marks → (w w' : World) (t : ℕ) → FitsWorld before w
+    → FitsWorld after w' → Mid before after marks w w'
+    → Mid before after marks (step_if (is_kept after marks w' t) before w t) (step after w' t)
 
-  pub record Mid (w w' : World) : Type 0 where
-    pub shared : SameShared w.shared w'.shared
-    pub threads : SameThreads w.threads w'.threads
+abbrev pub EachBeginsInMid : Type 0
+EachBeginsInMid = (before after : Program) → BeginsInMid before after
+
+abbrev pub EachTurnKeeps : Type 0
+EachTurnKeeps = (before after : Program) → OneTurn before after

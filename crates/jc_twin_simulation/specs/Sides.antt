@@ -1,18 +1,22 @@
 -- A method of a program beside that of its twin, and the classes of the two.
 use Rattle.std.specs.Prelude.{◌≡◌, ℕ, ◌<◌, true, false, List, length, map, Option, Some, None, slice_get}
+use Rattle.jc_methods.specs.EntryState.{entry_of}
+use Rattle.jc_methods.specs.VerificationTypes.{VerificationType}
 use Rattle.jc_methods.specs.WellMade.{IsWellMadeOfAnySize}
 use Rattle.jc_methods.specs.declared.body.Body.{Body}
-use Rattle.jc_methods.specs.declared.probe_members.Fetch.TheVariants as fetches
+use Rattle.jc_methods.specs.declared.probe_members.Fetch.{Fetch}
+use Rattle.jc_methods.specs.ProbeMembers.{fetch_of}
 use Rattle.jc_programs.specs.declared.program.Program.{Program}
 use Rattle.jc_programs.specs.declared.program.Linked.{Linked}
 use Rattle.jc_programs.specs.declared.program.ProbeInit.{ProbeInit}
 use Rattle.jc_programs.specs.declared.run_end.Entry.{Entry}
+use Rattle.jc_kinds.specs.States.{state_of}
 use Rattle.jc_plan.specs.declared.branch.Branch.{Branch}
 use Rattle.jc_plan.specs.Probed.{first_id, probe_of}
 use Rattle.jc_emit.specs.Added.{giver_of}
 use Rattle.jc_emit.specs.Items.{Item, at_of, own_of, extra_of}
 use Rattle.jc_emit.specs.Local.{AllOk, OkRow, Stands, id_in, no_ids}
-use Rattle.jc_emit.specs.Marks.{TwinPlaces, Marks}
+use Rattle.jc_emit.specs.Marks.{TwinPlaces, Marks, prelude_size}
 use Rattle.jc_emit.specs.Ranks.{IsRanked}
 use Rattle.jc_emit.specs.Seen.{OkRows, IsPlain, AreInsnsOf, GetsArray, with_more}
 use Rattle.jc_emit.specs.Twin.{IsSameMethod, KeepsUses}
@@ -45,14 +49,21 @@ array_of t class = probes class (count_in t.new.probes)
 abbrev pub GoesOnAt : Side → (q i : ℕ) → Type 0
 GoesOnAt t q i = (due : Option ℕ) × Stands t.body.code t.slot t.ids t.items q i due
 
+-- how methods of its class get the probe array, where it is a changed one
+abbrev pub way_of : Side → Fetch
+way_of t = fetch_of t.class.version
+
 -- a method of a changed class
 pub record IsChanged (p p' : Program) (t : Side) (v : ℕ) : Type 0 where
   pub slot : v ≡ t.body.arg_slots
   pub pair : IsChangedPair p.names p'.names t.class t.new
   pub added_at : slice_get t.new.bodies (length t.class.bodies) ≡ Some pair.added
   pub declares : declares_init t.new ≡ true
-  pub gets : GetsArray fetches.Member (giver_of fetches.Member t.class.name pair.bootstrap) t.twin.uses t.items t.places
+  pub gets : GetsArray (way_of t) (giver_of (way_of t) t.class.name pair.bootstrap) t.twin.uses t.items t.places
   pub within : (q id : ℕ) (x : Item) → slice_get t.items q ≡ Some x → id_in x ≡ Some id → id < count_in t.new.probes
+  -- before each instruction of the prelude the local variables have the types with which the method begins
+  pub begins : (q : ℕ) → q < prelude_size (way_of t)
+      → (stack : List VerificationType) × (state_of p'.names t.twin q ≡ Some (record { locals = (entry_of t.twin).locals; stack = stack }))
 
 -- a method of an unchanged class
 pub record IsUnchanged (p p' : Program) (t : Side) : Type 0 where
@@ -67,6 +78,7 @@ pub record IsSide (p p' : Program) (method : Entry) (t : Side) : Type 0 where
   pub named : is_init_name t.body.name ≡ false
   pub declares : declares_init t.class ≡ false
   pub has_clinit : t.new.has_clinit ≡ t.class.has_clinit
+  pub version : t.new.version ≡ t.class.version
   pub well : IsWellMadeOfAnySize t.body
   pub same : IsSameMethod t.body t.twin
   pub uses : KeepsUses t.body t.twin

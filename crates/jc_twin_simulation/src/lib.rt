@@ -4,13 +4,14 @@
 //! turns. [`each_run_is_the_same`] is the promise of this crate.
 #![tactic(auto)]
 
-ghost use Rattle.jc_twin_simulation.specs.Laws.{CasesBeginTogether, HaveMarks, HaveOneMarks, HaveSides, ProbeTurnsAreFew, RunsAreSame, SchedulesAreKept, TogetherIsSame, TurnsStayTogether};
-ghost use Rattle.jc_twin_simulation.specs.Together.{EachBeginsTogether, EachTurnKeeps};
+ghost use Rattle.jc_twin_simulation.specs.Laws.{BesideIsSame, CasesBeginBeside, HaveMarks, HaveOneMarks, HaveSides, TurnsStayBeside};
+ghost use Rattle.jc_twin_simulation.specs.Laws.{ProbeTurnsAreFew, ProbeTurnsAreFewer, RunsAreSame, SchedulesAreKept};
+ghost use Rattle.jc_twin_simulation.specs.Mid.{EachBeginsInMid, EachTurnKeeps};
 
 /// A run of a twin leaves the same output, heap, static fields and ends of threads as the run of the original under the kept
 /// turns, and the frames of running threads are the same up to the instruction that is next, the local variable of the probe
-/// array and what a probe has pushed. This holds for every schedule, every number of threads and every set of wide jumps, and for
-/// ids that are Integers of the pool.
+/// array and what a probe has pushed. This holds for every schedule, every number of threads, both ways in which classes get their
+/// array and every set of wide jumps, and for ids that are Integers of the pool.
 pub fn each_run_is_the_same()
     ensures { RunsAreSame }
 {}
@@ -20,9 +21,11 @@ pub fn no_schedule_is_lost()
     ensures { SchedulesAreKept }
 {}
 
-/// A thread of a twin takes at most 17 probe turns in a row.
+/// A thread of a twin takes at most 17 probe turns in a row, and at most 9 where each class that has probes gets its array by a
+/// constant.
 pub fn probe_turns_are_few()
-    ensures { ProbeTurnsAreFew }
+    ensures most { ProbeTurnsAreFew }
+    ensures by_constant { ProbeTurnsAreFewer }
 {}
 
 /// What is said of the instructions of a twin is told by the two programs.
@@ -37,16 +40,16 @@ pub fn each_method_has_its_side()
 {}
 
 /// One turn of a thread of the twin: a kept one is a turn of the original too, and another one is a turn of the twin alone. The
-/// worlds belong together before and after it, and from the beginning of each case on, and then they look the same.
-pub fn each_turn_keeps_worlds_together()
-    ensures begin { CasesBeginTogether }
-    ensures turn { TurnsStayTogether }
-    ensures same { TogetherIsSame }
+/// worlds stand beside each other before and after it, and from the beginning of each case on, and then they look the same.
+pub fn each_turn_keeps_worlds_side_by_side()
+    ensures begin { CasesBeginBeside }
+    ensures turn { TurnsStayBeside }
+    ensures same { BesideIsSame }
 {}
 
-/// The same in terms of the two programs. Two worlds are together where they look the same, each field of a probe array holds null
+/// The same in terms of the two programs. Two worlds are in the relation where they look the same, each field of a probe array holds null
 /// or the array of its class, and each frame of the twin has what the prelude, a probe or `$jacocoInit` has made so far.
 pub fn each_turn_keeps_what_probes_made()
-    ensures begin { EachBeginsTogether }
+    ensures begin { EachBeginsInMid }
     ensures turn { EachTurnKeeps }
 {}

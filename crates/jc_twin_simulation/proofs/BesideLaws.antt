@@ -1,15 +1,16 @@
--- Worlds that fit and are together, in terms of the two programs, belong together.
-use Rattle.std.proofs.Common.{◌≡◌, inl, inr, ⊎_elim, ℕ, zero, suc, ◌+◌, ◌-◌, ◌<◌, ◌≤◌, Bool, true, false, not, ◌&&◌, List, [], ◌∷◌, ◌++◌, length, insert, drop, Option, Some, None, option_and_then, nat_eq, nat_le, refl, sym, ap, ap₂, ◌∙◌, subst, arith, if◌then◌else◌}
+-- Worlds that fit and are in the relation that is told in terms of the two programs stand beside each other.
+use Rattle.std.proofs.Common.{◌≡◌, inl, inr, ⊎_elim, ℕ, zero, suc, ◌<◌, ◌≤◌, Bool, true, false, not, ◌&&◌, List, [], ◌∷◌, ◌++◌, length, drop, Option, Some, None, option_and_then, nat_eq, nat_le, refl, sym, ap, ap₂, ◌∙◌, subst, subst₂, arith, if◌then◌else◌}
 use Rattle.std.specs.Prelude.{IsTrue, slice_get, slice_index_or}
 use Rattle.std.specs.List.{AllByRecursion}
-use Rattle.std.proofs.lemmas.Bool.{true≢false, lt-ltb, le-ltb, eqb-true, eqb-false, and_parts, not-true, cases_lt}
-use Rattle.std.proofs.lemmas.Option.{none-some, same_Some, slice_get-get_or, get_or_from_slice_get, slice_get_within, slice_get_past}
+use Rattle.std.proofs.lemmas.Bool.{true≢false, eqb-true, eqb-false, and_parts, not-true, cases_lt}
+use Rattle.std.proofs.lemmas.Option.{none-some, same_Some, get_or_from_slice_get, slice_get_past}
 use Rattle.jc_bytes.proofs.BooleanLaws.{stands_in}
 use Rattle.jc_bytes.proofs.ListLaws.{mapped_at}
 use Rattle.jc_methods.specs.Opcode as opcode
 use Rattle.jc_methods.specs.Flow.{flow_of}
 use Rattle.jc_methods.specs.WellMade.{what_used}
-use Rattle.jc_methods.specs.ProbeMembers.{data_name, most_short}
+use Rattle.jc_methods.specs.ProbeMembers.{data_name, most_short, fetch_of}
+use Rattle.jc_methods.specs.declared.probe_members.Fetch.{Fetch}
 use Rattle.jc_methods.specs.declared.probe_members.Fetch.TheVariants as fetches
 use Rattle.jc_methods.specs.declared.insn.Insn.{Insn}
 use Rattle.jc_methods.specs.declared.insn.Insn.TheVariants as insns
@@ -23,7 +24,7 @@ use Rattle.jc_programs.specs.declared.run_end.Entry.{Entry}
 use Rattle.jc_programs.specs.Members.{class_at, body_of}
 use Rattle.jc_emit.specs.Items.{Item, start, image, probe_array, probe_id, probe_one, probe_store, hop, at_of, extra_of}
 use Rattle.jc_emit.specs.Local.{OkImage}
-use Rattle.jc_emit.specs.Marks.{TwinPlaces, Marks, PushesBy, Pushes}
+use Rattle.jc_emit.specs.Marks.{TwinPlaces, Marks, PushesBy, Pushes, prelude_size}
 use Rattle.jc_emit.specs.Sizes.{insn_at}
 use Rattle.jc_emit.specs.Added.{data_static}
 use Rattle.jc_twin_programs.specs.TwinProgram.{IsPair, IsChangedPair, IsUnchangedPair}
@@ -31,111 +32,31 @@ use Rattle.jc_plan.specs.Edges.{sequence}
 use Rattle.jc_machine_model.specs.Values.{Value, probes}
 use Rattle.jc_machine_model.specs.Heap.{HeapObject}
 use Rattle.jc_machine_model.specs.World.{Frame, Thread, running, returned, threw, stuck, Shared, World}
-use Rattle.jc_machine_model.specs.Fits.{AreClassStatics, AreStatics, StandsIn, FitsTop, named_by, called_by, StandsAtCall, FitsWaiting, FitEachWaiting, FitsThread, FitsWorld}
+use Rattle.jc_machine_model.specs.Fits.{AreInSlots, KeepsPairs, StandsIn, FitsTop, IsPlace, named_by, called_by, StandsAtCall, FitsWaiting, FitEachWaiting, FitsThread, FitsWorld}
 use Rattle.jc_machine_model.specs.Locals.{is_pair_there}
 use Rattle.jc_machine_model.specs.Methods.{is_init_name, declares_init, is_native, is_wide, is_plain}
-use Rattle.jc_methods.specs.EntryState.{is_static}
-use Rattle.jc_machine_model.specs.Profile.{Location}
+use Rattle.jc_methods.specs.EntryState.{is_static, entry_of}
+use Rattle.jc_methods.specs.VerificationTypes.{TypeState}
+use Rattle.jc_kinds.specs.States.{state_of}
+use Rattle.jc_machine_model.specs.Profile.{Location, gets_by, has_constant}
 use Rattle.jc_emit.specs.Seen.{IsInsnOf, IsPlain}
 use Rattle.jc_emit.proofs.ToldLaws.{mapped}
 use Rattle.jc_machine_model.specs.Step.{LocatedInsn, located_in_body, located_in_class, located, named_init, is_init_method}
 use Rattle.jc_twin_simulation.specs.Same.{twin_slot, array_slot, is_named_data, is_data_in, is_data, frames_of}
 use Rattle.jc_twin_simulation.specs.Same as spec
-use Rattle.jc_twin_simulation.specs.Sides.{Side, count_in, array_of, IsSide, AreSides, AreMarksOf}
-use Rattle.jc_twin_simulation.specs.Mid.{pushed_of, null_or, step_stack, SameLocals, OneMethod, SameFrame, SameWait, SameWaits, init_method, SameStuck, Inside, extra_in, SameStatics, values_of, SameShared, SameThread, SameThreads, Mid}
-use Rattle.jc_twin_simulation.specs.Together.{count_of, array_in, ArePushed, HasProbeState, HasInitState, HasTopState, HasState, IsStuckWithin, Together}
-use Rattle.jc_twin_simulation.proofs.ClassLaws.{other_name, changed_statics, unchanged_data, changed_data}
+use Rattle.jc_twin_simulation.specs.Sides.{Side, count_in, array_of, way_of, IsSide, AreSides, AreMarksOf}
+use Rattle.jc_twin_simulation.specs.Beside.{pushed_of, null_or, step_stack, SameLocals, OneMethod, SameFrame, SameWait, SameWaits, init_method, SameStuck, Inside, extra_in, SameStatics, values_of, SameShared, SameThread, SameThreads, Beside}
+use Rattle.jc_twin_simulation.specs.Mid.{count_of, array_in, prelude_of, ArePushed, HasProbeState, HasInitState, HasTopState, HasState, Mid}
+use Rattle.jc_twin_simulation.proofs.ClassLaws.{other_name, changed_statics, constant_statics, unchanged_data, changed_data, constant_data}
 use Rattle.jc_twin_simulation.proofs.FrameLaws.{body_is, location, twin_insn}
-use Rattle.jc_twin_simulation.proofs.TurnLaws.{called}
+use Rattle.jc_twin_simulation.proofs.TurnLaws.{giver_is, called}
 use Rattle.jc_twin_simulation.proofs.PlaceLaws.{any_at}
 use Rattle.jc_twin_simulation.proofs.SameLaws.{slot_is, no_class, last_is, one_more, is_added}
 use Rattle.jc_twin_simulation.proofs.PushedLaws.{item_off}
-use Rattle.jc_twin_simulation.proofs.SlotLaws.{get-shifted, read-shifted, get_own}
-use Rattle.jc_twin_simulation.proofs.TogetherLaws.{number_form, past_prelude}
-
--- ---- lists
-
-same_items : {X : Type 0} (xs ys : List X) → ((k : ℕ) → slice_get xs k ≡ slice_get ys k) → xs ≡ ys
-same_items [] [] h = refl
-same_items [] (y ∷ ys) h = absurd (none-some y (h 0))
-same_items (x ∷ xs) [] h = absurd (none-some x (sym (h 0)))
-same_items (x ∷ xs) (y ∷ ys) h = ap₂ (λ z l. z ∷ l) (same_Some x y (h 0)) (same_items xs ys (λ k. h (suc k)))
-
--- ---- local variables
-
-module _ (v : ℕ) (ls ls' : List (Option Value)) (held : Option Value) (there : slice_get ls' v ≡ Some held)
-    (slots : (k : ℕ) → slice_get ls' (twin_slot (Some v) k) ≡ slice_get ls k) where
-  below : (k : ℕ) → k < v → twin_slot (Some v) k ≡ k
-  below k lt = ap (λ b. if b then k else k + 1) (lt-ltb k v lt)
-
-  above : (k : ℕ) → v ≤ k → twin_slot (Some v) k ≡ k + 1
-  above k le = ap (λ b. if b then k else k + 1) (le-ltb k v le)
-
-  within : v < length ls'
-  within = slice_get_within ls' v held there
-
-  front : (k : ℕ) → k < v → slice_get ls' k ≡ slice_get ls k
-  front k lt = ap (slice_get ls') (sym (below k lt)) ∙ slots k
-
-  has_room_by : (n : ℕ) → v ≡ n → v ≤ length ls
-  has_room_by zero e = omega (arith, e)
-  has_room_by (suc n) e =
-      ⊎_elim
-      (λ lt. omega (arith, lt, e))
-      (λ le.
-      let k : n < v = omega (arith, e) in
-      let w = within in
-      let inside : n < length ls' = omega (arith, w, e) in
-      absurd (none-some _ (sym (slice_get_past ls n le) ∙ sym (front n k) ∙ slice_get-get_or ls' n None inside)))
-      (cases_lt n (length ls))
-
-  pub has_room : v ≤ length ls
-  has_room = has_room_by v refl
-
-  insert_is : (j : ℕ) → slice_get (insert ls v held) (twin_slot (Some v) j) ≡ slice_get ls j
-  insert_is j = get-shifted v j ls held has_room
-
-  pub around : ls' ≡ insert ls v held
-  around = same_items ls' (insert ls v held) each
-    where
-      past : (k j : ℕ) → k ≡ j + 1 → v ≤ j → slice_get ls' k ≡ slice_get (insert ls v held) k
-      past k j e le =
-          let at : k ≡ twin_slot (Some v) j = e ∙ sym (above j le) in
-          ap (slice_get ls') at ∙ slots j ∙ sym (insert_is j) ∙ ap (slice_get (insert ls v held)) (sym at)
-
-      from : (k : ℕ) → v ≤ k → slice_get ls' k ≡ slice_get (insert ls v held) k
-      from k le = by (nat_eq k v) refl
-        where
-          by : (b : Bool) → nat_eq k v ≡ b → slice_get ls' k ≡ slice_get (insert ls v held) k
-          by true e =
-              let same = eqb-true k v e in
-              ap (slice_get ls') same ∙ there ∙ sym (get_own v ls held has_room) ∙ ap (slice_get (insert ls v held)) (sym same)
-          by false e = let other = eqb-false k v e in let lt : v < k = omega (arith, le, other) in past k (k - 1) (omega (arith, lt)) (omega (arith, lt))
-
-      each : (k : ℕ) → slice_get ls' k ≡ slice_get (insert ls v held) k
-      each k =
-          ⊎_elim
-          (λ lt. front k lt ∙ sym (insert_is k) ∙ ap (slice_get (insert ls v held)) (below k lt))
-          (λ le. from k le)
-          (cases_lt k v)
-
--- ---- static fields of classes
-
-class_statics : (classes : List Linked) (statics : List (List Value)) → AreStatics classes statics → (k : ℕ) (c : Linked)
-    → slice_get classes k ≡ Some c → AreClassStatics c (slice_index_or statics k [])
-class_statics [] [] are k c e = absurd (none-some c e)
-class_statics (x ∷ classes) (v ∷ statics) are zero c e = subst (λ y. AreClassStatics y v) (same_Some x c e) are.0
-class_statics (x ∷ classes) (v ∷ statics) are (suc k) c e = class_statics classes statics are.1 k c e
-class_statics [] (v ∷ statics) are k c e = absurd are
-class_statics (x ∷ classes) [] are k c e = absurd are
-
-no_statics : (classes : List Linked) (statics : List (List Value)) → AreStatics classes statics → (k : ℕ) → slice_get classes k ≡ None
-    → slice_index_or statics k [] ≡ []
-no_statics [] [] are k e = refl
-no_statics (x ∷ classes) (v ∷ statics) are zero e = absurd (none-some x (sym e))
-no_statics (x ∷ classes) (v ∷ statics) are (suc k) e = no_statics classes statics are.1 k e
-no_statics [] (v ∷ statics) are k e = absurd are
-no_statics (x ∷ classes) [] are k e = absurd are
+use Rattle.jc_twin_simulation.proofs.PreludeLaws.{array_there, array_apart, value_apart}
+use Rattle.jc_twin_simulation.proofs.SlotLaws.{read-shifted}
+use Rattle.jc_twin_simulation.proofs.MidLaws.{number_form, past_prelude, prelude_is}
+use Rattle.jc_twin_simulation.proofs.InsertLaws.{same_items, below, has_room, around, class_statics, no_statics}
 
 -- ---- frames
 
@@ -158,7 +79,7 @@ module _ (p p' : Program) (sides : Entry → Side) (marks : Entry → Marks) (ar
       record {
         method = m;
         side = side;
-        entered = ap (λ (c : Linked). c.has_clinit) (class_of f.method st.linked side st.class_is) ∙ no_clinit st.linked st.body st.plain;
+        entered = ap (λ (c : Linked). c.has_clinit) (class_of f.method st.linked side st.class_is) ∙ no_clinit st.linked st.body st.entered;
       }
     where
       no_clinit : (c : Linked) (b : Body) → IsTrue (is_plain c b) → c.has_clinit ≡ false
@@ -168,17 +89,83 @@ module _ (p p' : Program) (sides : Entry → Side) (marks : Entry → Marks) (ar
           (and_parts (not (is_native b)) (not c.has_clinit && not (is_wide c b))
           (and_parts (is_static b.flags) (not (is_native b) && (not c.has_clinit && not (is_wide c b))) h).1).1).0
 
+  -- ---- local variables of a frame that fits
+
+  record FitsLocals (f' : Frame) : Type 0 where
+    state : TypeState
+    stands : StandsIn p' f' state
+    locals : AreInSlots f'.locals state.locals
+    pairs : KeepsPairs f'.locals
+
+  top_locals : (f' : Frame) → FitsTop p' f' → FitsLocals f'
+  top_locals f' h = record { state = h.state; stands = h.stands; locals = h.locals; pairs = h.pairs }
+
+  waiting_locals : (f' : Frame) (callee : Entry) → FitsWaiting p' f' callee → FitsLocals f'
+  waiting_locals f' callee h = record { state = h.state; stands = h.stands; locals = h.locals; pairs = h.pairs }
+
+  -- in the prelude they are of the types with which the method begins
+  entry_locals : (f f' : Frame) (o : OneMethod p p' sides f f') → FitsLocals f' → (v : ℕ) → (sides f.method).slot ≡ Some v → f'.place < prelude_size (way_of (sides f.method))
+      → AreInSlots f'.locals (entry_of (sides f.method).twin).locals
+  entry_locals f f' o fits v e lt =
+      let t = sides f.method in
+      let st = fits.stands in
+      let class : st.linked ≡ t.new =
+      same_Some st.linked t.new (sym st.class_is ∙ ap (λ (m : Entry). slice_get p'.classes m.class) o.method ∙ o.side.new_is) in
+      let body : st.body ≡ t.twin =
+      same_Some st.body t.twin
+      (sym st.body_is ∙ ap (λ (m : Entry). slice_get st.linked.bodies m.method) o.method
+      ∙ ap (λ (c : Linked). slice_get c.bodies f.method.method) class ∙ o.side.twin_is) in
+      let b = (o.side.changed v e).begins f'.place lt in
+      let entry : TypeState = record { locals = (entry_of t.twin).locals; stack = b.0 } in
+      let state : fits.state ≡ entry =
+      same_Some fits.state entry (sym st.state_is ∙ ap (λ (x : Body). state_of p'.names x f'.place) body ∙ b.1) in
+      subst (λ (s : TypeState). AreInSlots f'.locals s.locals) state fits.locals
+
+  prelude_here : (f f' : Frame) → OneMethod p p' sides f f' → prelude_of p' f'.method.class ≡ prelude_size (way_of (sides f.method))
+  prelude_here f f' o = ap (λ (m : Entry). prelude_of p' m.class) o.method ∙ prelude_is p p' sides marks are told f.method o.side
+
+  -- what is known of the one that is added
+  record Added (f' : Frame) (v : ℕ) : Type 0 where
+    held : Option Value
+    there : slice_get f'.locals v ≡ Some held
+    ready : prelude_of p' f'.method.class ≤ f'.place → held ≡ Some (array_in p' f'.method.class)
+    apart : (k : ℕ) → v ≡ suc k → is_pair_there (slice_index_or f'.locals k None) ≡ false
+
+  added_at : (f f' : Frame) (o : OneMethod p p' sides f f') → HasProbeState p' marks f' → FitsLocals f' → (v : ℕ) → (sides f.method).slot ≡ Some v
+      → array_slot p' f.method ≡ Some v → Added f' v
+  added_at f f' o has fits v e slot = ⊎_elim in_prelude behind (cases_lt f'.place (prelude_of p' f'.method.class))
+    where
+      in_prelude : f'.place < prelude_of p' f'.method.class → Added f' v
+      in_prelude lt =
+          let are = entry_locals f f' o fits v e (subst (λ n. f'.place < n) (prelude_here f f' o) lt) in
+          record {
+            held = slice_index_or f'.locals v None;
+            there = array_there p p' sides f.method o.side v e f'.locals are;
+            ready = λ le. absurd (omega (arith, lt, le));
+            apart = λ k q. array_apart p p' sides f.method o.side v e f'.locals are fits.pairs k q;
+          }
+
+      behind : prelude_of p' f'.method.class ≤ f'.place → Added f' v
+      behind le =
+          let here = has.array v (ap (array_slot p') o.method ∙ slot) le in
+          record {
+            held = Some (array_in p' f'.method.class);
+            there = here;
+            ready = λ h. refl;
+            apart = λ k q. value_apart f'.locals k (array_in p' f'.method.class) fits.pairs (ap (slice_get f'.locals) (sym q) ∙ here);
+          }
+
   -- the local variables, where the probe array's is known
-  locals_of : (f f' : Frame) (o : OneMethod p p' sides f f') → spec.SameFrame p' marks f f' → HasProbeState p' marks f' → (x : Item)
+  locals_of : (f f' : Frame) (o : OneMethod p p' sides f f') → spec.SameFrame p' marks f f' → HasProbeState p' marks f' → FitsLocals f' → (x : Item)
       → slice_get (sides f.method).items f'.place ≡ Some x → (slot : Option ℕ) → (sides f.method).slot ≡ slot
       → SameLocals (array_of (sides f.method) f.method.class) slot f.locals f'.locals x
-  locals_of f f' o same has x here None e =
+  locals_of f f' o same has fits x here None e =
       same_items f'.locals f.locals
       (λ k. ap (λ s. slice_get f'.locals (twin_slot s k)) (sym (slot_is p p' sides f.method o.side ∙ e)) ∙ same.slots k)
-  locals_of f f' o same has x here (Some v) e =
+  locals_of f f' o same has fits x here (Some v) e =
       let t = sides f.method in
       let slot = slot_is p p' sides f.method o.side ∙ e in
-      let k = has.array v (ap (array_slot p') o.method ∙ slot) in
+      let k = added_at f f' o has fits v e slot in
       let slots : (j : ℕ) → slice_get f'.locals (twin_slot (Some v) j) ≡ slice_get f.locals j =
       λ j. ap (λ s. slice_get f'.locals (twin_slot s j)) (sym slot) ∙ same.slots j in
       let is = around v f.locals f'.locals k.held k.there slots in
@@ -188,9 +175,8 @@ module _ (p p' : Program) (sides : Entry → Side) (marks : Entry → Marks) (ar
         held = k.held;
         around = is;
         ready = λ b.
-            k.ready (past_prelude p p' sides f.method o.side f'.place x v e here b)
+            k.ready (subst (λ n. n ≤ f'.place) (sym (prelude_here f f' o)) (past_prelude p p' sides f.method o.side f'.place x v e here b))
             ∙ ap Some (ap (λ (m : Entry). array_in p' m.class) o.method ∙ array_is f.method o.side);
-        narrow = k.narrow;
         apart = λ j q.
             let lt : j < v = omega arith in
             ap is_pair_there
@@ -199,8 +185,8 @@ module _ (p p' : Program) (sides : Entry → Side) (marks : Entry → Marks) (ar
             ∙ k.apart j q;
       }
 
-  pub frame_of : (f f' : Frame) → OneMethod p p' sides f f' → spec.SameFrame p' marks f f' → HasProbeState p' marks f' → SameFrame p p' sides f f'
-  frame_of f f' o same has =
+  frame_of : (f f' : Frame) → OneMethod p p' sides f f' → spec.SameFrame p' marks f f' → HasProbeState p' marks f' → FitsLocals f' → SameFrame p p' sides f f'
+  frame_of f f' o same has fits =
       let t = sides f.method in
       let a = array_of t f.method.class in
       let m = told f.method o.side in
@@ -211,7 +197,7 @@ module _ (p p' : Program) (sides : Entry → Side) (marks : Entry → Marks) (ar
       let more : same.extra ≡ extra_of x = same_Some same.extra (extra_of x) (sym same.extra_is ∙ marked) in
       let body : body_of p' f'.method ≡ Some t.twin = ap (body_of p') o.method ∙ body_is p' f.method t.new t.twin o.side.new_is o.side.twin_is in
       let array : array_in p' f'.method.class ≡ a = ap (λ (e : Entry). array_in p' e.class) o.method ∙ array_is f.method o.side in
-      let pushed = subst (λ v. ArePushed v t.twin f'.place (extra_of x) f'.stack) array
+      let pushed = subst₂ (λ n v. ArePushed n v t.twin f'.place (extra_of x) f'.stack) (prelude_here f f' o) array
       (has.pushed t.twin (extra_of x) body (ap (λ e. slice_get (marks e).extra f'.place) o.method ∙ marked)) in
       record {
         one = o;
@@ -221,7 +207,7 @@ module _ (p p' : Program) (sides : Entry → Side) (marks : Entry → Marks) (ar
         stack =
             item_off p p' sides f.method o.side a f'.place x f'.stack i.1 pushed
             ∙ ap (λ l. pushed_of a x ++ l) (ap (λ n. drop n f'.stack) (sym more) ∙ sym same.stack);
-        locals = locals_of f f' o same has x i.1 t.slot refl;
+        locals = locals_of f f' o same has fits x i.1 t.slot refl;
       }
 
   -- ---- frames that wait
@@ -284,7 +270,7 @@ module _ (p p' : Program) (sides : Entry → Side) (marks : Entry → Marks) (ar
         let insn : at.insn.insn ≡ insns.Member opcode.invokestatic t.places.giver = same_Some at.insn.insn twin.0 (sym there.0 ∙ twin.1) ∙ twin.2 in
         let named : called_by p' at.insn.at at.insn.insn ≡ Some (init_method p p' sides f.method) =
         ap (called_by p' at.insn.at) insn ∙ ap (λ (l : Location). named_by p' (what_used l.body.uses t.places.giver)) there.1
-        ∙ ap (named_by p') c.gets.giver_is ∙ called p p' sides are s s' ss f f' h call v c in
+        ∙ ap (named_by p') (giver_is p p' sides are s s' ss f f' h call v c) ∙ called p p' sides are s s' ss f f' h call v c in
         same_Some callee (init_method p p' sides f.method) (sym at.calls ∙ named)
 
     -- that method isn't one of the original
@@ -348,7 +334,7 @@ module _ (p p' : Program) (sides : Entry → Side) (marks : Entry → Marks) (ar
     waits_of [] [] m m' e side s h w w' = tt
     waits_of (f ∷ fs) (f' ∷ fs') m m' e side s h w w' =
         let o = one_method f f' s.0.method w.0.stands in (
-          wait_of f f' m m' (frame_of f f' o s.0 h.0) w.0 w'.0 (λ q. not_of_program f.method o.side m side (sym e ∙ q)),
+          wait_of f f' m m' (frame_of f f' o s.0 h.0 (waiting_locals f' m' w'.0)) w.0 w'.0 (λ q. not_of_program f.method o.side m side (sym e ∙ q)),
           waits_of fs fs' f.method f'.method s.0.method o.side s.1 h.1 w.1 w'.1,
         )
     waits_of [] (f' ∷ fs') m m' e side s h w w' = absurd s
@@ -373,15 +359,25 @@ module _ (p p' : Program) (sides : Entry → Side) (marks : Entry → Marks) (ar
         let class : f'.method.class ≡ f.method.class = sym at.1 ∙ ap (λ (e : Entry). e.class) o.method in
         let new : slice_get p'.classes f'.method.class ≡ Some t.new = ap (slice_get p'.classes) class ∙ o.side.new_is in
         let declares = init_declares f'.method t.new new named in
-        let base = frame_of f below o same has in
-        by t.slot refl declares base at.0 class new
+        let base = frame_of f below o same has (waiting_locals below f'.method w') in
+        let linked : w'.stands.linked ≡ t.new =
+        same_Some w'.stands.linked t.new (sym w'.stands.class_is ∙ ap (λ (m : Entry). slice_get p'.classes m.class) o.method ∙ o.side.new_is) in
+        let member = member_way f.method o.side (ap has_constant (sym linked) ∙ w'.below_member named) (way_of t) refl in
+        by t.slot refl declares base at.0 class new member
       where
+        member_way : (m : Entry) → IsSide p p' m (sides m) → has_constant (sides m).new ≡ false → (fetch : Fetch) → way_of (sides m) ≡ fetch
+            → way_of (sides m) ≡ fetches.Member
+        member_way m side none fetches.Member way = way
+        member_way m side none fetches.Constant way =
+            absurd (true≢false (sym (ap (λ n. gets_by (fetch_of n)) side.version ∙ ap gets_by way) ∙ none))
+
         by : (slot : Option ℕ) → (sides f.method).slot ≡ slot → declares_init (sides f.method).new ≡ true → (base : SameFrame p p' sides f below) → below.place ≡ 0
-            → f'.method.class ≡ f.method.class → slice_get p'.classes f'.method.class ≡ Some (sides f.method).new → Inside p p' sides f fs f' (below ∷ rest)
-        by None e declares base zero_place class new = absurd (true≢false (sym declares ∙ (base.one.side.unchanged e).declares))
-        by (Some v) e declares base zero_place class new =
+            → f'.method.class ≡ f.method.class → slice_get p'.classes f'.method.class ≡ Some (sides f.method).new → way_of (sides f.method) ≡ fetches.Member
+            → Inside p p' sides f fs f' (below ∷ rest)
+        by None e declares base zero_place class new member = absurd (true≢false (sym declares ∙ (base.one.side.unchanged e).declares))
+        by (Some v) e declares base zero_place class new member =
             let t = sides f.method in
-            let begins = (base.one.side.changed v e).gets.starts in
+            let begins = (base.one.side.changed v e).gets.starts ∙ ap (λ fetch. Some (start fetch 0)) member in
             let call : base.item ≡ start fetches.Member 0 = same_Some base.item (start fetches.Member 0) (sym base.here ∙ ap (slice_get t.items) zero_place ∙ begins) in
             let same_new : init.class ≡ t.new = same_Some init.class t.new (sym init.class_is ∙ new) in
             record {
@@ -403,45 +399,45 @@ module _ (p p' : Program) (sides : Entry → Side) (marks : Entry → Marks) (ar
 
     running_of : (f : Frame) (fs : List Frame) (f' : Frame) (fs' : List Frame) → (b : Bool) → is_init_method p' f'.method ≡ b
         → spec.SameFrames p' marks (f ∷ fs) (frames_of b f' fs') → HasTopState p' marks b f' → AllByRecursion (HasProbeState p' marks) fs'
-        → FitsTop p f → FitEachWaiting p f.method fs → FitEachWaiting p' f'.method fs' → SameThread p p' sides (running f fs) (running f' fs')
-    running_of f fs f' fs' false e same has more top w w' =
+        → FitsTop p f → FitsTop p' f' → FitEachWaiting p f.method fs → FitEachWaiting p' f'.method fs' → SameThread p p' sides (running f fs) (running f' fs')
+    running_of f fs f' fs' false e same has more top top' w w' =
         let o = one_method f f' same.0.method top.stands in
-        inl (frame_of f f' o same.0 has, waits_of fs fs' f.method f'.method same.0.method o.side same.1 more w w')
-    running_of f fs f' [] true e same has more top w w' = absurd same
-    running_of f fs f' (below ∷ rest) true e same has more top w w' =
+        inl (frame_of f f' o same.0 has (top_locals f' top'), waits_of fs fs' f.method f'.method same.0.method o.side same.1 more w w')
+    running_of f fs f' [] true e same has more top top' w w' = absurd same
+    running_of f fs f' (below ∷ rest) true e same has more top top' w w' =
         inr (inside_of f fs f' below rest (one_method f below same.0.method top.stands) same.0 same.1 has more.0 more.1 w w'.0 w'.1 e)
 
-    stuck_of : (m : Entry) (q : ℕ) (m' : Entry) (q' : ℕ) → (m' ≡ m) × (slice_get (marks m).at q' ≡ Some q) → IsStuckWithin p (stuck m q) → SameStuck p p' sides m q m' q'
-    stuck_of m q m' q' same inside = by (slice_get p.classes m.class) refl inside.1
+    stuck_of : (m : Entry) (q : ℕ) (m' : Entry) (q' : ℕ) → (m' ≡ m) × (slice_get (marks m).at q' ≡ Some q) → IsPlace p m q → SameStuck p p' sides m q m' q'
+    stuck_of m q m' q' same inside = by (slice_get p.classes m.class) refl inside.body_is
       where
-        by : (o : Option Linked) → slice_get p.classes m.class ≡ o → option_and_then (λ (c : Linked). slice_get c.bodies m.method) o ≡ Some inside.0
+        by : (o : Option Linked) → slice_get p.classes m.class ≡ o → option_and_then (λ (c : Linked). slice_get c.bodies m.method) o ≡ Some inside.body
             → SameStuck p p' sides m q m' q'
-        by None e h = absurd (none-some inside.0 h)
+        by None e h = absurd (none-some inside.body h)
         by (Some c) e h =
-            let side = are.side m c inside.0 e h in
+            let side = are.side m c inside.body e h in
             let i = mapped_at at_of (sides m).items q' q (ap (λ l. slice_get l q') (sym (told m side).at) ∙ same.1) in
             record { same = same.0; side = side; item = i.0; here = i.1; at = i.2 }
 
-    thread_of : (heap heap' : List HeapObject) (x x' : Thread) → spec.SameThread p' marks x x' → HasState p' marks x' → IsStuckWithin p x → FitsThread p heap x
-        → FitsThread p' heap' x' → SameThread p p' sides x x'
-    thread_of heap heap' (running f fs) (running f' fs') same has inside fits fits' =
-        running_of f fs f' fs' (is_init_method p' f'.method) refl same has.0 has.1 fits.top fits.below fits'.below
-    thread_of heap heap' (returned v) (returned v') same has inside fits fits' = same
-    thread_of heap heap' (threw c) (threw c') same has inside fits fits' = same
-    thread_of heap heap' (stuck m q) (stuck m' q') same has inside fits fits' = stuck_of m q m' q' same inside
-    thread_of heap heap' x y same has inside fits fits' = absurd same
+    thread_of : (heap heap' : List HeapObject) (x x' : Thread) → spec.SameThread p' marks x x' → HasState p' marks x' → FitsThread p heap x → FitsThread p' heap' x'
+        → SameThread p p' sides x x'
+    thread_of heap heap' (running f fs) (running f' fs') same has fits fits' =
+        running_of f fs f' fs' (is_init_method p' f'.method) refl same has.0 has.1 fits.top fits'.top fits.below fits'.below
+    thread_of heap heap' (returned v) (returned v') same has fits fits' = same
+    thread_of heap heap' (threw c) (threw c') same has fits fits' = same
+    thread_of heap heap' (stuck m q) (stuck m' q') same has fits fits' = stuck_of m q m' q' same fits
+    thread_of heap heap' x y same has fits fits' = absurd same
 
     threads_of : (heap heap' : List HeapObject) (xs xs' : List Thread) → spec.SameThreads p' marks xs xs' → AllByRecursion (HasState p' marks) xs'
-        → AllByRecursion (IsStuckWithin p) xs → AllByRecursion (FitsThread p heap) xs → AllByRecursion (FitsThread p' heap') xs' → SameThreads p p' sides xs xs'
-    threads_of heap heap' [] [] same has inside fits fits' = tt
-    threads_of heap heap' (x ∷ xs) (x' ∷ xs') same has inside fits fits' =
-        (thread_of heap heap' x x' same.0 has.0 inside.0 fits.0 fits'.0, threads_of heap heap' xs xs' same.1 has.1 inside.1 fits.1 fits'.1)
-    threads_of heap heap' [] (x' ∷ xs') same has inside fits fits' = absurd same
-    threads_of heap heap' (x ∷ xs) [] same has inside fits fits' = absurd same
+        → AllByRecursion (FitsThread p heap) xs → AllByRecursion (FitsThread p' heap') xs' → SameThreads p p' sides xs xs'
+    threads_of heap heap' [] [] same has fits fits' = tt
+    threads_of heap heap' (x ∷ xs) (x' ∷ xs') same has fits fits' =
+        (thread_of heap heap' x x' same.0 has.0 fits.0 fits'.0, threads_of heap heap' xs xs' same.1 has.1 fits.1 fits'.1)
+    threads_of heap heap' [] (x' ∷ xs') same has fits fits' = absurd same
+    threads_of heap heap' (x ∷ xs) [] same has fits fits' = absurd same
 
   -- ---- static fields
 
-  module _ (w w' : World) (fits : FitsWorld p w) (fits' : FitsWorld p' w') (h : Together p p' marks w w') where
+  module _ (w w' : World) (fits : FitsWorld p w) (fits' : FitsWorld p' w') (h : Mid p p' marks w w') where
     abbrev xs : ℕ → List Value
     xs class = values_of w.shared class
 
@@ -458,13 +454,27 @@ module _ (p p' : Program) (sides : Entry → Side) (marks : Entry → Marks) (ar
             by None e = refl
             by (Some f) e = other_name f.name data_name (λ name. pair.none_added.statics f (stands_in c.statics k f e) name)
 
+    constant_same : (class : ℕ) (c new : Linked) → slice_get p'.classes class ≡ Some new → IsChangedPair p.names p'.names c new
+        → fetch_of c.version ≡ fetches.Constant → xs' class ≡ xs class
+    constant_same class c new there pair way = same_items (xs' class) (xs class) (λ k. h.same.statics class k (no_data k))
+      where
+        no_data : (k : ℕ) → is_data p' class k ≡ false
+        no_data k =
+            ap (is_data_in k) there ∙ ap (λ l. is_named_data (slice_get l k)) (constant_statics p.names p'.names c new pair way)
+            ∙ by (slice_get c.statics k) refl
+          where
+            by : (o : Option StaticField) → slice_get c.statics k ≡ o → is_named_data o ≡ false
+            by None e = refl
+            by (Some f) e = other_name f.name data_name (λ name. pair.none_added.statics f (stands_in c.statics k f e) (inr name))
+
     changed_same : (class : ℕ) (c new : Linked) → slice_get p.classes class ≡ Some c → slice_get p'.classes class ≡ Some new
-        → IsChangedPair p.names p'.names c new → SameStatics (Some (count_in new.probes)) class (xs class) (xs' class)
-    changed_same class c new here there pair =
+        → IsChangedPair p.names p'.names c new → fetch_of c.version ≡ fetches.Member
+        → SameStatics (Some (count_in new.probes)) class (xs class) (xs' class)
+    changed_same class c new here there pair way =
         (found.0, same_items (xs' class) (xs class ++ (last ∷ [])) (λ k. by k (nat_eq k (length c.statics)) refl))
       where
         found : (b : Bool) × (slice_get (xs' class) (length c.statics) ≡ Some (null_or b (array_in p' class)))
-        found = h.arrays class (length c.statics) (is_added p p' sides marks are told class c new there pair)
+        found = h.arrays class (length c.statics) (is_added p p' sides marks are told class c new there pair way)
 
         last : Value
         last = null_or found.0 (probes class (count_in new.probes))
@@ -474,7 +484,7 @@ module _ (p p' : Program) (sides : Entry → Side) (marks : Entry → Marks) (ar
 
         no_data : (k : ℕ) → (k ≡ length c.statics → ⊥) → is_data p' class k ≡ false
         no_data k other =
-            ap (is_data_in k) there ∙ ap (λ l. is_named_data (slice_get l k)) (changed_statics p.names p'.names c new pair)
+            ap (is_data_in k) there ∙ ap (λ l. is_named_data (slice_get l k)) (changed_statics p.names p'.names c new pair way)
             ∙ ap is_named_data (one_more c.statics k data_static other) ∙ named (slice_get c.statics k) refl
           where
             named : (o : Option StaticField) → slice_get c.statics k ≡ o → is_named_data o ≡ false
@@ -500,11 +510,17 @@ module _ (p p' : Program) (sides : Entry → Side) (marks : Entry → Marks) (ar
             subst (λ o. SameStatics o class (xs class) (xs' class))
             (sym (ap extra_in there ∙ ap (λ b. if b then Some (count_in new.probes) else None) (unchanged_data p.names p'.names c new pair)))
             (unchanged_same class c new there pair)
-        pair_of c here (new, there, inr pair) =
-            subst (λ o. SameStatics o class (xs class) (xs' class))
-            (sym (ap extra_in there
-            ∙ ap (λ b. if b then Some (count_in new.probes) else None) (changed_data p.names p'.names c new pair)))
-            (changed_same class c new here there pair)
+        pair_of c here (new, there, inr pair) = by_way (fetch_of c.version) refl
+          where
+            by_way : (fetch : Fetch) → fetch_of c.version ≡ fetch → SameStatics (extra_in (class_at p' class)) class (xs class) (xs' class)
+            by_way fetches.Constant way =
+                subst (λ o. SameStatics o class (xs class) (xs' class))
+                (sym (ap extra_in there ∙ ap (λ b. if b then Some (count_in new.probes) else None) (constant_data p.names p'.names c new pair way)))
+                (constant_same class c new there pair way)
+            by_way fetches.Member way =
+                subst (λ o. SameStatics o class (xs class) (xs' class))
+                (sym (ap extra_in there ∙ ap (λ b. if b then Some (count_in new.probes) else None) (changed_data p.names p'.names c new pair way)))
+                (changed_same class c new here there pair way)
 
         by : (o : Option Linked) → slice_get p.classes class ≡ o → SameStatics (extra_in (class_at p' class)) class (xs class) (xs' class)
         by None e =
@@ -522,8 +538,8 @@ module _ (p p' : Program) (sides : Entry → Side) (marks : Entry → Marks) (ar
       counts = λ class c here. (class_statics p.classes w.shared.statics fits.statics class c here).count;
     }
 
-    pub together_mid : Mid p p' sides w w'
-    together_mid = record {
+    pub mid_beside : Beside p p' sides w w'
+    mid_beside = record {
       shared = shared_of;
-      threads = threads_of w.shared w'.shared shared_of w.shared.heap w'.shared.heap w.threads w'.threads h.same.threads h.threads h.within fits.threads fits'.threads;
+      threads = threads_of w.shared w'.shared shared_of w.shared.heap w'.shared.heap w.threads w'.threads h.same.threads h.threads fits.threads fits'.threads;
     }

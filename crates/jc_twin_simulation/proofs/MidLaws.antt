@@ -1,12 +1,12 @@
--- Worlds that belong together are so in terms of the two programs.
-use Rattle.std.proofs.Common.{◌≡◌, ◌⊎◌, inl, inr, ⊎_elim, ℕ, zero, suc, ◌+◌, ◌<◌, ◌≤◌, pos, Bool, true, false, List, [], ◌∷◌, ◌++◌, length, Option, Some, None, nat_le, nat_lt, refl, sym, ap, ◌∙◌, subst, arith, if◌then◌else◌}
-use Rattle.std.specs.Prelude.{⊤, slice_get, slice_index_or}
+-- Worlds that stand beside each other are in the relation that is told in terms of the two programs.
+use Rattle.std.proofs.Common.{◌≡◌, ◌⊎◌, inl, inr, ⊎_elim, ℕ, zero, suc, ◌+◌, ◌<◌, ◌≤◌, pos, Bool, true, false, List, [], ◌∷◌, ◌++◌, length, Option, Some, None, nat_le, nat_lt, refl, sym, ap, ◌∙◌, subst, subst₂, arith, if◌then◌else◌}
+use Rattle.std.specs.Prelude.{⊤, slice_get}
 use Rattle.std.specs.List.{AllByRecursion}
 use Rattle.std.proofs.lemmas.Bool.{true≢false, cases_lt, lt-ltb, le-ltb}
 use Rattle.std.proofs.lemmas.Option.{none-some, same_Some}
 use Rattle.jc_bytes.proofs.BooleanLaws.{stands_in}
 use Rattle.jc_methods.specs.Opcode as opcode
-use Rattle.jc_methods.specs.ProbeMembers.{data_name, most_short}
+use Rattle.jc_methods.specs.ProbeMembers.{data_name, most_short, fetch_of}
 use Rattle.jc_methods.specs.declared.probe_members.Fetch.{Fetch}
 use Rattle.jc_methods.specs.declared.probe_members.Fetch.TheVariants as fetches
 use Rattle.jc_methods.specs.declared.insn.Insn.{Insn}
@@ -19,7 +19,7 @@ use Rattle.jc_programs.specs.declared.program.StaticField.{StaticField}
 use Rattle.jc_programs.specs.declared.run_end.Entry.{Entry}
 use Rattle.jc_programs.specs.Members.{class_at, body_of}
 use Rattle.jc_emit.specs.Items.{Item, start, image, probe_array, probe_id, probe_one, probe_store, hop, own_of, extra_of}
-use Rattle.jc_emit.specs.Local.{IsBehind, StartsOn}
+use Rattle.jc_emit.specs.Local.{IsBehind}
 use Rattle.jc_emit.specs.Marks.{Marks, push, PushesBy, Pushes, prelude_size}
 use Rattle.jc_emit.specs.Seen.{IsPlain}
 use Rattle.jc_emit.specs.Added.{data_static}
@@ -27,18 +27,16 @@ use Rattle.jc_twin_programs.specs.TwinProgram.{IsPair}
 use Rattle.jc_emit.proofs.ToldLaws.{mapped}
 use Rattle.jc_machine_model.specs.Values.{Value, int, probes}
 use Rattle.jc_machine_model.specs.World.{Frame, Thread, running, returned, threw, stuck, Shared, World}
-use Rattle.jc_machine_model.specs.Locals.{is_pair_there}
 use Rattle.jc_twin_simulation.specs.ProbeRuns.{MayFollow, IsFirst}
-use Rattle.jc_twin_simulation.specs.Same.{twin_slot, array_slot, is_named_data, is_data_in, is_data}
-use Rattle.jc_twin_simulation.specs.Sides.{Side, count_in, array_of, IsSide, AreSides, AreMarksOf}
-use Rattle.jc_twin_simulation.specs.Mid.{pushed_of, null_or, step_stack, SameLocals, OneMethod, SameFrame, SameWaits, extra_in, SameStatics, values_of, SameShared, SameThread, SameThreads, Mid}
-use Rattle.jc_twin_simulation.specs.Together.{count_of, array_in, IsPushedBy, IsPushedIn, ArePushed, KeepsArray, HasProbeState, HasTopState, HasState, IsStuckWithin, Together}
-use Rattle.jc_twin_simulation.proofs.ClassLaws.{other_name, changed_statics, changed_data}
-use Rattle.jc_twin_simulation.proofs.FrameLaws.{body_is, no_constant, twin_insn}
-use Rattle.jc_twin_simulation.proofs.LocalLaws.{reads_local}
+use Rattle.jc_twin_simulation.specs.Same.{array_slot, is_named_data, is_data_in, is_data}
+use Rattle.jc_twin_simulation.specs.Sides.{Side, count_in, array_of, way_of, IsSide, AreSides, AreMarksOf}
+use Rattle.jc_twin_simulation.specs.Beside.{pushed_of, null_or, step_stack, SameLocals, OneMethod, SameFrame, SameWaits, extra_in, SameStatics, values_of, SameShared, SameThread, SameThreads, Beside}
+use Rattle.jc_twin_simulation.specs.Mid.{count_of, array_in, prelude_of, IsPushedBy, IsPushedIn, ArePushed, KeepsArray, HasProbeState, HasTopState, HasState, Mid}
+use Rattle.jc_twin_simulation.proofs.ClassLaws.{other_name, changed_statics, constant_statics, changed_data}
+use Rattle.jc_twin_simulation.proofs.FrameLaws.{body_is, start_way, prelude_item, twin_insn}
 use Rattle.jc_twin_simulation.proofs.OwnTurnLaws.{new_no_init}
 use Rattle.jc_twin_simulation.proofs.RunItemLaws.{in_front}
-use Rattle.jc_twin_simulation.proofs.SameLaws.{slot_is, no_class, last_is, together_same}
+use Rattle.jc_twin_simulation.proofs.SameLaws.{slot_is, no_class, last_is, beside_same}
 use Rattle.jc_twin_simulation.proofs.SlotLaws.{get_own}
 use Rattle.jc_twin_simulation.proofs.TurnLaws.{inside_named}
 
@@ -82,7 +80,7 @@ module _ (p p' : Program) (sides : Entry → Side) (m : Entry) (side : IsSide p 
 
   -- how many instructions the prelude has
   abbrev most : ℕ
-  most = prelude_size fetches.Member
+  most = prelude_size (way_of t)
 
   -- the item in front of one of a probe
   pub record Behind (q : ℕ) (x : Item) : Type 0 where
@@ -111,34 +109,26 @@ module _ (p p' : Program) (sides : Entry → Side) (m : Entry) (side : IsSide p 
 
   -- behind the prelude
   pub behind_prelude : (q : ℕ) (x : Item) → slice_get t.items q ≡ Some x → most ≤ q → IsBehind x
-  behind_prelude q (start fetches.Member k) here le =
-      let ok = side.ok.ok q (start fetches.Member k) here in
-      let place = ok.place in let within = ok.within in
+  behind_prelude q (start fetch k) here le =
+      let ok = side.ok.ok q (start fetch k) here in
+      let place = ok.place in
+      let within : k < most = subst (λ f. k < prelude_size f) (start_way p p' sides m side k q fetch here).2 ok.within in
       absurd (omega (arith, place, within, le))
-  behind_prelude q (start fetches.Constant k) here le = absurd (no_constant p p' sides m side k q here)
   behind_prelude q other here le = tt
-
-  -- the prelude stands at the beginning
-  begins : (v : ℕ) → t.slot ≡ Some v → (q : ℕ) → q < most → slice_get t.items q ≡ Some (start fetches.Member q)
-  begins v e zero lt = (side.changed v e).gets.starts
-  begins v e (suc q) lt =
-      let ok = side.ok.ok q (start fetches.Member q) (begins v e q (omega (arith, lt))) in
-      let next : q + 1 ≡ suc q = omega arith in
-      subst (λ k. slice_get t.items k ≡ Some (start fetches.Member (suc q))) next
-      (subst (λ more. StartsOn t.body.code t.slot t.ids t.items more q fetches.Member q) (lt-ltb (suc q) most lt) ok.next)
 
   -- what isn't in the prelude stands behind it
   pub past_prelude : (q : ℕ) (x : Item) (v : ℕ) → t.slot ≡ Some v → slice_get t.items q ≡ Some x → IsBehind x → most ≤ q
   past_prelude q x v e here b =
-      ⊎_elim (λ lt. absurd (subst IsBehind (same_Some x (start fetches.Member q) (sym here ∙ begins v e q lt)) b)) (λ le. le) (cases_lt q most)
+      ⊎_elim (λ lt. absurd (subst IsBehind (same_Some x (start (way_of t) q) (sym here ∙ prelude_item p p' sides m side v e q lt)) b)) (λ le. le)
+      (cases_lt q most)
 
   -- whether an instruction of the prelude or of a probe is in the prelude is told by its place
   pub start_within : (q : ℕ) (fetch : Fetch) (k : ℕ) → slice_get t.items q ≡ Some (start fetch k) → nat_lt q most ≡ true
-  start_within q fetches.Member k here =
-      let ok = side.ok.ok q (start fetches.Member k) here in
-      let place = ok.place in let within = ok.within in
+  start_within q fetch k here =
+      let ok = side.ok.ok q (start fetch k) here in
+      let place = ok.place in
+      let within : k < most = subst (λ f. k < prelude_size f) (start_way p p' sides m side k q fetch here).2 ok.within in
       lt-ltb q most (omega (arith, place, within))
-  start_within q fetches.Constant k here = absurd (no_constant p p' sides m side k q here)
 
   pub aside_past : (q : ℕ) (x : Item) → slice_get t.items q ≡ Some x → own_of x ≡ false → IsBehind x → nat_lt q most ≡ false
   aside_past q x here aside b = le-ltb q most (by t.slot refl)
@@ -151,7 +141,7 @@ module _ (p p' : Program) (sides : Entry → Side) (m : Entry) (side : IsSide p 
 
   module _ (a : Value) where
     abbrev Pushed : ℕ → ℕ → List Value → Type 0
-    Pushed q extra stack = ArePushed a t.twin q extra stack
+    Pushed q extra stack = ArePushed most a t.twin q extra stack
 
     by_probe : (q : ℕ) (x : Item) (insn : Insn) (v : Value) → slice_get t.items q ≡ Some x → own_of x ≡ false → IsBehind x
         → IsPushedBy t.twin.uses a insn v → IsPushedIn (nat_lt q most) t.twin.uses a insn v
@@ -197,13 +187,14 @@ module _ (p p' : Program) (sides : Entry → Side) (m : Entry) (side : IsSide p 
 
 -- ---- frames
 
--- a local variable in front of the added one
-slot_below : (v k : ℕ) → k < v → twin_slot (Some v) k ≡ k
-slot_below v k lt = ap (λ b. if b then k else k + 1) (lt-ltb k v lt)
-
 module _ (p p' : Program) (sides : Entry → Side) (marks : Entry → Marks) (are : AreSides p p' sides) (told : AreMarksOf p p' marks sides) where
   array_is : (m : Entry) → IsSide p p' m (sides m) → array_in p' m.class ≡ array_of (sides m) m.class
   array_is m side = ap (λ (o : Option Linked). probes m.class (elim o [ None ↦ 0 | Some c ↦ count_in c.probes ])) side.new_is
+
+  pub prelude_is : (m : Entry) → IsSide p p' m (sides m) → prelude_of p' m.class ≡ prelude_size (way_of (sides m))
+  prelude_is m side =
+      ap (λ (o : Option Linked). elim o [ None ↦ 0 | Some c ↦ prelude_size (fetch_of c.version) ]) side.new_is
+      ∙ ap (λ n. prelude_size (fetch_of n)) side.version
 
   item_state : (f f' : Frame) (o : OneMethod p p' sides f f') (x : Item) → slice_get (sides f.method).items f'.place ≡ Some x
       → f'.stack ≡ pushed_of (array_of (sides f.method) f.method.class) x ++ f.stack
@@ -213,6 +204,7 @@ module _ (p p' : Program) (sides : Entry → Side) (marks : Entry → Marks) (ar
       let m = o.method in
       let a = array_of t f.method.class in
       let array : array_in p' f'.method.class ≡ a = ap (λ (e : Entry). array_in p' e.class) m ∙ array_is f.method o.side in
+      let prelude : prelude_of p' f'.method.class ≡ prelude_size (way_of t) = ap (λ (e : Entry). prelude_of p' e.class) m ∙ prelude_is f.method o.side in
       record {
         pushed = λ b extra body k.
             let body2 : t.twin ≡ b = same_Some t.twin b (sym (body_is p' f.method t.new t.twin o.side.new_is o.side.twin_is) ∙ ap (body_of p') (sym m) ∙ body) in
@@ -220,30 +212,22 @@ module _ (p p' : Program) (sides : Entry → Side) (marks : Entry → Marks) (ar
             same_Some (extra_of x) extra
             (sym (ap (λ l. slice_get l f'.place) (told f.method o.side).extra ∙ mapped extra_of t.items f'.place x here)
             ∙ ap (λ e. slice_get (marks e).extra f'.place) (sym m) ∙ k) in
-            subst (λ y. ArePushed y b f'.place extra f'.stack) (sym array)
-            (subst (λ (z : Body). ArePushed a z f'.place extra f'.stack) body2
-            (subst (λ n. ArePushed a t.twin f'.place n f'.stack) more
-            (subst (ArePushed a t.twin f'.place (extra_of x)) (sym st) (item_pushed p p' sides f.method o.side a f'.place x f.stack here))));
+            subst₂ (λ z y. ArePushed z y b f'.place extra f'.stack) (sym prelude) (sym array)
+            (subst (λ (z : Body). ArePushed (prelude_size (way_of t)) a z f'.place extra f'.stack) body2
+            (subst (λ n. ArePushed (prelude_size (way_of t)) a t.twin f'.place n f'.stack) more
+            (subst (ArePushed (prelude_size (way_of t)) a t.twin f'.place (extra_of x)) (sym st) (item_pushed p p' sides f.method o.side a f'.place x f.stack here))));
         array = λ v e. keeps v (sym (slot_is p p' sides f.method o.side) ∙ ap (array_slot p') (sym m) ∙ e);
       }
     where
       keeps : (v : ℕ) → (sides f.method).slot ≡ Some v → KeepsArray p' marks f' v
-      keeps v e =
+      keeps v e le =
           let t = sides f.method in
           let a = array_of t f.method.class in
           let h = subst (λ s. SameLocals a s f.locals f'.locals x) e ls in
-          record {
-            held = h.held;
-            there = ap (λ l. slice_get l v) h.around ∙ get_own v f.locals h.held h.room;
-            narrow = h.narrow;
-            ready = λ le.
-                h.ready (behind_prelude p p' sides f.method o.side f'.place x here le)
-                ∙ ap Some (sym (ap (λ (d : Entry). array_in p' d.class) o.method ∙ array_is f.method o.side));
-            apart = λ k q.
-                let lt : k < v = omega arith in
-                ap (λ j. is_pair_there (slice_index_or f'.locals j None)) (sym (slot_below v k lt))
-                ∙ ap is_pair_there (reads_local a (Some v) f.locals f'.locals x h k) ∙ h.apart k q;
-          }
+          let past = subst (λ n. n ≤ f'.place) (ap (λ (d : Entry). prelude_of p' d.class) o.method ∙ prelude_is f.method o.side) le in
+          ap (λ l. slice_get l v) h.around ∙ get_own v f.locals h.held h.room
+          ∙ ap Some (h.ready (behind_prelude p p' sides f.method o.side f'.place x here past)
+          ∙ ap Some (sym (ap (λ (d : Entry). array_in p' d.class) o.method ∙ array_is f.method o.side)))
 
   frame_state : (f f' : Frame) → SameFrame p p' sides f f' → HasProbeState p' marks f'
   frame_state f f' h = item_state f f' h.one h.item h.here h.stack h.locals
@@ -281,17 +265,9 @@ module _ (p p' : Program) (sides : Entry → Side) (marks : Entry → Marks) (ar
     thread_state x (stuck m q) h = tt
     thread_state x y h = absurd h
 
-    thread_within : (x x' : Thread) → SameThread p p' sides x x' → IsStuckWithin p x
-    thread_within (stuck m q) (stuck m' q') h = ((sides m).body, body_is p m (sides m).class (sides m).body h.side.class_is h.side.body_is)
-    thread_within (stuck m q) (running f' fs') h = absurd h
-    thread_within (stuck m q) (returned v) h = absurd h
-    thread_within (stuck m q) (threw c) h = absurd h
-    thread_within other x' h = tt
-
-    threads_state : (xs xs' : List Thread) → SameThreads p p' sides xs xs' → AllByRecursion (HasState p' marks) xs' × AllByRecursion (IsStuckWithin p) xs
-    threads_state [] [] h = (tt, tt)
-    threads_state (x ∷ xs) (x' ∷ xs') h =
-        let rest = threads_state xs xs' h.1 in ((thread_state x x' h.0, rest.0), (thread_within x x' h.0, rest.1))
+    threads_state : (xs xs' : List Thread) → SameThreads p p' sides xs xs' → AllByRecursion (HasState p' marks) xs'
+    threads_state [] [] h = tt
+    threads_state (x ∷ xs) (x' ∷ xs') h = (thread_state x x' h.0, threads_state xs xs' h.1)
     threads_state [] (x' ∷ xs') h = absurd h
     threads_state (x ∷ xs) [] h = absurd h
 
@@ -317,23 +293,31 @@ module _ (p p' : Program) (sides : Entry → Side) (marks : Entry → Marks) (ar
         let n = named_there (slice_get new.statics field) named in
         absurd (n.2 (λ name. pair.none_added.statics n.0
         (stands_in c.statics field n.0 (ap (λ l. slice_get l field) (sym pair.statics) ∙ n.1)) name))
-    pair_arrays class field c new here there (inr pair) named =
-        let n = named_there (slice_get new.statics field) named in
-        ⊎_elim
-        (λ old. absurd (n.2 (λ name. pair.none_added.statics n.0 (stands_in c.statics field n.0 old) (inr name))))
-        (λ last.
-        let extra : extra_in (class_at p' class) ≡ Some (count_in new.probes) =
-        ap extra_in there ∙ ap (λ b. if b then Some (count_in new.probes) else None) (changed_data p.names p'.names c new pair) in
-        let is = subst (λ o. SameStatics o class (values_of s class) (values_of s' class)) extra (ss.statics class) in
-        let array : probes class (count_in new.probes) ≡ array_in p' class = sym (ap (λ o. probes class (count_of o)) there) in
-        let at : field ≡ length (values_of s class) = last.0 ∙ sym (ss.counts class c here) in (
-          is.0,
-          ap (λ l. slice_get l field) is.1
-              ∙ ap (slice_get (values_of s class ++ (null_or is.0 (probes class (count_in new.probes)) ∷ []))) at
-              ∙ last_is (values_of s class) (null_or is.0 (probes class (count_in new.probes)))
-              ∙ ap (λ v. Some (null_or is.0 v)) array,
-        ))
-        (append_at c.statics data_static field n.0 (ap (λ l. slice_get l field) (sym (changed_statics p.names p'.names c new pair)) ∙ n.1))
+    pair_arrays class field c new here there (inr pair) named = by (fetch_of c.version) refl
+      where
+        n : (f : StaticField) × (slice_get new.statics field ≡ Some f) × ((f.name ≡ data_name → ⊥) → ⊥)
+        n = named_there (slice_get new.statics field) named
+
+        none_old : slice_get c.statics field ≡ Some n.0 → Arrays class field
+        none_old old = absurd (n.2 (λ name. pair.none_added.statics n.0 (stands_in c.statics field n.0 old) (inr name)))
+
+        by : (fetch : Fetch) → fetch_of c.version ≡ fetch → Arrays class field
+        by fetches.Constant way = none_old (ap (λ l. slice_get l field) (sym (constant_statics p.names p'.names c new pair way)) ∙ n.1)
+        by fetches.Member way =
+            ⊎_elim none_old
+            (λ last.
+            let extra : extra_in (class_at p' class) ≡ Some (count_in new.probes) =
+            ap extra_in there ∙ ap (λ b. if b then Some (count_in new.probes) else None) (changed_data p.names p'.names c new pair way) in
+            let is = subst (λ o. SameStatics o class (values_of s class) (values_of s' class)) extra (ss.statics class) in
+            let array : probes class (count_in new.probes) ≡ array_in p' class = sym (ap (λ o. probes class (count_of o)) there) in
+            let at : field ≡ length (values_of s class) = last.0 ∙ sym (ss.counts class c here) in (
+              is.0,
+              ap (λ l. slice_get l field) is.1
+                  ∙ ap (slice_get (values_of s class ++ (null_or is.0 (probes class (count_in new.probes)) ∷ []))) at
+                  ∙ last_is (values_of s class) (null_or is.0 (probes class (count_in new.probes)))
+                  ∙ ap (λ v. Some (null_or is.0 v)) array,
+            ))
+            (append_at c.statics data_static field n.0 (ap (λ l. slice_get l field) (sym (changed_statics p.names p'.names c new pair way)) ∙ n.1))
 
     pub arrays : (class field : ℕ) → is_data p' class field ≡ true → Arrays class field
     arrays class field named = by (slice_get p.classes class) refl
@@ -344,12 +328,10 @@ module _ (p p' : Program) (sides : Entry → Side) (marks : Entry → Marks) (ar
             let n = are.pair class c e in
             pair_arrays class field c n.0 e n.1 n.2 (sym (ap (is_data_in field) n.1) ∙ named)
 
-  pub mid_together : (w w' : World) → Mid p p' sides w w' → Together p p' marks w w'
-  mid_together w w' h =
-      let t = threads_state w.shared w'.shared h.shared w.threads w'.threads h.threads in
+  pub beside_mid : (w w' : World) → Beside p p' sides w w' → Mid p p' marks w w'
+  beside_mid w w' h =
       record {
-        same = together_same p p' sides marks are told w w' h;
+        same = beside_same p p' sides marks are told w w' h;
         arrays = λ class field named. arrays w.shared w'.shared h.shared class field named;
-        threads = t.0;
-        within = t.1;
+        threads = threads_state w.shared w'.shared h.shared w.threads w'.threads h.threads;
       }
