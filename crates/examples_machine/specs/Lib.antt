@@ -1,3 +1,4 @@
 pub mod ProgramExamples
 pub mod InsnExamples
 pub mod EdgeExamples
+pub mod ConstantExamples

@@ -4,11 +4,16 @@
 //! what a Java virtual machine gave.
 #![tactic(auto)]
 
+mod constants;
 mod edges;
 mod insns;
 mod programs;
 mod runs;
 
+pub use constants::{
+    worked_bootstraps, worked_both_ways, worked_casts, worked_constant, worked_constant_checks,
+    worked_constant_threads, worked_fetches,
+};
 pub use edges::{
     worked_calls_and_throws, worked_either_way, worked_loop, worked_stands, worked_switch,
 };

@@ -29,6 +29,7 @@ use Rattle.jc_kinds_after.specs.Shift.{Straddles}
 use Rattle.jc_kinds.specs.States.{state_of}
 use Rattle.jc_kinds.specs.StateShift.{IsStraddled}
 use Rattle.jc_kinds.specs.Answers.{IsStateAt}
+use Rattle.jc_kinds.specs.Checked.{Checked}
 use Rattle.jc_kinds.specs.Checking.{verdict_of, passes}
 use Rattle.jc_kinds.proofs.CheckLaws.{passes_checked}
 use Rattle.jc_plan.specs.Probed.{probe_count}
@@ -65,7 +66,7 @@ uses = record {
   short = All-from_recursion (λ (u : Use). HasShortTexts u.what) [] tt;
 }
 
-made : IsWellMade div
+pub made : IsWellMade div
 made = record {
   of_any_size = record {
     code = code;
@@ -102,12 +103,15 @@ verdict : verdict_of names div ≡ passes
 unfolding types_from rest_from table forms_at after_of state_of verdict_of
 verdict = refl
 
+pub verdict_passes : Checked names div
+verdict_passes = passes_checked names div (omega arith) verdict
+
 -- ---- states
 
 abbrev state : List Kind → State
 state stack = record { locals = kinds.Int ∷ kinds.Int ∷ []; stack = stack }
 
-abbrev states : List State
+abbrev pub states : List State
 states = state [] ∷ state (kinds.Int ∷ []) ∷ state (kinds.Int ∷ kinds.Int ∷ []) ∷ state (kinds.Int ∷ []) ∷ []
 
 empty : (i : ℕ) → state_of names div i ≡ Some (type_state names (state [])) → IsStateAt names div i (state [])
@@ -149,7 +153,7 @@ two i e = record {
   };
 }
 
-each : (i : ℕ) (s : State) → slice_get states i ≡ Some s → IsStateAt names div i s
+pub each : (i : ℕ) (s : State) → slice_get states i ≡ Some s → IsStateAt names div i s
 unfolding types_from rest_from table forms_at after_of state_of
 each zero s e = subst (IsStateAt names div 0) (same_Some (state []) s e) (empty 0 refl)
 each (suc zero) s e = subst (IsStateAt names div 1) (same_Some (state (kinds.Int ∷ [])) s e) (one 1 refl)
@@ -164,11 +168,11 @@ none_wide =
     All-from_recursion (λ (insn : Insn). Straddles 2 insn → ⊥) div.code
     ((λ s. true≢false (sym s.0)), ((λ s. true≢false (sym s.0)), ((λ s. s), ((λ s. s), tt))))
 
-none_straddles : (i : ℕ) → IsStraddled div i → ⊥
+pub none_straddles : (i : ℕ) → IsStraddled div i → ⊥
 none_straddles i (inl (insn, here, s)) = All-contains (λ (insn : Insn). Straddles 2 insn → ⊥) div.code insn none_wide (stands_in div.code i insn here) s
 none_straddles i (inr (f, c, at, more)) = none_in f c
 
-fit : (f : FrameAt) → Contains div.frames f → state_at states f.at ≡ f.state
+pub fit : (f : FrameAt) → Contains div.frames f → state_at states f.at ≡ f.state
 fit f c = absurd (none_in f c)
 
 is_twin_body : twin_body div 0 states given places (giver div) 0 ≡ probed_div
@@ -183,11 +187,11 @@ div_twin =
 
 -- ---- the program
 
-no_added : IsAddedName div.name → ⊥
+pub no_added : IsAddedName div.name → ⊥
 no_added (inl e) = cc
 no_added (inr e) = cc
 
 pub div_is_twin : TwinProgram div_program probed_div_program
 div_is_twin =
-    one_is_twin div probed_div 5 1 refl refl refl refl made (passes_checked names div (omega arith) verdict) no_added none_straddles
+    one_is_twin div probed_div 5 1 refl refl refl refl made verdict_passes no_added none_straddles
     (record { states = states; are = record { count = refl; each = each }; twin = div_twin })

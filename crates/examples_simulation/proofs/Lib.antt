@@ -2,3 +2,4 @@ mod OneMethodLaws
 mod TwinExampleLaws
 mod DivExampleLaws
 mod PremiseExampleLaws
+mod ConstantExampleLaws

@@ -99,7 +99,6 @@ module _ (b b' : Body) (id count : ℕ) where
   changed same counted short few no_added none_straddles twin = record {
     name = refl;
     version = refl;
-    by_member = refl;
     has_clinit = refl;
     none_added = record { bodies = λ x c n. no_added (subst (λ (x : Body). IsAddedName x.name) (sym (only b x c)) n); statics = λ f c n. none_in f c };
     no_probes = refl;

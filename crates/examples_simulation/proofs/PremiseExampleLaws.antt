@@ -4,6 +4,7 @@ use Rattle.std.specs.Prelude.{Contains, IsTrue, slice_index_or}
 use Rattle.std.specs.Fmt.{digits}
 use Rattle.std.proofs.lemmas.Bool.{true≢false}
 use Rattle.jc_bytes.proofs.BooleanLaws.{first_in}
+use Rattle.jc_methods.specs.ProbeMembers.{fetch_of}
 use Rattle.jc_methods.specs.DescriptorTypes.{types_from, rest_from}
 use Rattle.jc_programs.specs.Entries.{entry_of, AreEntries}
 use Rattle.jc_programs.specs.Turns.{turns_in}
@@ -11,7 +12,7 @@ use Rattle.jc_programs.specs.declared.run_plan.Case.{Case}
 use Rattle.jc_programs.specs.declared.run_end.Entry.{Entry}
 use Rattle.jc_cover.specs.Covered.{is_hit}
 use Rattle.jc_machine_model.specs.World.{Hit}
-use Rattle.jc_machine_model.specs.Effects.{constant, moves_of, int_bits, int_pair, compared, long_pair, long_shift, int_single, long_single, single, pair, effect}
+use Rattle.jc_machine_model.specs.Effects.{constant, moves_of, int_bits, int_pair, compared, long_pair, int_single, long_single, single, pair, effect}
 use Rattle.jc_machine_model.specs.Profile.{operation_of}
 use Rattle.jc_machine_model.specs.Jumps.{test_of}
 use Rattle.jc_machine_model.specs.Perform.{perform}
@@ -31,11 +32,11 @@ entries = (refl, tt)
 
 -- one probe is hit, and the thread returns
 one_hit : (run probed_abs_program abs_case (turns_in abs_case)).hits ≡ hit 0 0 ∷ []
-unfolding types_from rest_from entry_of constant moves_of int_bits int_pair compared long_pair long_shift int_single long_single single pair effect operation_of test_of perform step begin digits
+unfolding types_from rest_from fetch_of entry_of constant moves_of int_bits int_pair compared long_pair int_single long_single single pair effect operation_of test_of perform step begin digits
 one_hit = refl
 
 ends : EndsWell probed_abs_program abs_case (turns_in abs_case)
-unfolding types_from rest_from entry_of constant moves_of int_bits int_pair compared long_pair long_shift int_single long_single single pair effect operation_of test_of perform step begin digits
+unfolding types_from rest_from fetch_of entry_of constant moves_of int_bits int_pair compared long_pair int_single long_single single pair effect operation_of test_of perform step begin digits
 ends = record { returned = (tt, tt); calm = refl }
 
 -- the probes that the lists tell

@@ -1,2 +1,3 @@
 pub mod SimulationExamples
 pub mod CoverageExamples
+pub mod ConstantExamples

@@ -4,6 +4,7 @@
 //! class has it already, and a probe takes 4.
 #![tactic(auto)]
 
+mod constants;
 mod coverage;
 
 ghost use Rattle.std.specs.Prelude.{◌≡◌, [], ◌∷◌, ◌++◌, replicate};
@@ -18,6 +19,7 @@ ghost use Rattle.examples_machine.specs.ProgramExamples.{abs_program, probed_abs
 ghost use Rattle.examples_simulation.specs.SimulationExamples.{inc_marks, one_inc, one_begun, two_begun};
 ghost use Rattle.examples_simulation.specs.SimulationExamples.{probed_nothing_program, nothing_marks, nothing_begun};
 
+pub use constants::worked_constant;
 pub use coverage::{worked_call, worked_coverage, worked_stop, worked_throw};
 
 /// Of the 22 turns of one thread, five are kept. Of two threads that race through `$jacocoInit`, ten turns are kept, of each

@@ -1,5 +1,6 @@
 use Rattle.std.proofs.Common.{refl}
 use Rattle.std.specs.Fmt.{digits}
+use Rattle.jc_methods.specs.ProbeMembers.{fetch_of}
 use Rattle.jc_methods.specs.DescriptorTypes.{types_from, rest_from}
 use Rattle.jc_programs.specs.Entries.{entry_of}
 use Rattle.jc_machine_model.specs.Effects.{constant, moves_of, int_bits, int_pair, compared, long_pair, long_shift, int_single, long_single, single, pair, effect}
@@ -11,5 +12,6 @@ use Rattle.jc_machine_model.specs.Begin.{begin}
 use Rattle.examples_machine.proofs.runs.worked_absolute_value.Goals as goal
 
 pub returns : goal.returns
-unfolding types_from rest_from entry_of constant moves_of int_bits int_pair compared long_pair long_shift int_single long_single single pair effect operation_of test_of perform step begin digits
+unfolding types_from rest_from entry_of constant moves_of int_bits int_pair compared long_pair long_shift int_single long_single single pair effect
+    operation_of test_of perform step begin digits fetch_of
 returns c = record { text = refl; probed_text = refl; negative = refl; hits = refl; negative_hits = refl }
