@@ -1,18 +1,18 @@
 -- The blocks of a text, gathered one after the other.
-use Rattle.std.proofs.Common.{◌≡◌, ◌≢◌, ℕ, ◌<◌, List, [], ◌∷◌, ◌++◌, length, Option, Some, option_and_then, is_ok, if◌then◌else◌, Result, Ok, Err, refl, sym, ◌∙◌, ap, subst, arith, append_assoc, length-append}
+use Rattle.std.proofs.Common.{◌≡◌, ◌≢◌, inl, inr, ℕ, ◌+◌, ◌<◌, ◌≤◌, List, [], ◌∷◌, ◌++◌, length, Option, Some, option_and_then, is_ok, if◌then◌else◌, Result, Ok, Err, refl, sym, ◌∙◌, ap, subst, arith, append_assoc, length-append}
 use Rattle.std.specs.List.{AllByRecursion}
-use Rattle.std.proofs.lemmas.List.{nil_from_length}
+use Rattle.std.proofs.lemmas.List.{nil_from_length, append-nil}
 use Rattle.jc_bytes.specs.declared.fail.Fail.{Fail}
 use Rattle.jc_bytes.specs.declared.fail.Fail.TheVariants as fails
 use Rattle.jc_bytes.specs.Reader.{Reading}
-use Rattle.jc_exec.specs.declared.store.Added.{Added}
+use Rattle.jc_exec.specs.declared.gathering.Added.{Added}
 use Rattle.jc_exec.specs.declared.hits.ClassHits.{ClassHits}
 use Rattle.jc_exec.specs.declared.session.Session.{Session}
 use Rattle.jc_exec.specs.declared.refusal.ExecRefusal.{ExecRefusal}
-use Rattle.jc_exec.specs.Adding.{Entries, over, Gathers, Puts, Keeps, RefusesBlock, store_of, store_with}
+use Rattle.jc_exec.specs.Adding.{Entries, over, Gathers, Puts, Keeps, RefusesBlock, RefusesAll, store_of, store_with, with_added, Adds, StopsUnfit, StopsClash, IsStop}
 use Rattle.jc_exec.specs.Answers.{why_of, Refuses, SaysOnly, RefusesRecord}
-use Rattle.jc_exec.specs.Format.{Block, header, session, class, Blocks, BeginsWithHeader}
-use Rattle.jc_exec.specs.Front.{MayStandAt, Took, IsUnfit, ReadsFront}
+use Rattle.jc_exec.specs.Format.{Block, header, session, class, AreBlocks, Blocks, BeginsWithHeader}
+use Rattle.jc_exec.specs.Front.{MayStandAt, Took, IsUnfit, ReadsFront, moved, reading_at}
 use Rattle.jc_exec.specs.Refusing.{Refused, bad_exec, other_version, conflict, MayFollow, RefusedHere, FirstRefusal, blocks_of}
 use Rattle.jc_exec.specs.Store.{Store, IsWritable, Keyed}
 use Rattle.jc_exec.specs.Union.{IsUnion, ReadsOn, with_block, union_of}
@@ -45,102 +45,221 @@ union_push s at t read b is step =
 
 -- ---- what was gathered so far
 
-pub record Progress (known : Entries) (bytes : List ℕ) (reader : Reading) (more : List Session) (fresh : Entries) : Type 0 where
+-- the blocks that were read were put
+pub record Progress (known : Entries) (offset : ℕ) (bytes : List ℕ) (old : Added) (reader : Reading) (new : Added) : Type 0 where
   pub taken : List ℕ
   pub parts : bytes ≡ taken ++ reader.left
-  pub offset : reader.place ≡ length taken
-  pub gathers : Gathers known taken more fresh
+  pub place : reader.place ≡ length taken
+  pub adds : Adds known offset taken old new
 
-pub goes_on : (known : Entries) (bytes : List ℕ) (old new : Reading) (before after : Added) (b : Block)
-    → Progress known bytes old before.sessions.items before.records.entries → Took old new b → Keeps known before after b
-    → Progress known bytes new after.sessions.items after.records.entries
-goes_on known bytes old new before after b p t k =
-    let g = p.gathers in
+pub begins_here : (known : Entries) (offset : ℕ) (bytes : List ℕ) (old : Added) (reader : Reading) → Keyed old.records.entries
+    → reader.left ≡ bytes → reader.place ≡ 0 → Progress known offset bytes old reader old
+begins_here known offset bytes old reader keyed left place = record {
+  taken = [];
+  parts = sym left;
+  place = place;
+  adds = record { read = []; whole = refl; begins = λ first. tt; union = λ sessions. refl; writable = λ w. w; keyed = keyed };
+}
+
+begins_more : (taken : List ℕ) (read : List Block) (b : Block) (offset : ℕ) → AreBlocks taken read → (offset ≡ 0 → BeginsWithHeader read)
+    → MayStandAt (offset + length taken) b → offset ≡ 0 → BeginsWithHeader (read ++ b ∷ [])
+begins_more taken read b offset whole begins stands first =
+    may_follow taken read b (record { begins = begins first; whole = whole }) (λ none. stands (omega (arith, first, none)))
+
+pub goes_on : (known : Entries) (offset : ℕ) (bytes : List ℕ) (old new : Reading) (start before after : Added) (b : Block)
+    → Progress known offset bytes start old before → Took (moved offset old) (moved offset new) b → Keeps known before after b
+    → Progress known offset bytes start new after
+goes_on known offset bytes old new start before after b p t k =
+    let a = p.adds in
     record {
       taken = p.taken ++ t.front;
       parts = p.parts ∙ ap (λ (l : List ℕ). p.taken ++ l) t.parts ∙ sym (append_assoc p.taken t.front new.left);
-      offset = omega (arith, p.offset, t.end, ap length t.parts, length-append t.front new.left, length-append p.taken t.front);
-      gathers = record {
-        read = g.read ++ b ∷ [];
-        blocks = record {
-          begins = may_follow p.taken g.read b g.blocks (subst (λ (n : ℕ). MayStandAt n b) p.offset t.follows);
-          whole = blocks_push p.taken g.read t.front b g.blocks.whole t.block;
-        };
-        union = λ sessions. union_push (store_of sessions known) (store_with sessions known before.sessions.items before.records.entries)
-            (store_with sessions known after.sessions.items after.records.entries) g.read b (g.union sessions) (k.union sessions);
-        writable = k.writable g.writable;
+      place = omega (arith, p.place, t.end, ap length t.parts, length-append t.front new.left, length-append p.taken t.front);
+      adds = record {
+        read = a.read ++ b ∷ [];
+        whole = blocks_push p.taken a.read t.front b a.whole t.block;
+        begins = begins_more p.taken a.read b offset a.whole a.begins (λ none. t.follows (omega (arith, p.place, none)));
+        union = λ sessions. union_push (with_added sessions known start) (with_added sessions known before)
+            (with_added sessions known after) a.read b (a.union sessions) (k.union sessions);
+        writable = λ w. k.writable (a.writable w);
         keyed = k.keyed;
       };
     }
 
+-- all was read
+pub all_taken : (known : Entries) (offset : ℕ) (bytes : List ℕ) (reader : Reading) (start new : Added) → Progress known offset bytes start reader new
+    → length bytes ≤ reader.place → Adds known offset bytes start new
+all_taken known offset bytes reader start new p end =
+    let none : reader.left ≡ [] = nil_from_length reader.left (omega (arith, end, p.place, ap length p.parts, length-append p.taken reader.left)) in
+    subst (λ (l : List ℕ). Adds known offset l start new) (sym (p.parts ∙ ap (λ (l : List ℕ). p.taken ++ l) none ∙ append-nil p.taken)) p.adds
+
 -- ---- what stops the reading
 
-module _ (known : Entries) (bytes : List ℕ) (old : Reading) (more : List Session) (fresh : Entries) (keyed : Keyed known) (p : Progress known bytes old more fresh) (sessions : List Session) where
-  refused_here : (why : Refused) → RefusedHere p.gathers.read (store_with sessions known more fresh) (length p.taken) old.left why → FirstRefusal (store_of sessions known) bytes why
-  refused_here why here = record {
-    read = p.gathers.read;
+module _ (known : Entries) (offset : ℕ) (bytes : List ℕ) (old : Reading) (start at : Added) (p : Progress known offset bytes start old at) where
+  not_nil : old.place < length bytes → old.left ≢ []
+  not_nil goes_on = λ none. omega (arith, goes_on, p.place, ap length p.parts, length-append p.taken old.left, ap length none)
+
+  -- the block in front was not read
+  pub stops_unread : (new : Reading) (e : Fail ExecRefusal) → old.place < length bytes → ReadsFront (Err e) (moved offset old) new
+      → IsStop known offset bytes start at e
+  stops_unread new fails.Memory goes_on reads = tt
+  stops_unread new (fails.Said why) goes_on reads = inl (record {
     taken = p.taken;
-    rest = old.left;
-    store = store_with sessions known more fresh;
+    left = old.left;
     parts = p.parts;
-    blocks = p.gathers.blocks;
-    union = union_blocks (blocks_of (store_of sessions known)) p.gathers.read (store_of sessions known) (store_with sessions known more fresh)
-        (own_union (store_of sessions known) (keyed_apart known keyed)) (p.gathers.union sessions);
+    adds = p.adds;
+    some = not_nil goes_on;
+    unfit = subst (λ (n : ℕ). IsUnfit (reading_at (offset + n) old.left) (why_of why)) p.place reads;
+  })
+
+  memory : (e : Fail ExecRefusal) (after : Added) → e ≡ fails.Memory → IsStop known offset bytes start after e
+  memory e after is = subst (IsStop known offset bytes start after) (sym is) tt
+
+  clashes : (new : Reading) (c : ClassHits) (e : Fail ExecRefusal) (after : Added) → Took (moved offset old) (moved offset new) (class c)
+      → RefusesRecord e (over known at.records.entries) c → IsStop known offset bytes start after e
+  clashes new c fails.Memory after t why = tt
+  clashes new c (fails.Said refusal) after t why = inr (record {
+    taken = p.taken;
+    front = t.front;
+    more = new.left;
+    parts = p.parts ∙ ap (λ (l : List ℕ). p.taken ++ l) t.parts;
+    reached = at;
+    adds = p.adds;
+    hits = c;
+    block = t.block;
+    follows = λ none. t.follows (omega (arith, p.place, none));
+    refused = why;
+  })
+
+  -- the block in front was read, and not kept
+  pub stops_unkept : (new : Reading) (b : Block) (e : Fail ExecRefusal) (after : Added) → Took (moved offset old) (moved offset new) b
+      → RefusesBlock e known at.records.entries b → IsStop known offset bytes start after e
+  stops_unkept new header e after t why = memory e after why
+  stops_unkept new (session s) e after t why = memory e after why
+  stops_unkept new (class c) e after t why = clashes new c e after t why
+
+-- ---- blocks behind others, over a store
+
+append_blocks : (a b : List ℕ) (xs ys : List Block) → AreBlocks a xs → AreBlocks b ys → AreBlocks (a ++ b) (xs ++ ys)
+append_blocks a b [] ys none later = subst (λ (l : List ℕ). AreBlocks (l ++ b) ys) (sym none) later
+append_blocks a b (x ∷ xs) ys first later =
+    (first.0, first.1 ++ b, ap (λ (l : List ℕ). l ++ b) first.2 ∙ append_assoc first.0 first.1 b, first.3, append_blocks first.1 b xs ys first.4 later)
+
+begins_behind : (read more : List Block) → BeginsWithHeader read → (read ≡ [] → BeginsWithHeader more) → BeginsWithHeader (read ++ more)
+begins_behind [] more first rest = rest refl
+begins_behind (header ∷ read) more first rest = tt
+begins_behind (session s ∷ read) more first rest = first
+begins_behind (class c ∷ read) more first rest = first
+
+module _ (known : Entries) (offset : ℕ) (start : Added) (sessions : List Session) (before : Store) (done : List ℕ) (read : List Block)
+    (blocks : Blocks done read) (size : length done ≡ offset) (union : IsUnion (blocks_of before ++ read) (with_added sessions known start)) where
+  pub added_blocks : (bytes : List ℕ) (new : Added) (a : Adds known offset bytes start new) → Blocks (done ++ bytes) (read ++ a.read)
+  added_blocks bytes new a = record {
+    begins = begins_behind read a.read blocks.begins (λ none. a.begins (sym size ∙ ap length (subst (AreBlocks done) none blocks.whole)));
+    whole = append_blocks done bytes read a.read blocks.whole a.whole;
+  }
+
+  pub added_union : (bytes : List ℕ) (new : Added) (a : Adds known offset bytes start new)
+      → IsUnion (blocks_of before ++ (read ++ a.read)) (with_added sessions known new)
+  added_union bytes new a = subst (λ (l : List Block). IsUnion l (with_added sessions known new)) (append_assoc (blocks_of before) read a.read)
+      (union_blocks (blocks_of before ++ read) a.read (with_added sessions known start) (with_added sessions known new) union (a.union sessions))
+
+  refused_here : (taken left : List ℕ) (new : Added) (a : Adds known offset taken start new) (why : Refused)
+      → RefusedHere (read ++ a.read) (with_added sessions known new) (length (done ++ taken)) left why → FirstRefusal before (done ++ (taken ++ left)) why
+  refused_here taken left new a why here = record {
+    read = read ++ a.read;
+    taken = done ++ taken;
+    rest = left;
+    store = with_added sessions known new;
+    parts = sym (append_assoc done taken left);
+    blocks = added_blocks taken new a;
+    union = added_union taken new a;
     refused = here;
   }
 
-  unfit_here : (why : Refused) → old.left ≢ [] → IsUnfit old why → RefusedHere p.gathers.read (store_with sessions known more fresh) (length p.taken) old.left why
-  unfit_here (bad_exec offset) some unfit = (
-    unfit.0 ∙ p.offset,
+  place : (taken : List ℕ) → length (done ++ taken) ≡ offset + length taken
+  place taken = omega (arith, length-append done taken, size)
+
+  unfit_here : (taken left : List ℕ) (new : Added) (a : Adds known offset taken start new) (why : Refused) → left ≢ []
+      → IsUnfit (reading_at (offset + length taken) left) why
+      → RefusedHere (read ++ a.read) (with_added sessions known new) (length (done ++ taken)) left why
+  unfit_here taken left new a (bad_exec p) some unfit = (
+    unfit.0 ∙ sym (place taken),
     record {
       some = some;
-      none = λ b front rest parts block follows. unfit.1 b front rest parts block (subst (λ (n : ℕ). MayStandAt n b) (sym p.offset) (may_stand p.taken p.gathers.read b p.gathers.blocks follows));
+      none = λ b front more parts block follows. unfit.1 b front more parts block
+          (λ first. may_stand (done ++ taken) (read ++ a.read) b (added_blocks taken new a) follows (place taken ∙ first));
       known = unfit.2;
     },
   )
-  unfit_here (other_version found) some unfit = unfit
-  unfit_here (conflict id first second m n) some unfit = absurd unfit
+  unfit_here taken left new a (other_version found) some unfit = unfit
+  unfit_here taken left new a (conflict id first second m n) some unfit = absurd unfit
 
-  not_nil : old.place < length bytes → old.left ≢ []
-  not_nil goes_on = λ none. omega (arith, goes_on, p.offset, ap length p.parts, length-append p.taken old.left, ap length none)
-
-  -- the block in front was not read
-  pub stops_unread : (new : Reading) (e : Fail ExecRefusal) → old.place < length bytes → ReadsFront (Err e) old new → Refuses e (store_of sessions known) bytes
-  stops_unread new fails.Memory goes_on reads = tt
-  stops_unread new (fails.Said refusal) goes_on reads = refused_here (why_of refusal) (unfit_here (why_of refusal) (not_nil goes_on) reads)
-
-  conflicts : (new : Reading) (c : ClassHits) (e : Fail ExecRefusal) → Took old new (class c) → RefusesRecord e (over known fresh) c → Refuses e (store_of sessions known) bytes
-  conflicts new c fails.Memory t why = tt
-  conflicts new c (fails.Said refusal) t (there, found, says) =
-      subst (FirstRefusal (store_of sessions known) bytes) (sym says)
-      (refused_here _ (
-        there,
-        c,
+  clash_here : (bytes : List ℕ) (why : ExecRefusal) (s : StopsClash known offset bytes start why)
+      → RefusedHere (read ++ s.adds.read) (with_added sessions known s.reached) (length (done ++ s.taken)) (s.front ++ s.more) (why_of why)
+  clash_here bytes why s =
+      let found = s.refused in
+      subst (RefusedHere (read ++ s.adds.read) (with_added sessions known s.reached) (length (done ++ s.taken)) (s.front ++ s.more)) (sym found.2) (
+        found.0,
+        s.hits,
         record {
-          front = t.front;
-          more = new.left;
-          parts = t.parts;
-          block = t.block;
-          follows = may_follow p.taken p.gathers.read (class c) p.gathers.blocks (subst (λ (n : ℕ). MayStandAt n (class c)) p.offset t.follows);
-          holds = found.holds;
-          same_id = found.same_id;
-          differs = found.differs;
+          front = s.front;
+          more = s.more;
+          parts = refl;
+          block = s.block;
+          follows = may_follow (done ++ s.taken) (read ++ s.adds.read) (class s.hits) (added_blocks s.taken s.reached s.adds)
+              (λ first. s.follows (sym (place s.taken) ∙ first));
+          holds = found.1.holds;
+          same_id = found.1.same_id;
+          differs = found.1.differs;
         },
         refl,
         refl,
         refl,
         refl,
         refl,
-      ))
+      )
 
-  memory : (e : Fail ExecRefusal) → e ≡ fails.Memory → Refuses e (store_of sessions known) bytes
-  memory e is = subst (λ (f : Fail ExecRefusal). Refuses f (store_of sessions known) bytes) (sym is) tt
+  pub unfit_refused : (bytes : List ℕ) (new : Added) (why : ExecRefusal) → StopsUnfit known offset bytes start new why
+      → FirstRefusal before (done ++ bytes) (why_of why)
+  unfit_refused bytes new why s = subst (λ (l : List ℕ). FirstRefusal before (done ++ l) (why_of why)) (sym s.parts)
+      (refused_here s.taken s.left new s.adds (why_of why) (unfit_here s.taken s.left new s.adds (why_of why) s.some s.unfit))
 
-  -- the block in front was read, and not kept
-  pub stops_unkept : (new : Reading) (b : Block) (e : Fail ExecRefusal) → Took old new b → RefusesBlock e known fresh b → Refuses e (store_of sessions known) bytes
-  stops_unkept new header e t why = memory e why
-  stops_unkept new (session s) e t why = memory e why
-  stops_unkept new (class c) e t why = conflicts new c e t why
+  pub clash_refused : (bytes : List ℕ) (why : ExecRefusal) → StopsClash known offset bytes start why
+      → FirstRefusal before (done ++ bytes) (why_of why)
+  clash_refused bytes why s = subst (λ (l : List ℕ). FirstRefusal before (done ++ l) (why_of why)) (sym s.parts)
+      (refused_here s.taken (s.front ++ s.more) s.reached s.adds (why_of why) (clash_here bytes why s))
+
+  pub stop_refused : (bytes : List ℕ) (new : Added) (e : Fail ExecRefusal) → IsStop known offset bytes start new e → Refuses e before (done ++ bytes)
+  stop_refused bytes new fails.Memory stop = tt
+  stop_refused bytes new (fails.Said why) (inl unfit) = unfit_refused bytes new why unfit
+  stop_refused bytes new (fails.Said why) (inr clash) = clash_refused bytes why clash
+
+-- ---- a whole file
+
+-- nothing was gathered yet
+pub nothing : (sessions : List Session) (known : Entries) (start : Added) → start.sessions.items ≡ [] → start.records.entries ≡ []
+    → store_of sessions known ≡ with_added sessions known start
+nothing sessions known start none empty = ap (λ (ss : List Session). store_of ss known) (sym (append-nil sessions)) ∙ (λ i. store_with sessions known (sym none i) (sym empty i))
+
+pub adds_gathers : (known : Entries) (bytes : List ℕ) (start new : Added) → start.sessions.items ≡ [] → start.records.entries ≡ []
+    → Adds known 0 bytes start new → Gathers known bytes new.sessions.items new.records.entries
+adds_gathers known bytes start new none empty a = record {
+  read = a.read;
+  blocks = record { begins = a.begins refl; whole = a.whole };
+  union = λ sessions. subst (λ (s : Store). union_of s a.read ≡ Some (with_added sessions known new)) (sym (nothing sessions known start none empty)) (a.union sessions);
+  writable = a.writable (subst (AllByRecursion IsWritable) (sym none) tt);
+  keyed = a.keyed;
+}
+
+pub stops_file : (known : Entries) (bytes : List ℕ) (start new : Added) (e : Fail ExecRefusal) → Keyed known → start.sessions.items ≡ []
+    → start.records.entries ≡ [] → IsStop known 0 bytes start new e → RefusesAll known bytes e
+stops_file known bytes start new e keyed none empty stop = λ sessions.
+    let before = store_of sessions known in
+    let same : before ≡ with_added sessions known start = nothing sessions known start none empty in
+    stop_refused known 0 start sessions before [] [] (record { begins = tt; whole = refl }) refl
+    (subst (λ (l : List Block). IsUnion l (with_added sessions known start)) (sym (append-nil (blocks_of before)))
+    (subst (IsUnion (blocks_of before)) same (own_union before (keyed_apart known keyed)))) bytes new e stop
 
 -- ---- a file, and a record, over a store
 

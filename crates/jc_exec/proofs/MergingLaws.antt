@@ -230,7 +230,7 @@ record_fits (c ∷ cs) r a = by (nat_eq c.id r.id) refl (record_fits cs r a.1)
     by true is rest = (either_hits c r ∷ cs, rw (agrees_agree c r (a.0 (eqb-true c.id r.id is))) refl)
     by false is (es, e) = (c ∷ es, rw e refl)
 
-front_consistent : (rs more : List ClassHits) → Consistent (rs ++ more) → Consistent rs
+pub front_consistent : (rs more : List ClassHits) → Consistent (rs ++ more) → Consistent rs
 front_consistent rs more same = λ x y there_x there_y id. same x y (Contains-append_left rs more x there_x) (Contains-append_left rs more y there_y) id
 
 merging_runs : (bs more : List Block) (s : Store) → IsUnion bs s → Consistent (records_of (bs ++ more)) → (t : Store) × (union_of s more ≡ Some t)
@@ -254,3 +254,9 @@ pub union_is_merged : (bs : List Block) (s : Store) → IsUnion bs s → union_o
 union_is_merged bs s u =
     let run = merging_runs [] bs (record { sessions = []; classes = [] }) union_none (union_consistent bs s u) in
     run.1 ∙ ap (λ (t : Store). Some t) (one_union bs run.0 s (merging_makes_union bs run.0 run.1) u)
+
+-- blocks whose records of one id agree have a union
+pub union_exists : (bs : List Block) → Consistent (records_of bs) → (s : Store) × IsUnion bs s
+union_exists bs same =
+    let run = merging_runs [] bs (record { sessions = []; classes = [] }) union_none same in
+    (run.0, merging_makes_union bs run.0 run.1)

@@ -111,7 +111,7 @@ some_none : (s : Session) (ss : List Session) → s ∷ ss ≡ [] → ⊥
 some_none s ss e = cc
 
 -- sessions of each time in the same order
-abbrev SameTimes : List Session → List Session → Type 0
+abbrev pub SameTimes : List Session → List Session → Type 0
 SameTimes xs ys = (time : ℤ) → filter (is_dumped_at time) xs ≡ filter (is_dumped_at time) ys
 
 -- the first of one list is dumped no later than the first of the other

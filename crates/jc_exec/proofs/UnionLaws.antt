@@ -171,7 +171,7 @@ same_bits (x ∷ xs) (y ∷ ys) long same =
 abbrev pub HasRecord : List ClassHits → ℕ → Type 0
 HasRecord rs id = (r : ClassHits) × Contains rs r × (r.id ≡ id)
 
-same_record : (rs : List ClassHits) (c d : ClassHits) → c.id ≡ d.id → HasRecord rs c.id → IsMerged rs c → IsMerged rs d → c ≡ d
+pub same_record : (rs : List ClassHits) (c d : ClassHits) → c.id ≡ d.id → HasRecord rs c.id → IsMerged rs c → IsMerged rs d → c ≡ d
 same_record rs c d id there a b =
     let of_c = a.agrees there.0 there.1 there.2 in
     let of_d = b.agrees there.0 there.1 (there.2 ∙ id) in

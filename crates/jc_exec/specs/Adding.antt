@@ -1,6 +1,6 @@
 -- What a file adds to a store, as it is gathered apart: sessions, and records by their ids. A record whose id
 -- is in the store is gathered with the bits of both.
-use Rattle.std.specs.Prelude.{◌≡◌, ℕ, List, ◌++◌, Some, nat_eq, ⊤, true, false, Result, Ok, Err}
+use Rattle.std.specs.Prelude.{◌≡◌, ◌≢◌, ◌⊎◌, ℕ, ◌+◌, List, [], ◌++◌, length, Some, nat_eq, ⊤, true, false, Result, Ok, Err}
 use Rattle.std.specs.List.{AllByRecursion}
 use Rattle.indexmap.specs.IndexMap.{insert_all}
 use Rattle.jc_bytes.specs.declared.fail.Fail.{Fail}
@@ -8,9 +8,10 @@ use Rattle.jc_bytes.specs.declared.fail.Fail.TheVariants as fails
 use Rattle.jc_exec.specs.declared.hits.ClassHits.{ClassHits}
 use Rattle.jc_exec.specs.declared.session.Session.{Session}
 use Rattle.jc_exec.specs.declared.refusal.ExecRefusal.{ExecRefusal}
-use Rattle.jc_exec.specs.declared.store.Added.{Added}
+use Rattle.jc_exec.specs.declared.gathering.Added.{Added}
 use Rattle.jc_exec.specs.Answers.{why_of, conflict_of, Refuses, RefusesRecord}
-use Rattle.jc_exec.specs.Format.{Block, header, session, class, Blocks}
+use Rattle.jc_exec.specs.Format.{Block, header, session, class, IsClassBlock, AreBlocks, Blocks, BeginsWithHeader}
+use Rattle.jc_exec.specs.Front.{MayStandAt, IsUnfit, reading_at}
 use Rattle.jc_exec.specs.Store.{Store, IsWritable, Keyed, classes_of}
 use Rattle.jc_exec.specs.Union.{agree, either_hits, with_record, with_block, union_of}
 
@@ -82,3 +83,45 @@ RefusesBlock e known fresh (class c) = RefusesRecord e (over known fresh) c
 -- why a text is refused over these records, with whatever sessions
 abbrev pub RefusesAll : Entries → List ℕ → Fail ExecRefusal → Type 0
 RefusesAll known text e = (sessions : List Session) → Refuses e (store_of sessions known) text
+
+-- ---- some blocks of a file
+
+-- a store with what was gathered
+abbrev pub with_added : List Session → Entries → Added → Store
+with_added sessions known added = store_with sessions known added.sessions.items added.records.entries
+
+-- bytes that begin at the offset of a file are a list of blocks, which may stand there, and these were put with what was gathered
+pub record Adds (known : Entries) (offset : ℕ) (bytes : List ℕ) (old new : Added) : Type 0 where
+  pub read : List Block
+  pub whole : AreBlocks bytes read
+  pub begins : offset ≡ 0 → BeginsWithHeader read
+  pub union : (sessions : List Session) → union_of (with_added sessions known old) read ≡ Some (with_added sessions known new)
+  pub writable : AllByRecursion IsWritable old.sessions.items → AllByRecursion IsWritable new.sessions.items
+  pub keyed : Keyed new.records.entries
+
+-- the blocks in front were put, and no block that may stand behind them is next
+pub record StopsUnfit (known : Entries) (offset : ℕ) (bytes : List ℕ) (old new : Added) (why : ExecRefusal) : Type 0 where
+  pub taken : List ℕ
+  pub left : List ℕ
+  pub parts : bytes ≡ taken ++ left
+  pub adds : Adds known offset taken old new
+  pub some : left ≢ []
+  pub unfit : IsUnfit (reading_at (offset + length taken) left) (why_of why)
+
+-- the blocks in front have a union, over which the class block behind them is refused
+pub record StopsClash (known : Entries) (offset : ℕ) (bytes : List ℕ) (old : Added) (why : ExecRefusal) : Type 0 where
+  pub taken : List ℕ
+  pub front : List ℕ
+  pub more : List ℕ
+  pub parts : bytes ≡ taken ++ (front ++ more)
+  pub reached : Added
+  pub adds : Adds known offset taken old reached
+  pub hits : ClassHits
+  pub block : IsClassBlock front hits
+  pub follows : MayStandAt (offset + length taken) (class hits)
+  pub refused : RefusesRecord (fails.Said why) (over known reached.records.entries) hits
+
+-- why not all of the bytes were put; want of memory may come at any time
+abbrev pub IsStop : Entries → ℕ → List ℕ → Added → Added → Fail ExecRefusal → Type 0
+IsStop known offset bytes old new fails.Memory = ⊤
+IsStop known offset bytes old new (fails.Said why) = StopsUnfit known offset bytes old new why ⊎ StopsClash known offset bytes old why

@@ -1,5 +1,5 @@
 -- The block in front of what is left of a text.
-use Rattle.std.specs.Prelude.{◌≡◌, ⊤, ℕ, List, ◌++◌, Result, Ok, Err}
+use Rattle.std.specs.Prelude.{◌≡◌, ⊤, ℕ, ◌+◌, List, ◌++◌, Result, Ok, Err}
 use Rattle.jc_bytes.specs.declared.fail.Fail.{Fail}
 use Rattle.jc_bytes.specs.declared.fail.Fail.TheVariants as fails
 use Rattle.jc_bytes.specs.Decoder.{SameEnd}
@@ -14,6 +14,14 @@ use Rattle.jc_exec.specs.Answers.{why_of}
 use Rattle.jc_exec.specs.Format.{Block, header, session, class, IsBlock}
 use Rattle.jc_exec.specs.Refusing.{Refused, bad_exec, other_version, conflict, HasOtherHeader}
 use Rattle.jc_exec.specs.Store.{IsSmall, IsWritable}
+
+-- a reading of bytes that begin at the offset of a file, as one of the file
+abbrev pub moved : ℕ → Reading → Reading
+moved offset r = record { left = r.left; place = offset + r.place }
+
+-- these bytes are left, and the first of them stands at the offset
+abbrev pub reading_at : ℕ → List ℕ → Reading
+reading_at offset bytes = record { left = bytes; place = offset }
 
 abbrev pub block_of : Front → Block
 block_of Header = header

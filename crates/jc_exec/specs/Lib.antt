@@ -7,3 +7,5 @@ pub mod Answers
 pub mod Front
 pub mod Adding
 pub mod Writing
+pub mod Groups
+pub mod Feeding

@@ -1,11 +1,12 @@
 //! One block of execution data.
-ghost use Rattle.std.specs.Prelude.{◌≡◌, ◌*◌, ◌^◌, ◌<◌, ◌≤◌, ◌∷◌, [], ◌++◌, length, slice_index, IfOk, FitsSigned};
+ghost use Rattle.std.specs.Prelude.{◌≡◌, ◌+◌, ◌*◌, ◌^◌, ◌<◌, ◌≤◌, ◌∷◌, [], ◌++◌, length, slice_index, IfOk, FitsSigned};
 ghost use Rattle.std.specs.Int.{w64};
 ghost use Rattle.jc_bytes.specs.Decoder.{Gives, SameEnd};
 ghost use Rattle.jc_exec.specs.Format.{header_text, unpack};
 ghost use Rattle.jc_exec.specs.Store.{IsSmall};
 ghost use Rattle.jc_exec.specs.Reading.{text_at, count_in, count_at, bits_at, class_at, session_at, version_at};
-ghost use Rattle.jc_exec.specs.Front.{ReadsFront, IsUnread};
+ghost use Rattle.jc_bytes.specs.Reader.{most_read};
+ghost use Rattle.jc_exec.specs.Front.{ReadsFront, IsUnread, moved};
 
 use crate::{ClassHits, ExecRefusal, Session};
 use jc_bytes::{Bytes, Fail, List, Reader, Unfit, is_modified};
@@ -14,7 +15,7 @@ use std::alloc::{AllocError, Global};
 pub const HEADER: [u8; 5] = [0x01, 0xc0, 0xc0, 0x10, 0x07];
 
 /// The byte that begins a header.
-const HEADER_KIND: u8 = 0x01;
+pub const HEADER_KIND: u8 = 0x01;
 
 /// The byte that begins a session.
 pub const SESSION: u8 = 0x10;
@@ -190,15 +191,16 @@ fn unfit(unread: Fail<Unfit>, offset: u32) -> Fail<ExecRefusal>
     }
 }
 
-/// A header, where its first byte is in front.
-fn header(reader: &mut Reader<'_>) -> Result<Front, Fail<ExecRefusal>>
-    requires { slice_index reader.old.left 0 ≡ 0x01 }
-    ensures { ReadsFront result reader.old reader.new }
+/// A header, where its first byte is in front. The reader's bytes begin at the offset.
+fn header(reader: &mut Reader<'_>, offset: u32) -> Result<Front, Fail<ExecRefusal>>
+    requires kind { slice_index reader.old.left 0 ≡ 0x01 }
+    requires room { offset + (reader.old.place + length reader.old.left) ≤ most_read }
+    ensures { ReadsFront result (moved offset reader.old) (moved offset reader.new) }
 {
-    let offset = reader.place();
+    let place = offset + reader.place();
     let found = match version(reader) {
         Ok(found) => found,
-        Err(unread) => return Err(unfit(unread, offset)),
+        Err(unread) => return Err(unfit(unread, place)),
     };
     if found != VERSION {
         return Err(Fail::Said(ExecRefusal::OtherVersion { found }));
@@ -206,62 +208,66 @@ fn header(reader: &mut Reader<'_>) -> Result<Front, Fail<ExecRefusal>>
     Ok(Front::Header)
 }
 
-/// A session behind other blocks, where its first byte is in front.
-fn session(alloc: Global, reader: &mut Reader<'_>) -> Result<Front, Fail<ExecRefusal>>
+/// A session behind other blocks, where its first byte is in front. The reader's bytes begin at the offset.
+fn session(alloc: Global, reader: &mut Reader<'_>, offset: u32) -> Result<Front, Fail<ExecRefusal>>
     requires kind { slice_index reader.old.left 0 ≡ 0x10 }
-    requires behind { 0 < reader.old.place }
-    ensures { ReadsFront result reader.old reader.new }
+    requires behind { 0 < offset + reader.old.place }
+    requires room { offset + (reader.old.place + length reader.old.left) ≤ most_read }
+    ensures { ReadsFront result (moved offset reader.old) (moved offset reader.new) }
 {
-    let offset = reader.place();
+    let place = offset + reader.place();
     let session = match session_parts(alloc, reader) {
         Ok(session) => session,
-        Err(unread) => return Err(unfit(unread, offset)),
+        Err(unread) => return Err(unfit(unread, place)),
     };
     if !is_modified(&session.id) {
-        return Err(bad(offset));
+        return Err(bad(place));
     }
     Ok(Front::Session(session))
 }
 
-/// A class behind other blocks, where its first byte is in front.
-fn class(alloc: Global, reader: &mut Reader<'_>) -> Result<Front, Fail<ExecRefusal>>
+/// A class behind other blocks, where its first byte is in front. The reader's bytes begin at the offset.
+fn class(alloc: Global, reader: &mut Reader<'_>, offset: u32) -> Result<Front, Fail<ExecRefusal>>
     requires kind { slice_index reader.old.left 0 ≡ 0x11 }
-    requires behind { 0 < reader.old.place }
-    ensures { ReadsFront result reader.old reader.new }
+    requires behind { 0 < offset + reader.old.place }
+    requires room { offset + (reader.old.place + length reader.old.left) ≤ most_read }
+    ensures { ReadsFront result (moved offset reader.old) (moved offset reader.new) }
 {
-    let offset = reader.place();
+    let place = offset + reader.place();
     let hits = match class_parts(alloc, reader) {
         Ok(hits) => hits,
-        Err(unread) => return Err(unfit(unread, offset)),
+        Err(unread) => return Err(unfit(unread, place)),
     };
     if !is_modified(&hits.name) {
-        return Err(bad(offset));
+        return Err(bad(place));
     }
     Ok(Front::Class(hits))
 }
 
-/// The block that begins with this byte. The first block of all is a header.
+/// The block that begins with this byte. The first block of all is a header. The reader's bytes begin at the offset.
 pub fn next_block(
     alloc: Global,
     reader: &mut Reader<'_>,
+    offset: u32,
     kind: u8,
 ) -> Result<Front, Fail<ExecRefusal>>
     requires some { 0 < length reader.old.left }
     requires kind { kind ≡ slice_index reader.old.left 0 }
-    ensures { ReadsFront result reader.old reader.new }
+    requires room { offset + (reader.old.place + length reader.old.left) ≤ most_read }
+    ensures { ReadsFront result (moved offset reader.old) (moved offset reader.new) }
 {
-    let offset = reader.place();
+    let place = offset + reader.place();
     if kind == HEADER_KIND {
-        return header(reader);
+        return header(reader, offset);
     }
-    if offset == 0 {
-        return Err(bad(offset));
+    if place == 0 {
+        return Err(bad(place));
     }
     if kind == SESSION {
-        return session(alloc, reader);
+        return session(alloc, reader, offset);
     }
     if kind == CLASS {
-        return class(alloc, reader);
+        return class(alloc, reader, offset);
     }
-    Err(bad(offset))
+    Err(bad(place))
 }

@@ -2,11 +2,14 @@
 //!
 //! [`one_answer_to_each_text`] is the promise of this crate; the others are steps, which the crates above cite too.
 ghost use Rattle.std.specs.Prelude.{◌≡◌, ◌↔◌, ◌⊎◌, ℕ, [], ◌∷◌, List, Some};
+ghost use Rattle.std.specs.List.{AllByRecursion};
+ghost use Rattle.jc_bytes.specs.ByteLists.{AreBytes};
 ghost use Rattle.jc_exec.specs.declared.session.Session.{Session};
 ghost use Rattle.jc_exec.specs.Format.{Block, header, Blocks};
 ghost use Rattle.jc_exec.specs.Store.{Store};
 ghost use Rattle.jc_exec.specs.Refusing.{Refused, blocks_of, FirstRefusal, IsTaken, IsRefused, OneOfEachId};
 ghost use Rattle.jc_exec.specs.Union.{IsUnion, union_of};
+ghost use Rattle.jc_exec.specs.Groups.{IsUnionOf, texts_of_all, AreResults, MergesInGroups};
 ghost use Rattle.jc_exec.specs.Writing.{by_dump, IsByDump, FitsFormat, written, exec_text};
 
 /// Over a store with one record of each id, each text is execution data whose blocks have a union
@@ -48,4 +51,14 @@ pub fn sessions_by_dump()
 pub fn what_is_written_is_read()
     ensures blocks { (store : Store) → FitsFormat store → Blocks (exec_text store) (header ∷ blocks_of (written store)) }
     ensures union { (store : Store) → OneOfEachId store.classes → IsUnion (header ∷ blocks_of (written store)) (written store) }
+{}
+
+/// Texts that have a union are merged alike in groups of consecutive ones: each group has a union, and so have the texts
+/// that are written for the groups, with the same sessions and the same records that have a hit. Where each record
+/// of the texts has a hit, the text that is written is the same. Groups have one list of results, and these one union.
+pub fn groups_merge_alike()
+    ensures taken { (groups : List (List (List ℕ))) (whole : Store) → AllByRecursion AreBytes (texts_of_all groups)
+        → IsUnionOf (texts_of_all groups) whole → MergesInGroups groups whole }
+    ensures one_list { (groups : List (List (List ℕ))) (a b : List (List ℕ)) → AreResults groups a → AreResults groups b → a ≡ b }
+    ensures one_union { (texts : List (List ℕ)) (s t : Store) → IsUnionOf texts s → IsUnionOf texts t → s ≡ t }
 {}

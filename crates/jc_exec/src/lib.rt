@@ -1,9 +1,11 @@
 //! Execution data in JaCoCo's format of version 1007: which probes of which classes were hit.
 //!
-//! Data is read into a store, which holds the union of all that was read, and written from it.
+//! Data is read into a store, whole or in pieces. The store holds the union of all that was read, and is written as data.
 #![tactic(auto)]
 
 mod block;
+mod feed;
+mod gathering;
 mod hits;
 mod id_hash;
 mod laws;
@@ -11,12 +13,14 @@ mod merge;
 mod refusal;
 mod session;
 mod store;
+mod waiting;
 mod write;
 
+pub use feed::ExecFeed;
 pub use hits::ClassHits;
 pub use laws::{
-    one_answer_to_each_text, one_list_of_each_text, one_union_of_each_list, sessions_by_dump,
-    union_block_by_block, what_is_written_is_read,
+    groups_merge_alike, one_answer_to_each_text, one_list_of_each_text, one_union_of_each_list,
+    sessions_by_dump, union_block_by_block, what_is_written_is_read,
 };
 pub use merge::check_fits;
 pub use refusal::ExecRefusal;

@@ -7,7 +7,7 @@ ghost use Rattle.jc_exec.specs.Answers.{RefusesClass, conflict_with, RefusesReco
 ghost use Rattle.jc_exec.specs.Store.{IsSmall, Keyed, classes_of};
 ghost use Rattle.jc_exec.specs.Union.{fits, agree, either_bits, either_hits};
 
-use crate::store::Records;
+use crate::gathering::Records;
 use crate::{ClassHits, ExecRefusal};
 use jc_bytes::{Bytes, Fail, List};
 use std::alloc::{AllocError, Global};

@@ -1,31 +1,28 @@
 //! The union of execution data.
 ghost use Rattle.std.specs.Prelude.{◌≡◌, ◌≤◌, ◌++◌, [], ◌∷◌, length, List, Contains, IfOk, IfErr, IfSome, IsSomeAnd};
 ghost use Rattle.std.specs.Prelude.{All, IsErrAnd, OnOk, OnErr, MatchResult};
+ghost use Rattle.std.specs.List.{AllByRecursion};
 ghost use Rattle.jc_bytes.specs.Modified.{IsModified};
 ghost use Rattle.jc_bytes.specs.Reader.{most_read};
 ghost use Rattle.jc_exec.specs.declared.hits.ClassHits.{ClassHits};
 ghost use Rattle.jc_exec.specs.declared.session.Session.{Session};
-ghost use Rattle.jc_exec.specs.Adding.{Gathers, RefusesAll, Keeps, RefusesBlock};
+ghost use Rattle.jc_exec.specs.Adding.{store_of};
 ghost use Rattle.jc_exec.specs.Answers.{Refuses, SaysOnly, IsConflict, conflict_of, RefusesRecord};
 ghost use Rattle.jc_exec.specs.Format.{Block, class, Blocks};
-ghost use Rattle.jc_exec.specs.Front.{Fits, block_of};
 ghost use Rattle.jc_exec.specs.Refusing.{Refused, blocks_of, FirstRefusal};
 ghost use Rattle.jc_exec.specs.Store.{Store, IsWritable, IsWritableClass, Keyed};
 ghost use Rattle.jc_exec.specs.Union.{IsUnion, ReadsOn};
 ghost use Rattle.jc_exec.specs.Writing.{exec_text};
 
-use crate::block::{Front, next_block};
+use crate::gathering::{Added, Records, read_blocks};
 use crate::id_hash::IdHash;
-use crate::merge::{gather, put, put_all};
+use crate::merge::{put, put_all};
 use crate::write::exec_data;
 use crate::{ClassHits, ExecRefusal, Session};
 use indexmap::IndexMap;
-use jc_bytes::{Fail, Memory, Reader};
+use jc_bytes::{Fail, Memory};
 use std::alloc::{AllocError, Global};
 use std::marker::Model;
-
-/// Records by class id, in the order in which the ids were first seen.
-pub type Records = IndexMap<u64, ClassHits, IdHash>;
 
 /// The union of execution data.
 ///
@@ -159,63 +156,24 @@ impl ExecStore {
     {
         exec_data(alloc, &self.sessions, self.records.values().as_slice())
     }
-}
 
-/// What a file adds to a store.
-#[derive(Drop)]
-struct Added {
-    sessions: Vec<Session>,
-    records: Records,
-}
-
-/// Puts a block with what was gathered.
-fn keep(
-    alloc: Global,
-    known: &Records,
-    added: &mut Added,
-    block: Front,
-) -> Result<(), Fail<ExecRefusal>>
-    requires known { Keyed known.now.entries }
-    requires keyed { Keyed added.old.records.entries }
-    requires block { Fits block }
-    ensures keeps { OnOk result (Keeps known.now.entries added.old added.new (block_of block)) }
-    ensures refused { IfErr result (λ e. RefusesBlock e known.now.entries added.old.records.entries (block_of block)) }
-{
-    match block {
-        Front::Header => {}
-        Front::Session(session) => added.sessions.push(session)?,
-        Front::Class(hits) => gather(alloc, known, &mut added.records, hits)?,
+    /// The sessions and the records.
+    pub(crate) fn into_added(self) -> Added
+        ensures store { store_of result.sessions.items result.records.entries ≡ self }
+        ensures writable { AllByRecursion IsWritable result.sessions.items }
+        ensures keyed { Keyed result.records.entries }
+    {
+        let ExecStore { sessions, records } = self;
+        Added { sessions, records }
     }
-    Ok(())
-}
 
-/// No records yet of a file over some records. Their ids are hashed as those of the others, or, where there are none,
-/// under the file's digest.
-fn no_records(alloc: Global, known: &Records, bytes: &[u8]) -> Records
-    ensures { result.entries ≡ [] }
-{
-    if known.is_empty() {
-        return IndexMap::with_hasher(alloc, IdHash::under_digest(bytes));
+    /// The store of these sessions and records.
+    pub(crate) fn of_added(added: Added) -> ExecStore
+        requires writable { AllByRecursion IsWritable added.sessions.items }
+        requires keyed { Keyed added.records.entries }
+        ensures { result ≡ store_of added.sessions.items added.records.entries }
+    {
+        let Added { sessions, records } = added;
+        ExecStore { sessions, records }
     }
-    IndexMap::with_hasher(alloc, *known.hasher())
-}
-
-/// The blocks of a file over some records.
-fn read_blocks(alloc: Global, known: &Records, bytes: &[u8]) -> Result<Added, Fail<ExecRefusal>>
-    requires short { length bytes.now ≤ most_read }
-    requires keyed { Keyed known.now.entries }
-    ensures gathers { IfOk result (λ added. Gathers known.now.entries bytes.now added.sessions.items added.records.entries) }
-    ensures refused { IfErr result (RefusesAll known.now.entries bytes.now) }
-{
-    let mut reader = Reader::new(bytes);
-    let mut added = Added {
-        sessions: Vec::new(alloc),
-        records: no_records(alloc, known, bytes),
-    };
-    'reading: while (reader.place() as usize) < bytes.len() {
-        let kind = bytes[reader.place() as usize];
-        let block = next_block(alloc, &mut reader, kind)?;
-        keep(alloc, known, &mut added, block)?;
-    }
-    Ok(added)
 }

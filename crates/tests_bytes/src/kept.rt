@@ -1,11 +1,11 @@
 //! The calls, and the values that lines make for the lines behind them.
 
 use crate::{
-    bootstraps, classes, codes, copies, descriptors, files, insns, lists, names, pools, readers,
-    same, stores, texts,
+    bootstraps, classes, codes, copies, descriptors, feeds, files, insns, lists, names, pools,
+    readers, same, stores, texts,
 };
 use jc_base::{Insn, MemoryFiles, MemorySink, Names};
-use jc_exec::ExecStore;
+use jc_exec::{ExecFeed, ExecStore};
 use jc_pool::Pool;
 use std::alloc::Global;
 use tests_lines::{Answer, Calls};
@@ -25,6 +25,8 @@ pub struct Kept {
     pool: Option<Pool>,
     /// A store of execution data.
     store: Option<ExecStore>,
+    /// Execution data that is fed in pieces.
+    feed: Option<ExecFeed>,
 }
 
 impl Kept {
@@ -37,6 +39,7 @@ impl Kept {
             code: Vec::new(alloc),
             pool: None,
             store: None,
+            feed: None,
         }
     }
 
@@ -56,6 +59,7 @@ impl Kept {
             "class" => classes::answer(alloc, call, out),
             "bootstraps" => bootstraps::answer(alloc, call, out),
             "store" => stores::answer(alloc, &mut self.store, call, out),
+            "feed" => feeds::answer(alloc, &mut self.store, &mut self.feed, call, out),
             group => out.unknown_word(group),
         }
     }

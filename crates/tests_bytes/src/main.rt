@@ -10,6 +10,7 @@ mod classes;
 mod codes;
 mod copies;
 mod descriptors;
+mod feeds;
 mod files;
 mod insns;
 mod kept;

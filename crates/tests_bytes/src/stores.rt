@@ -20,7 +20,7 @@ fn put_probes(name: &[u8], count: u32, out: &mut Answer) {
 }
 
 /// Puts why execution data is refused.
-fn put_why(why: &ExecRefusal, out: &mut Answer) {
+pub fn put_why(why: &ExecRefusal, out: &mut Answer) {
     match why {
         ExecRefusal::BadExec { place } => out.label("BadExec ", place),
         ExecRefusal::OtherVersion { found } => {
