@@ -1,23 +1,28 @@
 -- What is printed of execution data, file after file.
-use Rattle.std.proofs.Common.{◌≡◌, ℕ, ◌+◌, ◌<◌, ◌≤◌, List, [], ◌∷◌, ◌++◌, length, take, slice_index_or, map, Ok, Err, Vec, Bor, refl, sym, ◌∙◌, ap, subst, arith, append_assoc}
+use Rattle.std.proofs.Common.{◌≡◌, ℕ, ◌+◌, ◌<◌, List, [], ◌∷◌, ◌++◌, length, take, get_or, map, Option, None, Some, Ok, Err, Vec, Bor, refl, sym, ◌∙◌, ap, subst, arith, append_assoc, length-append}
 use Rattle.std.proofs.lemmas.List.{append-nil, take_all, map-append}
 use Rattle.std.specs.List.{AllByRecursion}
 use Rattle.std.specs.declared.alloc.Global.{Global}
-use Rattle.jc_bytes.specs.declared.fail.Fail.{Fail}
-use Rattle.jc_bytes.specs.declared.fail.Fail.TheVariants as fails
 use Rattle.jc_exec.specs.declared.refusal.ExecRefusal.{ExecRefusal}
-use Rattle.jc_exec.specs.Answers.{Refuses}
+use Rattle.jc_exec.specs.Answers.{why_of}
+use Rattle.jc_exec.specs.Refusing.{FirstRefusal}
 use Rattle.jc_exec.specs.Store.{Store}
 use Rattle.jc_exec.specs.Union.{ReadsOn}
 use Rattle.jc_command_work.specs.declared.output.Write.{Write as Written}
-use Rattle.jc_command_work.specs.Part.{gives}
-use Rattle.jc_command_exec.specs.ExecData.{IsUnionOf, IsInput, no_data}
-use Rattle.jc_command_exec.specs.ExecInfo.{file_lines, AreInfo, InfoAnswers, informed, exec_info_refused}
-use Rattle.jc_command_work.specs.Seen.{write_seen}
+use Rattle.jc_command_work.specs.declared.stop.Stop.{Stop}
+use Rattle.jc_command_work.specs.Answered.{EndsSo, AnswersWith}
+use Rattle.jc_command_work.specs.Part.{End, gives}
+use Rattle.jc_command_work.specs.Seen.{stop_seen}
 use Rattle.jc_command_work.specs.Step.{Word, Write, to_out}
-use Rattle.jc_command_work.specs.Answered.{AnswersWith}
-use Rattle.jc_command_work.specs.Stopping.{exec_stop}
+use Rattle.jc_command_exec.specs.declared.exec_info.Printed.{Printed}
+use Rattle.jc_command_exec.specs.declared.gathered.Gathered.{Gathered}
+use Rattle.jc_command_exec.specs.declared.gathered.Gathered.TheVariants.{Union, Refused}
+use Rattle.jc_command_exec.specs.ExecData.{IsUnionOf, IsFirstRefusedAlone, no_data}
+use Rattle.jc_command_exec.specs.ExecInfo.{file_lines, AreInfo, InfoAnswers, informed, exec_info_refused}
+use Rattle.jc_command_exec.specs.Gathering.{Joins}
+use Rattle.jc_command_exec.specs.Informing.{IsAlone, PutsNext, Informs, PrintsAll}
 use Rattle.jc_command_exec.proofs.ExecDataLaws.{IsData, union_more, union_of_none, one_union_of}
+use Rattle.jc_command_exec.proofs.GatheredLaws.{input_stays, front_stays, last_input, last_front, stop_is}
 use Rattle.jc_command_exec.proofs.MergeLaws.{text_last}
 
 -- ---- file after file
@@ -58,47 +63,72 @@ data_has_info (x ∷ ps) [] same all = absurd (omega (arith, same))
 data_has_info (x ∷ ps) (t ∷ ts) same ((s, u), all) =
     let rest = data_has_info ps ts (omega (arith, same)) all in (file_lines x s ++ rest.0, (s, rest.0, u, refl, rest.1))
 
--- the lines of the files so far, as writes
-pub record InfoOf (paths : List Word) (texts : List (List ℕ)) (writes : List Written) : Type 0 where
-  pub lines : List (List ℕ)
-  pub writes_are : map write_seen writes ≡ map to_out lines
-  pub info : AreInfo paths texts lines
-
-pub info_start : (paths : List Word) (texts : List (List ℕ)) (writes : List Written) → writes ≡ [] → InfoOf (take 0 paths) (take 0 texts) writes
-info_start paths texts writes none = record { lines = []; writes_are = ap (map write_seen) none; info = refl }
-
-pub info_on : (paths : List Word) (texts : List (List ℕ)) (i : ℕ) (path : Word) (t : List ℕ) (store : Store) (old new : List Written)
-    → i < length paths → i < length texts → path ≡ slice_index_or paths i [] → t ≡ slice_index_or texts i []
-    → InfoOf (take i paths) (take i texts) old → IsUnionOf (t ∷ []) store
-    → map write_seen new ≡ map write_seen old ++ map to_out (file_lines path store)
-    → InfoOf (take (i + 1) paths) (take (i + 1) texts) new
-info_on paths texts i path t store old new within within' is text so_far union grows = record {
-  lines = so_far.lines ++ file_lines path store;
-  writes_are =
-      grows ∙ ap (λ (ws : List Write). ws ++ map to_out (file_lines path store)) so_far.writes_are
-      ∙ sym (map-append to_out so_far.lines (file_lines path store));
-  info = subst (λ (ps : List Word). AreInfo ps (take (i + 1) texts) (so_far.lines ++ file_lines path store)) (sym (text_last paths i path within is))
-      (subst (λ (ts : List (List ℕ)). AreInfo (take i paths ++ path ∷ []) ts (so_far.lines ++ file_lines path store)) (sym (text_last texts i t within' text))
-      (info_more (take i paths) (take i texts) so_far.lines path t store so_far.info union));
-}
-
-pub info_end : (paths : List Word) (texts : List (List ℕ)) (i : ℕ) (writes : Vec Written Global) → length paths ≤ i → length texts ≤ i
-    → InfoOf (take i paths) (take i texts) writes.items → AnswersWith (InfoAnswers paths texts) (Ok writes)
-info_end paths texts i writes all all' so_far =
-    subst (λ (ws : List Write). InfoAnswers paths texts (gives ws)) (sym so_far.writes_are)
-    (informed so_far.lines
-    (subst (λ (ps : List Word). AreInfo ps texts so_far.lines) (take_all i paths all)
-    (subst (λ (ts : List (List ℕ)). AreInfo (take i paths) ts so_far.lines) (take_all i texts all') so_far.info)))
-
-pub info_stops : (paths : List Word) (texts : List (List ℕ)) (i : ℕ) (t : List ℕ) (writes : List Written) (fail : Fail ExecRefusal)
-    (file : Bor (List ℕ)) → IsInput paths texts i file.now t → InfoOf (take i paths) (take i texts) writes
-    → Refuses fail no_data t
-    → AnswersWith (InfoAnswers paths texts) (Err (exec_stop fail i file))
-info_stops paths texts i t writes fails.Memory file input so_far refuses = tt
-info_stops paths texts i t writes (fails.Said refusal) file input so_far refuses =
-    exec_info_refused i file.now refusal
-    (record { text = t; input = input; before = info_is_data (take i paths) (take i texts) so_far.lines so_far.info; refused = refuses })
-
 -- one file alone
 pub data_read : (bytes : List ℕ) (old new : Store) → old ≡ no_data → ReadsOn bytes old new → IsUnionOf (bytes ∷ []) new
 data_read bytes old new empty reads = union_more [] bytes no_data new union_of_none (subst (λ (s : Store). ReadsOn bytes s new) empty reads)
+
+-- ---- a file behind others
+
+pub informs : (refused : Option Stop) (before after : Gathered) (bytes : List ℕ) (index : ℕ) (path : Bor (List ℕ)) (old : List Written) (printed : Printed)
+    → IsAlone refused before → Joins before bytes index path after → PutsNext path.now old after printed
+    → Informs refused old bytes index path printed.refused printed.lines.items
+informs None (Union store) (Union later) bytes index path old printed alone joins (prints, none) =
+    subst (λ (o : Option Stop). Informs None old bytes index path o printed.lines.items) (sym none) (later, data_read bytes store later alone joins, prints)
+informs None (Union store) (Refused stop) bytes index path old printed alone (why, is, refused) puts =
+    subst (λ (o : Option Stop). Informs None old bytes index path o printed.lines.items) (sym puts)
+    (why, is, subst (λ (s : Store). FirstRefusal s bytes (why_of why)) alone refused)
+informs None (Refused stop) after bytes index path old printed alone joins puts = absurd alone
+informs (Some stop) (Union store) after bytes index path old printed alone joins puts = absurd alone
+informs (Some stop) (Refused s) (Union later) bytes index path old printed alone joins puts = absurd joins
+informs (Some stop) (Refused s) (Refused t) bytes index path old printed alone joins puts =
+    subst (λ (o : Option Stop). Informs (Some stop) old bytes index path o printed.lines.items) (sym puts) (joins ∙ alone)
+
+module _ (paths : List Word) (texts : List (List ℕ)) (t : List ℕ) where
+  alone_stays : (i : ℕ) (path : Word) (r : ExecRefusal) → IsFirstRefusedAlone paths texts i path r → IsFirstRefusedAlone paths (texts ++ t ∷ []) i path r
+  alone_stays i path r x = record {
+    text = x.text;
+    input = input_stays paths texts t i path x.text x.input;
+    before = subst (AllByRecursion IsData) (sym (front_stays paths texts t i (omega (arith, x.input.within)))) x.before;
+    refused = x.refused;
+  }
+
+  paths_more : (i : ℕ) (path : Word) → length texts ≡ i → i < length paths → path ≡ get_or paths i [] → take (length (texts ++ t ∷ [])) paths ≡ take (length texts) paths ++ path ∷ []
+  paths_more i path size within is =
+      ap (λ (n : ℕ). take n paths) (length-append texts (t ∷ []) ∙ ap (λ (n : ℕ). n + 1) size) ∙ text_last paths i path within is
+      ∙ ap (λ (n : ℕ). take n paths ++ path ∷ []) (sym size)
+
+  pub prints_on : (i : ℕ) (path : Bor (List ℕ)) (refused later : Option Stop) (old new : List Written) → length texts ≡ i → i < length paths → path.now ≡ get_or paths i []
+      → PrintsAll paths texts refused old → Informs refused old t i path later new → PrintsAll paths (texts ++ t ∷ []) later new
+  prints_on i path None None old new size within is (lines, writes, info) (store, union, prints) = (
+    lines ++ file_lines path.now store,
+    prints ∙ ap (λ (ws : List Write). ws ++ map to_out (file_lines path.now store)) writes ∙ sym (map-append to_out lines (file_lines path.now store)),
+    subst (λ (ps : List Word). AreInfo ps (texts ++ t ∷ []) (lines ++ file_lines path.now store)) (sym (paths_more i path.now size within is))
+        (info_more (take (length texts) paths) texts lines path.now t store info union),
+  )
+  prints_on i path None (Some stop) old new size within is (lines, writes, info) (why, stop_is_so, refused) = (
+    i,
+    path.now,
+    why,
+    record {
+      text = t;
+      input = last_input paths texts t i path.now size is;
+      before = subst (AllByRecursion IsData) (sym (last_front paths texts t i size)) (info_is_data (take (length texts) paths) texts lines info);
+      refused = refused;
+    },
+    stop_is paths texts t stop why i path stop_is_so,
+  )
+  prints_on i path (Some stop) None old new size within is so_far informs = absurd informs
+  prints_on i path (Some stop) (Some same) old new size within is (k, p, r, refused, seen) informs = (k, p, r, alone_stays k p r refused, ap stop_seen informs ∙ seen)
+
+-- ---- what is made of them
+
+pub info_lines : (paths : List Word) (texts : List (List ℕ)) (writes : Vec Written Global) → length texts ≡ length paths → PrintsAll paths texts None writes.items
+    → AnswersWith (InfoAnswers paths texts) (Ok writes)
+info_lines paths texts writes many (lines, is, info) =
+    subst (λ (ws : List Write). InfoAnswers paths texts (gives ws)) (sym is)
+    (informed lines (subst (λ (ps : List Word). AreInfo ps texts lines) (take_all (length texts) paths (omega (arith, many))) info))
+
+pub info_refusal : (paths : List Word) (texts : List (List ℕ)) (writes : List Written) (stop : Stop) → PrintsAll paths texts (Some stop) writes
+    → AnswersWith (InfoAnswers paths texts) (Err stop)
+info_refusal paths texts writes stop (i, path, r, refused, seen) =
+    subst (λ (o : Option End). EndsSo (InfoAnswers paths texts) o) (sym seen) (exec_info_refused i path r refused)

@@ -2,3 +2,5 @@ pub mod ExecDataLaws
 pub mod MergeLaws
 pub mod InfoLaws
 pub mod ExecAnswers
+pub mod PartLaws
+pub mod GatheredLaws

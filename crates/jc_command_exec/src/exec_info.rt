@@ -1,18 +1,17 @@
 //! The command `execinfo`.
-ghost use Rattle.std.specs.Prelude.{◌≡◌, ◌≤◌, ◌<◌, ◌^◌, ◌++◌, ◌∷◌, []};
-ghost use Rattle.std.specs.Prelude.{count_by, length, map, IfOk, IfErr, OnOk, string_bytes};
-ghost use Rattle.jc_bytes.specs.Reader.{most_read};
-ghost use Rattle.jc_exec.specs.Answers.{Refuses};
-ghost use Rattle.jc_command_exec.specs.ExecData.{IsUnionOf, no_data};
+ghost use Rattle.std.specs.Prelude.{◌≡◌, ◌<◌, ◌^◌, ℕ, List, count_by, length, map, IfOk, OnOk, string_bytes};
+ghost use Rattle.jc_command_work.specs.Step.{Word};
+ghost use Rattle.jc_command_exec.specs.Informing.{IsAlone, PutsNext, InformsFile, InformsFiles, IsPrinted};
 ghost use Rattle.jc_command_exec.specs.ExecInfo.{file_line, times_text, session_line, hits_text, record_start, record_line, file_lines, InfoAnswers};
 ghost use Rattle.jc_command_work.specs.Seen.{Prints};
 ghost use Rattle.jc_command_work.specs.Seen.{texts_of};
 ghost use Rattle.jc_command_work.specs.Answered.{AnswersWith, Prepares};
 ghost use Rattle.jc_command_work.specs.Handed.{BetweenFiles};
 
-use jc_bytes::{Fail, Memory};
-use jc_command_work::{InputFiles, Stop, Write, exec_stop, keep, read_files};
-use jc_exec::{ClassHits, ExecRefusal, ExecStore, Session};
+use crate::gathered::{Gathered, read_on};
+use jc_bytes::Memory;
+use jc_command_work::{Stop, Write, keep};
+use jc_exec::{ClassHits, ExecStore, Session};
 use jc_outside::Files;
 use std::alloc::{AllocError, Global};
 
@@ -119,31 +118,94 @@ fn put_file<'a>(
     put_records(alloc, writes, store.classes())
 }
 
-/// The execution data of one file.
-pub fn data_of(alloc: Global, bytes: &[u8]) -> Result<ExecStore, Fail<ExecRefusal>>
-    requires { length bytes.now ≤ most_read }
-    ensures union { IfOk result (λ store. IsUnionOf (bytes.now ∷ []) store) }
-    ensures refused { IfErr result (λ e. Refuses e no_data bytes.now) }
-{
-    let mut store = ExecStore::new(alloc)?;
-    store.read(alloc, bytes)?;
-    Ok(store)
+/// The lines of the files so far, and how the first of them that is refused stops the command.
+#[derive(Drop)]
+struct Printed<'a> {
+    lines: Vec<Write<'a>>,
+    refused: Option<Stop<'a>>,
 }
 
-/// The lines of the files, in order.
-fn informed<'a>(alloc: Global, inputs: &InputFiles<'a>) -> Result<Vec<Write<'a>>, Stop<'a>>
-    requires { length inputs.now.paths < 2 ^ 32 }
-    ensures { AnswersWith (InfoAnswers inputs.entry.now.paths inputs.entry.now.texts) result }
+/// A store of nothing for a file, unless one before it is refused.
+fn alone<'a>(alloc: Global, refused: Option<Stop<'a>>) -> Result<Gathered<'a>, Memory>
+    ensures { IfOk result (λ gathered. IsAlone refused.entry gathered) }
 {
-    let mut writes = Vec::new(alloc);
-    'informing: for index in 0..inputs.len() {
-        let path = inputs.path(index);
-        match data_of(alloc, inputs.text(index)) {
-            Ok(store) => put_file(alloc, &mut writes, path, &store)?,
-            Err(fail) => return Err(exec_stop(fail, index as u32, path)),
-        }
+    match refused {
+        None => Ok(Gathered::Union(ExecStore::new(alloc)?)),
+        Some(stop) => Ok(Gathered::Refused(stop)),
     }
-    Ok(writes)
+}
+
+/// Puts the lines of a file last, unless it is refused, or one before it.
+fn put_next<'a>(
+    alloc: Global,
+    path: &'a str,
+    lines: Vec<Write<'a>>,
+    gathered: Gathered<'a>,
+) -> Result<Printed<'a>, Memory>
+    ensures { IfOk result (λ printed. PutsNext path.entry.now lines.entry.items gathered.entry printed) }
+{
+    let mut lines = lines;
+    match gathered {
+        Gathered::Union(store) => {
+            put_file(alloc, &mut lines, path, &store)?;
+            Ok(Printed {
+                lines,
+                refused: None,
+            })
+        }
+        Gathered::Refused(stop) => Ok(Printed {
+            lines,
+            refused: Some(stop),
+        }),
+    }
+}
+
+/// Reads the file at a path, the one of this index, into a store of its own, and puts its lines last.
+fn inform<'a, F: Files>(
+    alloc: Global,
+    files: &mut F,
+    path: &'a str,
+    index: u32,
+    part: &mut Vec<u8>,
+    printed: Printed<'a>,
+) -> Result<Printed<'a>, Stop<'a>>
+    ensures { BetweenFiles F.Files files.old files.new (InformsFile F.landed path.entry index printed.entry) result }
+{
+    let Printed { lines, refused } = printed;
+    let before = alone(alloc, refused)?;
+    let gathered = read_on(alloc, files, path, index, part, before)?;
+    Ok(put_next(alloc, path, lines, gathered)?)
+}
+
+/// The lines of the files at the paths, in order. Each file is read to its end, part by part, into one buffer.
+fn informed<'a, F: Files>(
+    alloc: Global,
+    files: &mut F,
+    paths: &[&'a str],
+) -> Result<Printed<'a>, Stop<'a>>
+    requires { length paths.now < 2 ^ 32 }
+    ensures { BetweenFiles F.Files files.old files.new (InformsFiles F.landed (texts_of paths.entry.now)) result }
+{
+    let mut part = Vec::new(alloc);
+    let mut printed = Printed {
+        lines: Vec::new(alloc),
+        refused: None,
+    };
+    'informing: for index in 0..paths.len() {
+        printed = inform(alloc, files, paths[index], index as u32, &mut part, printed)?;
+    }
+    Ok(printed)
+}
+
+/// The lines, or how the first file that is refused stops the command.
+fn answer_of<'a>(printed: Printed<'a>) -> Result<Vec<Write<'a>>, Stop<'a>>
+    ensures { (paths : List Word) (texts : List (List ℕ)) → IsPrinted paths texts printed.entry → AnswersWith (InfoAnswers paths texts) result }
+{
+    let Printed { lines, refused } = printed;
+    match refused {
+        None => Ok(lines),
+        Some(stop) => Err(stop),
+    }
 }
 
 /// The writes of `execinfo IN..`.
@@ -155,6 +217,6 @@ pub fn prepare_exec_info<'a, F: Files>(
     requires { length paths.now < 2 ^ 32 }
     ensures { BetweenFiles F.Files files.old files.new (Prepares F.landed (texts_of paths.entry.now) (InfoAnswers (texts_of paths.entry.now))) result }
 {
-    let inputs = read_files(alloc, files, paths)?;
-    informed(alloc, &inputs)
+    let printed = informed(alloc, files, paths)?;
+    answer_of(printed)
 }

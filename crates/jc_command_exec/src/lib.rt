@@ -2,7 +2,9 @@
 #![tactic(auto)]
 
 mod exec_info;
+mod gathered;
 mod merge;
 
-pub use exec_info::{data_of, prepare_exec_info};
+pub use exec_info::prepare_exec_info;
+pub use gathered::{Gathered, read_alone, read_on};
 pub use merge::prepare_merge;

@@ -1,31 +1,41 @@
 //! The command `merge`.
-ghost use Rattle.std.specs.Prelude.{◌≡◌, ◌<◌, ◌^◌, [], ◌∷◌, length, Err, IfOk, IfErr};
-ghost use Rattle.jc_command_exec.specs.ExecData.{IsUnionOf};
+ghost use Rattle.std.specs.Prelude.{◌≡◌, ◌<◌, ◌^◌, ℕ, List, [], ◌∷◌, length, IfOk, IfErr};
+ghost use Rattle.jc_command_exec.specs.Gathering.{IsGathered, ReadsFiles};
 ghost use Rattle.jc_command_work.specs.Step.{Word};
 ghost use Rattle.jc_command_work.specs.Seen.{texts_of};
 ghost use Rattle.jc_command_work.specs.Answered.{AnswersWith, Prepares};
 ghost use Rattle.jc_command_work.specs.Handed.{BetweenFiles};
 ghost use Rattle.jc_command_exec.specs.Merge.{MergeAnswers};
 
-use jc_command_work::{InputFiles, Stop, Write, exec_stop, read_files};
+use crate::gathered::{Gathered, read_on};
+use jc_command_work::{Stop, Write};
 use jc_exec::ExecStore;
 use jc_outside::Files;
 use std::alloc::Global;
 
-/// The union of the execution data in the inputs, in order.
-fn union_of<'a>(alloc: Global, inputs: &InputFiles<'a>) -> Result<ExecStore, Stop<'a>>
-    requires { length inputs.now.paths < 2 ^ 32 }
-    ensures union { IfOk result (λ store. IsUnionOf inputs.entry.now.texts store) }
-    ensures refused { (out : Word) → IfErr result (λ stop. AnswersWith (MergeAnswers out inputs.entry.now.paths inputs.entry.now.texts) (Err stop)) }
+/// The union of the execution data in the files, in order, or the first of them that is refused. Each file is read to its end, part by
+/// part, into one buffer.
+fn union_of<'a, F: Files>(
+    alloc: Global,
+    files: &mut F,
+    paths: &[&'a str],
+) -> Result<Gathered<'a>, Stop<'a>>
+    requires { length paths.now < 2 ^ 32 }
+    ensures { BetweenFiles F.Files files.old files.new (ReadsFiles F.landed (texts_of paths.entry.now)) result }
 {
-    let mut store = ExecStore::new(alloc)?;
-    'merging: for index in 0..inputs.len() {
-        match store.read(alloc, inputs.text(index)) {
-            Ok(()) => {}
-            Err(fail) => return Err(exec_stop(fail, index as u32, inputs.path(index))),
-        }
+    let mut part = Vec::new(alloc);
+    let mut gathered = Gathered::Union(ExecStore::new(alloc)?);
+    'merging: for index in 0..paths.len() {
+        gathered = read_on(
+            alloc,
+            files,
+            paths[index],
+            index as u32,
+            &mut part,
+            gathered,
+        )?;
     }
-    Ok(store)
+    Ok(gathered)
 }
 
 /// A list of one write.
@@ -40,25 +50,28 @@ fn one_write<'a>(alloc: Global, write: Write<'a>) -> Result<Vec<Write<'a>>, Stop
     }
 }
 
-/// The one write of the command, of what it read. The inputs are dropped before what is written is made.
+/// The one write of the command, of what it read.
 fn merged<'a>(
     alloc: Global,
     destfile: &'a str,
-    inputs: InputFiles<'a>,
+    gathered: Gathered<'a>,
 ) -> Result<Vec<Write<'a>>, Stop<'a>>
-    requires { length inputs.paths < 2 ^ 32 }
-    ensures { AnswersWith (MergeAnswers destfile.entry.now inputs.entry.paths inputs.entry.texts) result }
+    ensures { (paths : List Word) (texts : List (List ℕ)) → IsGathered paths texts gathered.entry
+        → AnswersWith (MergeAnswers destfile.entry.now paths texts) result }
 {
-    let store = union_of(alloc, &inputs)?;
-    drop(inputs);
-    let bytes = store.write(alloc)?;
-    one_write(
-        alloc,
-        Write::File {
-            path: destfile,
-            bytes,
-        },
-    )
+    match gathered {
+        Gathered::Union(store) => {
+            let bytes = store.write(alloc)?;
+            one_write(
+                alloc,
+                Write::File {
+                    path: destfile,
+                    bytes,
+                },
+            )
+        }
+        Gathered::Refused(stop) => Err(stop),
+    }
 }
 
 /// The writes of `merge --destfile OUT IN..`.
@@ -71,6 +84,6 @@ pub fn prepare_merge<'a, F: Files>(
     requires { length paths.now < 2 ^ 32 }
     ensures { BetweenFiles F.Files files.old files.new (Prepares F.landed (texts_of paths.entry.now) (MergeAnswers destfile.entry.now (texts_of paths.entry.now))) result }
 {
-    let inputs = read_files(alloc, files, paths)?;
-    merged(alloc, destfile, inputs)
+    let gathered = union_of(alloc, files, paths)?;
+    merged(alloc, destfile, gathered)
 }

@@ -1,4 +1,5 @@
--- The calls that a command makes outside, one step after the other, and what they leave.
+-- The calls that a command makes outside, one step after the other, and what they leave. The reading of a whole file is one step,
+-- whether it is one call or several in a row on one path, each of which reads a part.
 use Rattle.std.specs.Prelude.{◌≡◌, ◌⊎◌, ◌≤◌, ⊤, ℕ, List, [], ◌∷◌, ◌++◌, length, Option, None, Some, option_map}
 use Rattle.std.specs.FinMap.{get, insert}
 use Rattle.jc_bytes.specs.ByteLists.{AreBytes}
@@ -68,6 +69,7 @@ pub data Write : Type 0 where
 
 -- what can be asked of the outside
 pub data Call : Type 0 where
+  -- all that the file at the path holds
   to_read : (path : Word) → Call
   to_list : (folder : Word) → Call
   to_write : (write : Write) → Call

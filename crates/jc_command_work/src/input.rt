@@ -12,7 +12,7 @@ use jc_outside::{FileFault, Files};
 use std::alloc::Global;
 
 /// How a read that failed stops a command.
-fn read_stop<'a>(fault: FileFault, path: &'a str) -> Stop<'a>
+pub fn read_stop<'a>(fault: FileFault, path: &'a str) -> Stop<'a>
     ensures { result ≡ read_stop fault path.entry }
 {
     match fault {

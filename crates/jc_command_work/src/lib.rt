@@ -14,7 +14,7 @@ mod targeted_files;
 
 pub use fault_text::class_refusal_text;
 pub use folders::list_files;
-pub use input::{as_texts, list_folder, read_one};
+pub use input::{as_texts, list_folder, read_one, read_stop};
 pub use input_files::{InputFiles, read_files, read_listed};
 pub use message::{report, report_usage};
 pub use output::{Write, keep, put_err, put_out, write_all, write_file};

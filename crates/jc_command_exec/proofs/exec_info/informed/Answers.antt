@@ -1,28 +1,50 @@
-use Rattle.std.proofs.Common.{ℕ, List, [], ◌∷◌, subst, arith}
-use Rattle.jc_exec.specs.Answers.{Refuses}
-use Rattle.jc_command_exec.specs.ExecData.{IsUnionOf, no_data}
-use Rattle.jc_command_exec.proofs.InfoLaws.{info_on, info_end, info_stops}
-use Rattle.jc_command_exec.proofs.MergeLaws.{input_at}
+use Rattle.std.proofs.Common.{◌++◌, ◌∷◌, [], ℕ, List, Bor, get_or, refl, arith, length-append}
+use Rattle.std.proofs.lemmas.List.{length-map}
+use Rattle.std.proofs.lemmas.Result.{err_from_is_err_and}
+use Rattle.jc_command_work.specs.Seen.{texts_of}
+use Rattle.jc_command_work.proofs.Reaching.{path_failed, path_kept, paths_read}
+use Rattle.jc_command_exec.proofs.GatheredLaws.{path_of}
+use Rattle.jc_command_exec.proofs.InfoLaws.{prints_on}
 use Rattle.jc_command_exec.proofs.exec_info.informed.Goals as goal
 
-pub informing-preserved : goal.informing-preserved
-informing-preserved c =
-    let inputs = c.args.inputs.now in
-    info_on inputs.paths inputs.texts c.informing.index c.path-path.result.now c.text.result.now c.in-Ok.store c.informing.writes.items c.put_file.new.writes.items
-    (omega (arith, c.len-index-end.ensures.paths, c.informing-test.true)) (omega (arith, c.len-index-end.ensures.texts, c.informing-test.true))
-    c.path-path.ensures c.text.ensures.text c.informing.invariant
-    (subst (λ (t : List ℕ). IsUnionOf (t ∷ []) c.in-Ok.store) c.deref.ensures c.in-Ok.ensures.union) c.in_ok-put_file-in-Ok.ensures
+abbrev named : Bor (List ℕ) → List ℕ
+named text = text.now
 
-pub returns-in-Err : goal.returns-in-Err
-returns-in-Err c =
-    let inputs = c.args.inputs.now in
-    let input = input_at inputs.paths inputs.texts c.informing.index c.path-path.result.now c.text.result.now
-    (omega (arith, c.len-index-end.ensures.texts, c.informing-test.true)) c.path-path.ensures c.text.ensures.text in
-    rw c.exec_stop.ensures (info_stops inputs.paths inputs.texts c.informing.index c.text.result.now c.informing.writes.items c.in-Err.fail c.path-path.result input c.informing.invariant
-    (subst (λ (t : List ℕ). Refuses c.in-Err.fail no_data t) c.deref.ensures c.in-Err.ensures.refused))
+abbrev nothing : Bor (List ℕ)
+nothing = record { ref_ptr = (0, 0); now = [] }
+
+pub returns-in_err-printed : goal.returns-in_err-printed
+returns-in_err-printed g c =
+    let p = err_from_is_err_and c.from_residual.result c.from_residual.ensures.1 in
+    let inv = c.informing.invariant in
+    let d = c.in_err-printed.ensures in
+    rw (p.1, p.2) (
+      [],
+      (λ out err outs errs.
+          path_failed g.F.Files.landed named c.args.paths.now c.informing.index nothing c.informing-test.true (named (get_or c.args.paths.now c.informing.index nothing))
+          refl _ _ _ _ _ _ _ (inv.3 out err outs errs) _ (d.1 out err outs errs)),
+      tt,
+    )
+
+pub informing-preserved : goal.informing-preserved
+informing-preserved g c =
+    let inv = c.informing.invariant in
+    let d = c.in_ok-printed.ensures in
+    let paths = c.args.paths.now in (
+      inv.0 ++ d.0 ∷ [],
+      omega (arith, length-append inv.0 (d.0 ∷ []), inv.1),
+      prints_on (texts_of paths) inv.0 d.0 c.informing.index (get_or paths c.informing.index nothing) c.informing.printed.refused c.in_ok-printed.printed.refused
+          c.informing.printed.lines.items c.in_ok-printed.printed.lines.items inv.1 (omega (arith, length-map paths named, c.informing-test.true))
+          (path_of paths c.informing.index nothing c.informing-test.true) inv.2 d.2,
+      (λ out err outs errs.
+          path_kept g.F.Files.landed named paths c.informing.index nothing c.informing-test.true (named (get_or paths c.informing.index nothing)) refl _ _ _ _ _ _ _
+          (inv.3 out err outs errs) d.0 _ refl (d.1 out err outs errs)),
+    )
 
 pub returns : goal.returns
-returns c =
-    let inputs = c.args.inputs.now in
-    info_end inputs.paths inputs.texts c.informing.index c.informing.writes (omega (arith, c.len-index-end.ensures.paths, c.informing-test.false))
-    (omega (arith, c.len-index-end.ensures.texts, c.informing-test.false)) c.informing.invariant
+returns g c =
+    let inv = c.informing.invariant in (
+      inv.0,
+      (λ out err outs errs. paths_read g.F.Files.landed named c.args.paths.now c.informing.index c.informing-test.false _ _ _ _ _ (inv.3 out err outs errs)),
+      (omega (arith, length-map c.args.paths.now named, inv.1, c.informing-test.false), inv.2),
+    )

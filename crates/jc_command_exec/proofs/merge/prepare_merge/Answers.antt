@@ -1,22 +1,18 @@
-use Rattle.std.proofs.Common.{List, subst}
 use Rattle.std.proofs.lemmas.Result.{err_from_is_err_and}
-use Rattle.jc_command_work.specs.Answered.{AnswersWith}
 use Rattle.jc_command_work.specs.Seen.{texts_of, stop_seen}
-use Rattle.jc_command_work.specs.Step.{Word}
 use Rattle.jc_command_work.proofs.AnsweredLaws.{prepared, unprepared}
 use Rattle.jc_command_exec.specs.Merge.{MergeAnswers}
 use Rattle.jc_command_exec.proofs.merge.prepare_merge.Goals as goal
 
-pub returns-in_err-inputs : goal.returns-in_err-inputs
-returns-in_err-inputs g c out err outs errs =
+pub returns-in_err-gathered : goal.returns-in_err-gathered
+returns-in_err-gathered g c out err outs errs =
     let p = err_from_is_err_and c.from_residual.result c.from_residual.ensures.1 in
     let paths = texts_of c.args.paths.now in
     rw (p.1, p.2) (unprepared g.F.Files.landed paths (MergeAnswers c.args.destfile.now paths) _ _ _ _
-    (stop_seen c.in_err-inputs.field-0.0) (c.in_err-inputs.ensures.does out err outs errs))
+    (stop_seen c.in_err-gathered.field-0.0) (c.in_err-gathered.ensures.1 out err outs errs))
 
 pub returns : goal.returns
 returns g c out err outs errs =
     let paths = texts_of c.args.paths.now in
-    let inputs = c.in_ok-inputs.inputs in
-    prepared g.F.Files.landed paths (MergeAnswers c.args.destfile.now paths) _ _ _ _ inputs.texts c.merged.result (c.in_ok-inputs.ensures.does out err outs errs)
-    (subst (λ (ps : List Word). AnswersWith (MergeAnswers c.args.destfile.now ps inputs.texts) c.merged.result) c.in_ok-inputs.ensures.paths c.merged.ensures)
+    let d = c.in_ok-gathered.ensures in
+    prepared g.F.Files.landed paths (MergeAnswers c.args.destfile.now paths) _ _ _ _ d.0 c.merged.result (d.1 out err outs errs) (c.merged.ensures paths d.0 d.2)

@@ -1,18 +1,54 @@
-use Rattle.std.proofs.Common.{ℕ, List, subst, arith}
-use Rattle.jc_exec.specs.Answers.{Refuses}
-use Rattle.jc_exec.specs.Union.{ReadsOn}
-use Rattle.jc_command_exec.proofs.MergeLaws.{merge_on, merge_stops, input_at}
+use Rattle.std.proofs.Common.{◌++◌, ◌∷◌, [], ℕ, List, Bor, get_or, refl, arith, length-append}
+use Rattle.std.proofs.lemmas.Result.{err_from_is_err_and}
+use Rattle.jc_command_work.specs.Seen.{texts_of}
+use Rattle.jc_command_work.proofs.AnsweredLaws.{none_made}
+use Rattle.jc_command_work.proofs.Reaching.{paths_start, path_failed, path_kept, paths_read}
+use Rattle.jc_command_exec.proofs.GatheredLaws.{gathers_on, path_of}
 use Rattle.jc_command_exec.proofs.merge.union_of.Goals as goal
 
-pub merging-preserved : goal.merging-preserved
-merging-preserved c = merge_on c.args.inputs.now.texts c.merging.index c.text.result.now c.merging.store c.read.new.self
-    (omega (arith, c.len-index-end.ensures.texts, c.merging-test.true)) c.text.ensures.text c.merging.invariant
-    (subst (λ (t : List ℕ). ReadsOn t c.merging.store c.read.new.self) c.deref.ensures c.in-Ok.ensures.union)
+abbrev named : Bor (List ℕ) → List ℕ
+named text = text.now
 
-pub returns-in-Err-clause-refused : goal.returns-in-Err-clause-refused
-returns-in-Err-clause-refused c = λ out.
-    let inputs = c.args.inputs.now in
-    let input = input_at inputs.paths inputs.texts c.merging.index c.path.result.now c.text.result.now
-    (omega (arith, c.len-index-end.ensures.texts, c.merging-test.true)) c.path.ensures c.text.ensures.text in
-    rw c.exec_stop.ensures (merge_stops inputs.paths inputs.texts c.merging.index c.text.result.now c.merging.store c.in-Err.fail c.path.result input c.merging.invariant
-    (subst (λ (t : List ℕ). Refuses c.in-Err.fail c.merging.store t) c.deref.ensures c.in-Err.ensures.refused) out)
+abbrev nothing : Bor (List ℕ)
+nothing = record { ref_ptr = (0, 0); now = [] }
+
+pub returns-in_err-new : goal.returns-in_err-new
+returns-in_err-new g c =
+    let p = err_from_is_err_and c.from_residual.result c.from_residual.ensures.1 in
+    rw (p.1, p.2) ([], (λ out err outs errs. none_made g.F.Files.landed _ _ _), tt)
+
+pub merging-init : goal.merging-init
+merging-init g c =
+    ([], refl, record { read = []; blocks = refl; union = c.in_ok-new.ensures.union }, (λ out err outs errs. paths_start g.F.Files.landed named c.args.paths.now _ _))
+
+pub returns-in_err-gathered : goal.returns-in_err-gathered
+returns-in_err-gathered g c =
+    let p = err_from_is_err_and c.from_residual-in_err-gathered.result c.from_residual-in_err-gathered.ensures.1 in
+    let inv = c.merging.invariant in
+    let d = c.in_err-gathered.ensures in
+    rw (p.1, p.2) (
+      [],
+      (λ out err outs errs.
+          path_failed g.F.Files.landed named c.args.paths.now c.merging.index nothing c.merging-test.true (named (get_or c.args.paths.now c.merging.index nothing))
+          refl _ _ _ _ _ _ _ (inv.3 out err outs errs) _ (d.1 out err outs errs)),
+      tt,
+    )
+
+pub merging-preserved : goal.merging-preserved
+merging-preserved g c =
+    let inv = c.merging.invariant in
+    let d = c.in_ok-gathered.ensures in
+    let paths = c.args.paths.now in (
+      inv.0 ++ d.0 ∷ [],
+      omega (arith, length-append inv.0 (d.0 ∷ []), inv.1),
+      gathers_on (texts_of paths) inv.0 d.0 c.merging.index (get_or paths c.merging.index nothing) c.merging.gathered c.in_ok-gathered.gathered inv.1
+          (path_of paths c.merging.index nothing c.merging-test.true) inv.2 d.2,
+      (λ out err outs errs.
+          path_kept g.F.Files.landed named paths c.merging.index nothing c.merging-test.true (named (get_or paths c.merging.index nothing)) refl _ _ _ _ _ _ _
+          (inv.3 out err outs errs) d.0 _ refl (d.1 out err outs errs)),
+    )
+
+pub returns : goal.returns
+returns g c =
+    let inv = c.merging.invariant in
+    (inv.0, (λ out err outs errs. paths_read g.F.Files.landed named c.args.paths.now c.merging.index c.merging-test.false _ _ _ _ _ (inv.3 out err outs errs)), inv.2)

@@ -1,7 +1,15 @@
-use Rattle.std.proofs.Common.{take}
-use Rattle.jc_command_exec.specs.ExecData.{IsUnionOf}
+use Rattle.std.proofs.Common.{◌≡◌, ℕ, List, Option, Bor, length}
+use Rattle.jc_command_work.specs.Seen.{texts_of}
+use Rattle.jc_command_work.specs.Step.{outside, counts}
+use Rattle.jc_command_work.proofs.Reaching.{Reads}
+use Rattle.jc_command_exec.specs.Gathering.{IsGathered}
 use Rattle.jc_command_exec.proofs.merge.union_of.Given as goal
 
--- the store is the union of the texts so far
+-- what has come of the files so far; whatever is read of the paths that are left comes behind their texts
 abbrev pub invariant-merging : goal.invariant-merging
-invariant-merging l = IsUnionOf (take l.index l.inputs.texts) l.store
+invariant-merging g l =
+    let F = g.F.Files in
+    (texts : List (List ℕ)) × (length texts ≡ l.index) × IsGathered (texts_of l.fn.paths) texts l.gathered
+    × ((out err : Option (List ℕ)) (outs errs : ℕ) → Reads F.landed (λ (t : Bor (List ℕ)). t.now) l.fn.paths l.index
+    (outside (F.contents l.fn.files) out err) (outside (F.contents l.files) out err)
+    (counts (F.read_faults l.fn.files) (F.write_faults l.fn.files) outs errs) (counts (F.read_faults l.files) (F.write_faults l.files) outs errs) texts)
