@@ -13,16 +13,18 @@ use Rattle.jc_command_classes.specs.Report.{changed_of, first_of_each_id, report
 use Rattle.jc_command_classes.specs.declared.class_report.Looked.{Looked}
 use Rattle.jc_command_work.specs.declared.output.Write.{Write as Written}
 use Rattle.jc_command_work.specs.declared.output.Write.TheVariants as written
-use Rattle.jc_command_work.specs.Part.{gives}
+use Rattle.jc_command_work.specs.Part.{End, gives}
 use Rattle.jc_command_work.specs.declared.status.Fault.{Fault}
 use Rattle.jc_command_work.specs.declared.status.Fault.TheVariants as faults
 use Rattle.jc_command_work.specs.declared.stop.Stop.{Stop}
 use Rattle.jc_command_work.specs.declared.stop.Stop.TheVariants as stops
 use Rattle.jc_command_work.specs.Step.{Word, Write, to_file}
+use Rattle.jc_command_exec.specs.declared.gathered.Gathered.TheVariants.{Refused}
 use Rattle.jc_command_exec.specs.ExecData.{IsUnionOf, no_data}
+use Rattle.jc_command_exec.specs.Gathering.{IsGathered}
 use Rattle.jc_command_work.specs.Seen.{write_seen}
 use Rattle.jc_command_classes.specs.ReportSteps.{counted_classes, LooksAtAll, ReportsWith}
-use Rattle.jc_command_work.specs.Answered.{refusing, AnswersWith}
+use Rattle.jc_command_work.specs.Answered.{refusing, EndsSo, AnswersWith}
 use Rattle.jc_command_work.specs.Stopping.{exec_stop}
 use Rattle.jc_command_classes.proofs.CountedLaws.{are_counted}
 use Rattle.jc_command_exec.proofs.ExecDataLaws.{union_of_none}
@@ -74,14 +76,7 @@ answers_data out name path paths text texts store (Err (stops.Write p)) union st
 answers_data out name path paths text texts store (Err stops.Output) union stop = absurd stop
 answers_data out name path paths text texts store (Err (stops.Clash fault line)) union stop = absurd stop
 
-pub answers_refused : (out name : Word) (path : Bor Word) (paths : List Word) (text : List ℕ) (texts : List (List ℕ)) (fail : Fail ExecRefusal)
-    → Refuses fail no_data text → AnswersWith (ReportAnswers out name (Some path.now) paths (text ∷ texts)) (Err (exec_stop fail 0 path))
-answers_refused out name path paths text texts fails.Memory refuses = tt
-answers_refused out name path paths text texts (fails.Said refusal) refuses =
-    report_refused 0 path.now refusal (record {
-      text = text;
-      input = record { within = omega arith; path_is = refl; text_is = refl };
-      store = no_data;
-      before = union_of_none;
-      refused = refuses;
-    })
+pub answers_refused : (out name path : Word) (paths : List Word) (text : List ℕ) (texts : List (List ℕ)) (stop : Stop) → IsGathered (path ∷ []) (text ∷ []) (Refused stop)
+    → AnswersWith (ReportAnswers out name (Some path) paths (text ∷ texts)) (Err stop)
+answers_refused out name path paths text texts stop (index, p, refusal, refused, seen) =
+    subst (λ (o : Option End). EndsSo (ReportAnswers out name (Some path) paths (text ∷ texts)) o) (sym seen) (report_refused index p refusal refused)

@@ -16,6 +16,7 @@ use Rattle.jc_report.specs.declared.row.Counted.{Counted}
 use Rattle.jc_command_classes.specs.declared.class_report.Data.{Data}
 use Rattle.jc_command_classes.specs.declared.class_report.Looked.{Looked}
 use Rattle.jc_command_classes.specs.declared.class_report.Seen.{Seen}
+use Rattle.jc_command_classes.specs.declared.options.ReportOptions.{ReportOptions}
 use Rattle.jc_command_classes.specs.declared.report.ExecInput.{ExecInput}
 use Rattle.jc_command_classes.specs.declared.class_report.Seen.TheVariants as seens
 use Rattle.jc_command_work.specs.declared.output.Write.{Write as Written}
@@ -23,6 +24,7 @@ use Rattle.jc_command_work.specs.declared.status.Fault.TheVariants as faults
 use Rattle.jc_command_work.specs.declared.stop.Stop.{Stop}
 use Rattle.jc_command_work.specs.declared.stop.Stop.TheVariants as stops
 use Rattle.jc_command_work.specs.Seen.{write_seen}
+use Rattle.jc_command_exec.specs.Gathering.{IsGathered}
 use Rattle.jc_command_classes.specs.Report.{ReportedFile, refused_class, unchanged_class, changed_class, IsItem, AreItems, lines_of, changed_of}
 use Rattle.jc_command_classes.specs.Report.{record_of, hits_of, clash_with, clash_of, first_clash, first_of_each_id, counted_with, report_text, ReportAnswers}
 use Rattle.jc_command_classes.specs.Lines.{refused_line}
@@ -36,18 +38,19 @@ abbrev pub data_records : Option (Bor Data) → List ClassHits
 data_records None = []
 data_records (Some d) = d.now.store.classes
 
--- the path of the execution data, if a file of it is named, and the text that was read of it
+-- the path of the execution data, if a file of it is named
 abbrev pub exec_path : Option ExecInput → Option Word
 exec_path None = None
 exec_path (Some e) = Some e.path.now
 
-abbrev pub exec_texts : Option ExecInput → List (List ℕ)
-exec_texts None = []
-exec_texts (Some e) = e.bytes ∷ []
+-- the text of the execution data, if a file of it is named: what has come of it is what was read
+abbrev pub IsReadOf : Option ExecInput → List (List ℕ) → Type 0
+IsReadOf None texts = texts ≡ []
+IsReadOf (Some e) texts = (text : List ℕ) × (texts ≡ text ∷ []) × IsGathered (e.path.now ∷ []) (text ∷ []) e.gathered
 
--- the answer of a report by the execution data that was read, if any
-abbrev pub ReportBy : (csv name : Word) → Option ExecInput → (paths : List Word) → (texts : List (List ℕ)) → Answer → Type 0
-ReportBy csv name exec paths texts = ReportAnswers csv name (exec_path exec) paths (exec_texts exec ++ texts)
+-- the answer of a report by the execution data, if any, of which these texts were read
+abbrev pub ReportBy : ReportOptions → Option ExecInput → List (List ℕ) → (paths : List Word) → (texts : List (List ℕ)) → Answer → Type 0
+ReportBy options exec read paths texts = ReportAnswers options.csv.now options.name.now (exec_path exec) paths (read ++ texts)
 
 abbrev pub data_path : Option (Bor Data) → Option Word
 data_path None = None

@@ -1,28 +1,28 @@
 //! The command `report`.
-ghost use Rattle.std.specs.Prelude.{◌≡◌, ◌≤◌, ◌<◌, ◌^◌, ◌∷◌, ◌++◌, [], Some, None, length, map, IfOk, IfSome};
-ghost use Rattle.jc_bytes.specs.Reader.{most_read};
+ghost use Rattle.std.specs.Prelude.{◌≡◌, ◌∷◌, ◌++◌, [], ℕ, List, Some, None, IfOk};
+ghost use Rattle.jc_command_exec.specs.Gathering.{IsGathered};
 ghost use Rattle.jc_command_classes.specs.Report.{report_text, ReportAnswers};
-ghost use Rattle.jc_command_classes.specs.ReportSteps.{data_records, data_path, ReportBy, CountsFiles, ReportsWith};
+ghost use Rattle.jc_command_classes.specs.ReportSteps.{data_records, data_path, IsReadOf, ReportBy, CountsFiles, ReportsWith};
 ghost use Rattle.jc_command_work.specs.Seen.{words_of};
 ghost use Rattle.jc_command_work.specs.Answered.{AnswersWith, Prepares};
 ghost use Rattle.jc_command_work.specs.Handed.{BetweenFiles};
 
 use crate::class_report::{Data, Looked, look_at_all};
 use crate::options::ReportOptions;
-use jc_bytes::{Bytes, Memory};
-use jc_command_exec::data_of;
-use jc_command_work::{InputFiles, Stop, Write, exec_stop, read_listed};
+use jc_bytes::Memory;
+use jc_command_exec::Gathered;
+use jc_command_work::{InputFiles, Stop, Write, read_listed};
 use jc_outside::Files;
 use jc_report::{Counted, csv_text, rows};
 use std::alloc::Global;
 use std::marker::Sync;
 use std::thread::Threads;
 
-/// The execution data of a report, and the file that it was read from.
+/// The execution data of a report, or how it stops the command, and the file that it was read from.
 #[derive(Drop)]
 pub struct ExecInput<'a> {
     pub path: &'a str,
-    pub bytes: Bytes,
+    pub gathered: Gathered<'a>,
 }
 
 /// The CSV text of classes.
@@ -97,21 +97,19 @@ fn reported_by_data<'a, R: Threads + Sync>(
     rt: &R,
     alloc: Global,
     options: &ReportOptions<'a>,
-    exec: &ExecInput<'a>,
+    exec: ExecInput<'a>,
     inputs: &InputFiles<'_>,
 ) -> Result<Vec<Write<'a>>, Stop<'a>>
-    requires { length exec.now.bytes ≤ most_read }
-    ensures { AnswersWith (ReportAnswers options.entry.now.csv.now options.entry.now.name.now (Some exec.entry.now.path.now) inputs.now.paths (exec.now.bytes ∷ inputs.now.texts)) result }
+    ensures { (t : List ℕ) → IsGathered (exec.entry.path.now ∷ []) (t ∷ []) exec.entry.gathered
+        → AnswersWith (ReportAnswers options.entry.now.csv.now options.entry.now.name.now (Some exec.entry.path.now) inputs.now.paths (t ∷ inputs.now.texts)) result }
 {
-    match data_of(alloc, &exec.bytes) {
-        Ok(store) => {
-            let exec_data = Data {
-                path: exec.path,
-                store,
-            };
+    let ExecInput { path, gathered } = exec;
+    match gathered {
+        Gathered::Union(store) => {
+            let exec_data = Data { path, store };
             reported(rt, alloc, options, Some(&exec_data), inputs)
         }
-        Err(fail) => Err(exec_stop(fail, 0, exec.path)),
+        Gathered::Refused(stop) => Err(stop),
     }
 }
 
@@ -123,12 +121,12 @@ fn reported_of<'a, R: Threads + Sync>(
     exec: Option<ExecInput<'a>>,
     inputs: &InputFiles<'_>,
 ) -> Result<Vec<Write<'a>>, Stop<'a>>
-    requires { IfSome exec (λ e. length e.bytes ≤ most_read) }
-    ensures { AnswersWith (ReportBy options.entry.now.csv.now options.entry.now.name.now exec.entry inputs.now.paths inputs.now.texts) result }
+    ensures { (read : List (List ℕ)) → IsReadOf exec.entry read
+        → AnswersWith (ReportBy options.entry.now exec.entry read inputs.now.paths inputs.now.texts) result }
 {
     match exec {
         None => reported_without_data(rt, alloc, options, inputs),
-        Some(exec) => reported_by_data(rt, alloc, options, &exec, inputs),
+        Some(exec) => reported_by_data(rt, alloc, options, exec, inputs),
     }
 }
 
@@ -141,9 +139,8 @@ pub fn prepare_report<'a, R: Threads + Sync, F: Files>(
     exec: Option<ExecInput<'a>>,
     paths: &'a [String],
 ) -> Result<Vec<Write<'a>>, Stop<'a>>
-    requires { IfSome exec (λ e. length e.bytes ≤ most_read) }
-    ensures { BetweenFiles F.Files files.old files.new (Prepares F.landed (words_of paths.entry.now)
-        (ReportBy options.entry.now.csv.now options.entry.now.name.now exec.entry (words_of paths.entry.now))) result }
+    ensures { (read : List (List ℕ)) → IsReadOf exec.entry read → BetweenFiles F.Files files.old files.new (Prepares F.landed (words_of paths.entry.now)
+        (ReportBy options.entry.now exec.entry read (words_of paths.entry.now))) result }
 {
     let inputs = read_listed(alloc, files, paths)?;
     reported_of(rt, alloc, options, exec, &inputs)

@@ -1,13 +1,12 @@
 //! The commands, each with all that it reads, writes and says.
-ghost use Rattle.std.specs.Prelude.{◌≤◌, ◌<◌, ◌^◌, length, map, IfSome};
-ghost use Rattle.jc_bytes.specs.Reader.{most_read};
+ghost use Rattle.std.specs.Prelude.{◌≤◌, ◌<◌, ◌^◌, ℕ, List, length, map};
 ghost use Rattle.jc_paths.specs.Looks.{file_view};
 ghost use Rattle.jc_command_words.specs.Commands.{exec_info, class_info, cover_sample, files_of};
 ghost use Rattle.jc_command_words.specs.Seen.{instrument_called, run_called, merge_called, report_called, cover_called, command_seen};
 ghost use Rattle.jc_command_work.specs.Ending.{Ends};
 ghost use Rattle.jc_command_work.specs.Handed.{OnOutside};
 ghost use Rattle.jc_command_work.specs.Seen.{texts_of};
-ghost use Rattle.jc_command_classes.specs.ReportSteps.{exec_path, exec_texts};
+ghost use Rattle.jc_command_classes.specs.ReportSteps.{exec_path, IsReadOf};
 ghost use Rattle.jc_top.specs.Bounds.{IsBounded};
 ghost use Rattle.jc_top.specs.Work.{reporting, work_of};
 
@@ -16,7 +15,7 @@ use jc_command_classes::{
     ExecInput, ReportOptions, prepare_class_info, prepare_instrument, prepare_report,
 };
 use jc_command_cover::CoverOptions;
-use jc_command_exec::{prepare_exec_info, prepare_merge};
+use jc_command_exec::{prepare_exec_info, prepare_merge, read_alone};
 use jc_command_run::{RunOptions, prepare_run};
 use jc_command_words::{Command, CoverWords, InstrumentWords, MergeWords, ReportWords, RunWords};
 use jc_command_work::{Outside, Resources, Status, list_files, read_one};
@@ -96,9 +95,8 @@ fn report_files<R: Threads + Sync, F: Files, O: Sink, E: Sink>(
     words: &ReportWords<'_>,
     exec: Option<ExecInput<'_>>,
 ) -> Status
-    requires { IfSome exec (λ e. length e.bytes ≤ most_read) }
-    ensures { OnOutside F.Files O.Sink E.Sink outside.old outside.new
-        (Ends F.landed (reporting words.now.csv.now words.now.name.now (exec_path exec.entry) (exec_texts exec.entry) (map file_view words.now.files.items)))
+    ensures { (xs : List (List ℕ)) → IsReadOf exec.entry xs → OnOutside F.Files O.Sink E.Sink outside.old outside.new
+        (Ends F.landed (reporting words.now.csv.now words.now.name.now (exec_path exec.entry) xs (map file_view words.now.files.items)))
         result }
 {
     let paths = match list_files(alloc, outside.files, &words.files) {
@@ -125,9 +123,9 @@ fn report<R: Threads + Sync, F: Files, O: Sink, E: Sink>(
     let Some(path) = words.exec else {
         return report_files(rt, alloc, outside, words, None);
     };
-    match read_one(alloc, outside.files, path) {
-        Ok(bytes) => {
-            let input = Some(ExecInput { path, bytes });
+    match read_alone(alloc, outside.files, path) {
+        Ok(gathered) => {
+            let input = Some(ExecInput { path, gathered });
             report_files(rt, alloc, outside, words, input)
         }
         Err(stop) => jc_command_work::report(alloc, outside.err, stop),
