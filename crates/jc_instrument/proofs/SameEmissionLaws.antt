@@ -1,5 +1,5 @@
 -- The instrumented code of a body that was read under two lists of names: its frames say the same by names, and the rest is equal.
-use Rattle.std.proofs.Common.{◌≡◌, ◌⊎◌, inl, inr, ℕ, zero, suc, ◌+◌, ◌-◌, ◌<◌, ◌≤◌, Bool, true, false, ◌&&◌, ◌||◌, nat_eq, List, [], ◌∷◌, ◌++◌, length, map, take, Option, Some, None, refl, sym, ◌∙◌, ap, ap₂, arith, if◌then◌else◌}
+use Rattle.std.proofs.Common.{◌≡◌, ◌⊎◌, inl, inr, ℕ, zero, suc, ◌+◌, ◌-◌, ◌<◌, ◌≤◌, Bool, true, false, ◌&&◌, ◌||◌, nat_eq, List, [], ◌∷◌, ◌++◌, length, map, take, Option, Some, None, refl, sym, ◌∙◌, ap, ap₂, arith}
 use Rattle.std.specs.List.{list_any, take-map}
 use Rattle.std.specs.Prelude.{is_some, is_none}
 use Rattle.std.proofs.lemmas.Bool.{cases_lt}
@@ -21,8 +21,8 @@ use Rattle.jc_plan.specs.declared.branch.Branch.{Branch}
 use Rattle.jc_plan.specs.Plan.{lead_probe}
 use Rattle.jc_plan.specs.Probed.{probe_of}
 use Rattle.jc_layout.specs.LaidBody.{with_place}
-use Rattle.jc_layout.specs.Layout.{is_wide, chosen_text}
-use Rattle.jc_layout.specs.Merged.{merged}
+use Rattle.jc_layout.specs.Layout.{chosen, chosen_text}
+use Rattle.jc_layout.specs.Merged.{merged, used_frames}
 use Rattle.jc_instrument_code.specs.CodeText.{code_text, counted_text, row_text}
 use Rattle.jc_instrument_code.specs.TwinCode.{code_attributes, offset_in, twin_code, written_frames}
 use Rattle.jc_emit.specs.Marks.{unplaced}
@@ -37,7 +37,7 @@ use Rattle.jc_instrument_reread.specs.WrittenCode.{by_method}
 use Rattle.jc_instrument.specs.SameAnalysis.{without_frames}
 use Rattle.jc_instrument.proofs.SameAnalysisLaws.{same_but_frames, same_lead}
 use Rattle.jc_instrument_reread.proofs.SameBodyLaws.{AreSame, same_state}
-use Rattle.jc_instrument.proofs.SameFramesLaws.{SayTheSame, both_same, merged_same, pieces_same}
+use Rattle.jc_instrument.proofs.SameFramesLaws.{SayTheSame, both_same, merged_same, pieces_same, used_same}
 use Rattle.jc_instrument.proofs.SameItemsLaws.{same_image, same_items, same_land, same_late, same_lead_place, same_probe}
 
 -- all that is emitted but the frames
@@ -311,12 +311,9 @@ same_emission names others a b same first states more array other named called p
 module _ (names others : Names) (e f : Emitted) (same : IsSameEmission names others e f) where
   pub same_written : written_frames names e ≡ written_frames others f
   same_written =
-      ap (λ (x : Emitted). map (type_state_at names) (if is_wide x.code then merged e.frames e.wide_frames else e.frames)) same.rest ∙ by (is_wide f.code)
-    where
-      by : (wide : Bool) → SayTheSame names others (if wide then merged e.frames e.wide_frames else e.frames)
-          (if wide then merged f.frames f.wide_frames else f.frames)
-      by true = merged_same names others e.frames f.frames e.wide_frames f.wide_frames same.frames same.wide_frames
-      by false = same.frames
+      ap (λ (x : Emitted). map (type_state_at names) (merged e.frames (used_frames (chosen x.code) e.wide_frames))) same.rest
+      ∙ merged_same names others e.frames f.frames (used_frames (chosen f.code) e.wide_frames) (used_frames (chosen f.code) f.wide_frames) same.frames
+      (used_same names others (chosen f.code) e.wide_frames f.wide_frames same.wide_frames)
 
   pub same_twin_code : (pool : PoolValue) (method frames_name : ℕ) → twin_code pool method frames_name names e ≡ twin_code pool method frames_name others f
   unfolding twin_code

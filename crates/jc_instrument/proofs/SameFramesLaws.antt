@@ -3,8 +3,9 @@ use Rattle.std.proofs.Common.{◌≡◌, ℕ, zero, suc, Bool, true, false, List
 use Rattle.std.proofs.lemmas.List.{map-append}
 use Rattle.jc_methods.specs.VerificationTypes.{Names, TypeStateAt, type_state_at}
 use Rattle.jc_bytes.specs.PlainLists.{pieces}
+use Rattle.jc_methods.specs.Widened.{WideSet}
 use Rattle.jc_methods.specs.declared.body.FrameAt.{FrameAt}
-use Rattle.jc_layout.specs.Merged.{merged, with_frame}
+use Rattle.jc_layout.specs.Merged.{is_used_by, merged, used_frames, with_frame}
 use Rattle.jc_instrument_reread.proofs.SameBodyLaws.{same_head, same_tail}
 
 module _ (names others : Names) where
@@ -42,3 +43,16 @@ module _ (names others : Names) where
   merged_same fs gs [] (y ∷ last) p q = absurd (no_frame (sym q))
   merged_same fs gs (x ∷ more) [] p q = absurd (no_frame q)
   merged_same fs gs (x ∷ more) (y ∷ last) p q = put_same x y (merged fs more) (merged gs last) (same_head q) (merged_same fs gs more last p (same_tail q))
+
+  pub used_same : (wide : WideSet) (fs gs : List FrameAt) → SayTheSame fs gs → SayTheSame (used_frames wide fs) (used_frames wide gs)
+  used_same wide [] [] all = refl
+  used_same wide [] (y ∷ gs) all = absurd (no_frame (sym all))
+  used_same wide (x ∷ fs) [] all = absurd (no_frame all)
+  used_same wide (x ∷ fs) (y ∷ gs) all =
+      ap (λ (m : ℕ). map (type_state_at names) (if is_used_by wide m then x ∷ used_frames wide fs else used_frames wide fs))
+      (ap (λ (s : TypeStateAt). s.at) (same_head all)) ∙ by (is_used_by wide y.at) (used_same wide fs gs (same_tail all))
+    where
+      by : (t : Bool) → SayTheSame (used_frames wide fs) (used_frames wide gs)
+          → SayTheSame (if t then x ∷ used_frames wide fs else used_frames wide fs) (if t then y ∷ used_frames wide gs else used_frames wide gs)
+      by true later = ap₂ (λ (s : TypeStateAt) (ss : List TypeStateAt). s ∷ ss) (same_head all) later
+      by false later = later

@@ -1,6 +1,6 @@
 -- The frames of instrumented code can be written.
-use Rattle.std.proofs.Common.{◌≡◌, ◌⊎◌, inl, inr, ⊎_elim, ℕ, zero, suc, ◌+◌, ◌-◌, ◌<◌, ◌≤◌, Bool, true, false, ◌&&◌, ◌||◌, List, [], ◌∷◌, length, map, take, drop, Option, Some, None, refl, sym, ◌∙◌, ap, subst, arith}
-use Rattle.std.specs.Prelude.{Contains, replicate, sum_by, insert, is_some, is_none, slice_index, if◌then◌else◌}
+use Rattle.std.proofs.Common.{◌≡◌, ◌⊎◌, inl, inr, ⊎_elim, ℕ, zero, suc, ◌+◌, ◌-◌, ◌<◌, ◌≤◌, Bool, ◌&&◌, ◌||◌, List, [], ◌∷◌, length, map, take, drop, Option, Some, None, refl, sym, ◌∙◌, ap, subst, arith}
+use Rattle.std.specs.Prelude.{Contains, sum_by, insert, is_some, is_none, slice_index}
 use Rattle.std.specs.List.{AllByRecursion}
 use Rattle.std.proofs.lemmas.Bool.{cases_lt}
 use Rattle.std.proofs.lemmas.List.{get_or_past, length-map}
@@ -11,7 +11,7 @@ use Rattle.jc_methods.specs.Flow.{flow_of}
 use Rattle.jc_methods.specs.VerificationTypes.{Names, IsNumbered, IsNumberedState}
 use Rattle.jc_bytes.specs.PlainLists.{pieces}
 use Rattle.jc_methods.specs.WellMade.{IsKind, IsWellMadeOfAnySize, kind_slots}
-use Rattle.jc_methods.specs.Widened.{WideSet, listed}
+use Rattle.jc_methods.specs.Widened.{listed}
 use Rattle.jc_methods.specs.Opcode as opcode
 use Rattle.jc_methods.specs.declared.body.Body.{Body}
 use Rattle.jc_methods.specs.declared.body.FrameAt.{FrameAt}
@@ -46,17 +46,16 @@ use Rattle.jc_emit.proofs.BuiltLaws.{length_twin}
 use Rattle.jc_emit.proofs.FrameListsLaws.{in_piece, if_listed}
 use Rattle.jc_emit.proofs.RowLaws.{total_grows}
 use Rattle.jc_emit.proofs.WideFrameLaws.{emitted}
-use Rattle.jc_layout.specs.Layout.{is_wide}
-use Rattle.jc_layout.specs.Merged.{merged}
+use Rattle.jc_layout.specs.Layout.{chosen}
+use Rattle.jc_layout.specs.Merged.{merged, used_frames}
 use Rattle.jc_layout.proofs.ChoiceLaws.{chosen_count}
 use Rattle.jc_layout.proofs.LayoutFramesLaws.{frames_laid}
-use Rattle.jc_layout.proofs.MergedLaws.{merged_cases, merged_rises}
+use Rattle.jc_layout.proofs.MergedLaws.{merged_cases, merged_rises, used_cases}
 use Rattle.jc_layout.specs.declared.layouts.Laid.{Laid}
 use Rattle.jc_instrument_code.specs.Given.{AreFrames, IsLaid}
 use Rattle.jc_instrument_code.specs.TwinCode.{chosen_frames}
 use Rattle.jc_instrument_code.proofs.LaidLaws.{can_be_written, laid_length, laid_rise}
 use Rattle.jc_instrument_reread.specs.WrittenCode.{by_method}
-use Rattle.jc_instrument.specs.RoomCauses.{probed_code}
 use Rattle.jc_instrument.proofs.GivenLaws.{layout_same}
 use Rattle.jc_instrument.proofs.ProbingLaws.{array_stands, emission_code}
 
@@ -389,13 +388,13 @@ module _ (names : Names) (b : Body) (first : ℕ) (states : List State) (array :
   unfolding emission
   wide_done f c = each_wide_done b first states array names are array_is few_locals few_stack f c
 
-  chosen_done : (t : Bool) (f : FrameAt) → Contains (if t then merged e.frames e.wide_frames else e.frames) f → IsFine f
-  chosen_done false f c = narrow_done f c
-  chosen_done true f c = ⊎_elim (λ old. narrow_done f old) (λ more. wide_done f more) (merged_cases e.frames e.wide_frames f c)
+  chosen_done : (f : FrameAt) → Contains (chosen_frames e) f → IsFine f
+  chosen_done f c =
+      ⊎_elim (λ old. narrow_done f old) (λ more. wide_done f (used_cases (chosen e.code) e.wide_frames f more).0)
+      (merged_cases e.frames (used_frames (chosen e.code) e.wide_frames) f c)
 
-  chosen_rise : (t : Bool) → RiseFrom 0 (if t then merged e.frames e.wide_frames else e.frames)
-  chosen_rise false = told.frames.rising
-  chosen_rise true = merged_rises e.frames e.wide_frames told.frames.rising
+  chosen_rise : RiseFrom 0 (chosen_frames e)
+  chosen_rise = merged_rises e.frames (used_frames (chosen e.code) e.wide_frames) told.frames.rising
 
   code_count : length e.code ≡ last
   code_count =
@@ -403,29 +402,25 @@ module _ (names : Names) (b : Body) (first : ℕ) (states : List State) (array :
       ∙ length-map (twin_items b first (narrow fetches.Member)) (insn_of (unplaced (integer_in [])) b.arg_slots) ∙ length_twin b first (narrow fetches.Member)
 
   all_done : AllByRecursion IsFine (chosen_frames e)
-  all_done = all_listed IsFine (chosen_frames e) (chosen_done (is_wide e.code))
+  all_done = all_listed IsFine (chosen_frames e) chosen_done
 
   pub has_frames : AreFrames e (length names) (chosen_frames e)
   has_frames = record {
     are = refl;
     few =
-        let most = few_frames last (length names) (chosen_frames e) (chosen_rise (is_wide e.code)) all_done (omega arith) in
+        let most = few_frames last (length names) (chosen_frames e) chosen_rise all_done (omega arith) in
         let insns = few_insns e l laid in
         let count = code_count in
         omega (arith, most, insns, count);
-    rising = chosen_rise (is_wide e.code);
+    rising = chosen_rise;
     each = subst (λ (n : ℕ). AllByRecursion (FitsFull (n + 1) (length names)) (chosen_frames e)) (sym code_count)
         (each_mapped IsFine (FitsFull (last + 1) (length names)) (chosen_frames e) (λ f done. fits last (length names) f done) all_done);
   }
 
 -- ---- the frames that are made for a layout
 
--- the set in which each of so many jumps is wide, or none is
-abbrev pub wide_in : (code : List Insn) → Laid → WideSet
-wide_in code l = listed (replicate (length code) l.wide)
-
 module _ (names : Names) (b : Body) (first : ℕ) (states : List State) (l : Laid) (frames : List FrameAt) (well : IsWellMadeOfAnySize b)
-    (framed : AreLayoutFrames names b first states fetches.Member (wide_in (probed_code b first) l) frames)
+    (framed : AreLayoutFrames names b first states fetches.Member (listed l.wide) frames)
     (laid : IsLaid (emission b first states (by_method framed.given.array)) l) where
   abbrev array_of : ℕ
   array_of = framed.given.array
@@ -435,10 +430,9 @@ module _ (names : Names) (b : Body) (first : ℕ) (states : List State) (l : Lai
 
   pub frames_chosen : frames ≡ chosen_frames of
   frames_chosen =
-      framed.are ∙ layout_same b first states framed.given (by_method array_of) framed.fetch_is refl (wide_in (probed_code b first) l)
-      ∙ frames_laid b first states (by_method array_of) names well framed.fit framed.array_is l.wide (replicate (length (probed_code b first)) l.wide)
-      (ap (λ (code : List Insn). replicate (length code) l.wide) (sym (emission_code b first states array_of)))
-      ∙ ap (λ (t : Bool). if t then merged of.frames of.wide_frames else of.frames) laid.wide
+      framed.are ∙ layout_same b first states framed.given (by_method array_of) framed.fetch_is refl (listed l.wide)
+      ∙ frames_laid b first states (by_method array_of) names well framed.fit framed.array_is (listed l.wide)
+      ∙ ap (λ (wide : List Bool). merged of.frames (used_frames (listed wide) of.wide_frames)) laid.wide
 
   pub frames_written : AreStates names b states → HasRoom b → CanBeWritten l.starts (length names) frames
   unfolding emission

@@ -1,6 +1,5 @@
 -- What is written of one body is its work's, whatever the names with which it was read.
-use Rattle.std.proofs.Common.{◌≡◌, ℕ, ◌+◌, ◌-◌, ◌≤◌, Bool, List, [], ◌∷◌, length, map, sym, ◌∙◌, ap, subst, arith}
-use Rattle.std.specs.Prelude.{replicate}
+use Rattle.std.proofs.Common.{◌≡◌, ℕ, ◌≤◌, Bool, List, [], ◌∷◌, length, map, sym, ◌∙◌, ap, subst, arith}
 use Rattle.std.specs.List.{AllByRecursion}
 use Rattle.std.proofs.lemmas.List.{length-map}
 use Rattle.jc_methods.specs.VerificationTypes.{AreNumberedFrames, Grows, Names, TypeStateAt, type_state_at}
@@ -24,10 +23,8 @@ use Rattle.jc_emit.specs.Stages.{AreLayoutFrames, moved_tables}
 use Rattle.jc_kinds.specs.Answers.{AreStates}
 use Rattle.jc_methods.specs.declared.kind.State.{State}
 use Rattle.jc_methods.specs.Widened.{WideSet, listed}
-use Rattle.jc_methods.specs.declared.insn.Insn.{Insn}
 use Rattle.jc_methods.specs.declared.probe_members.Fetch.TheVariants as fetches
 use Rattle.jc_emit.specs.declared.tables.MovedTables.{MovedTables}
-use Rattle.jc_layout.proofs.ChoiceLaws.{chosen_count}
 use Rattle.jc_instrument_code.specs.Given.{AreNamed, IsLaid, IsNamedAt}
 use Rattle.jc_instrument_code.specs.LaidText.{laid_text}
 use Rattle.jc_instrument_code.specs.TwinCode.{chosen_frames, kind_vars_name, lines_name, vars_name, written_frames}
@@ -37,15 +34,14 @@ use Rattle.jc_instrument_reread.proofs.SameBodyLaws.{AreSame, grown_same}
 use Rattle.jc_instrument_reread.specs.WrittenCode.{by_method}
 use Rattle.jc_instrument.specs.BodiesWithStates.{BodyWithStates, emitted_of}
 use Rattle.jc_instrument.specs.Ready.{IsReady}
-use Rattle.jc_instrument.specs.RoomCauses.{probed_code}
 use Rattle.jc_instrument.specs.Writing.{AreFramesOf, IsWorkOf, IsWrittenBody}
 use Rattle.jc_instrument.specs.declared.ready.ReadyBody.{ReadyBody}
 use Rattle.jc_instrument.proofs.KeptPoolLaws.{same_places}
 use Rattle.jc_instrument.proofs.KeptStatesLaws.{states_grown}
 use Rattle.jc_instrument.proofs.KeptTextLaws.{same_laid_text}
-use Rattle.jc_instrument.proofs.ProbingLaws.{emission_code, emission_tables}
+use Rattle.jc_instrument.proofs.ProbingLaws.{emission_tables}
 use Rattle.jc_instrument.proofs.SameEmissionLaws.{IsSameEmission, same_emission, same_twin_code, same_written}
-use Rattle.jc_instrument.proofs.WritableLaws.{frames_chosen, frames_written, wide_in}
+use Rattle.jc_instrument.proofs.WritableLaws.{frames_chosen, frames_written}
 
 -- ---- more names
 
@@ -69,32 +65,16 @@ ready_grown old new r grows ready = record {
 -- ---- the frames can be written
 
 -- which jumps of its instrumented code are wide
-abbrev pub wide_of : ReadyBody → (first : ℕ) → WideSet
-wide_of r first = wide_in (probed_code r.body first) r.laid
-
--- one offset more than there are instructions
-pub starts_count : (names : Names) (r : ReadyBody) (first : ℕ) → IsReady names r → r.plan ≡ plan_of r.body first
-    → length r.laid.starts ≡ length (probed_code r.body first) + 1
-starts_count names r first ready is =
-    let e = emission r.body first [] (by_method 0) in
-    ap (λ (s : List ℕ). length s) (ready.laid first [] 0 is).starts
-    ∙ chosen_count e.code ∙ ap (λ (code : List Insn). length code + 1) (emission_code r.body first [] 0)
-
--- each of so many jumps is wide, or none is
-wide_is : (names : Names) (r : ReadyBody) (first : ℕ) (jumps : List Bool) → IsReady names r → r.plan ≡ plan_of r.body first
-    → jumps ≡ replicate (length r.laid.starts - 1) r.laid.wide → listed jumps ≡ wide_of r first
-wide_is names r first jumps ready is jumps_are =
-    ap listed jumps_are
-    ∙ ap (λ (n : ℕ). listed (replicate n r.laid.wide)) (let count = starts_count names r first ready is in omega (arith, count))
+abbrev pub wide_of : ReadyBody → WideSet
+wide_of r = listed r.laid.wide
 
 pub frames_of : (old now : Names) (r : ReadyBody) (first : ℕ) (frames : List FrameAt) (states : List State) (jumps : List Bool) → Grows old now → IsReady old r
-    → r.plan ≡ plan_of r.body first → states ≡ r.states → jumps ≡ replicate (length r.laid.starts - 1) r.laid.wide
-    → AreLayoutFrames now r.body first states fetches.Member (listed jumps) frames → AreFramesOf now r.body first (wide_of r first) frames
-frames_of old now r first frames states jumps grows ready is same jumps_are framed = record {
+    → states ≡ r.states → jumps ≡ r.laid.wide
+    → AreLayoutFrames now r.body first states fetches.Member (listed jumps) frames → AreFramesOf now r.body first (wide_of r) frames
+frames_of old now r first frames states jumps grows ready same jumps_are framed = record {
   states = states;
   are = subst (AreStates now r.body) (sym same) (states_grown old now r.body r.states grows ready.numbered ready.states);
-  framed = subst (λ (wide : WideSet). AreLayoutFrames now r.body first states fetches.Member wide frames)
-      (wide_is old r first jumps ready is jumps_are) framed;
+  framed = subst (λ (wide : List Bool). AreLayoutFrames now r.body first states fetches.Member (listed wide) frames) jumps_are framed;
 }
 
 pub few_bytes : (names : Names) (r : ReadyBody) → IsReady names r → length r.laid.code ≤ 65535
@@ -107,7 +87,7 @@ few_rows r first tables few is =
     omega (arith, same, few)
 
 pub can_be_written : (now : Names) (r : ReadyBody) → IsReady now r → (frames : List FrameAt) (first : ℕ) → r.plan ≡ plan_of r.body first
-    → AreFramesOf now r.body first (wide_of r first) frames → CanBeWritten r.laid.starts (length now) frames
+    → AreFramesOf now r.body first (wide_of r) frames → CanBeWritten r.laid.starts (length now) frames
 can_be_written now r ready frames first is are =
     frames_written now r.body first are.states r.laid frames ready.made.of_any_size are.framed (ready.laid first are.states are.framed.given.array is) are.are
     ready.room
@@ -123,7 +103,7 @@ numbered_of starts names frames can = all_numbered frames can.each
 -- ---- what is written
 
 module _ (old now others : Names) (array : ℕ) (r : ReadyBody) (w : BodyWithStates) (grows : Grows old now) (ready : IsReady old r)
-    (of : IsWorkOf old others array r w) (frames : List FrameAt) (are : AreFramesOf now r.body w.first (wide_of r w.first) frames) where
+    (of : IsWorkOf old others array r w) (frames : List FrameAt) (are : AreFramesOf now r.body w.first (wide_of r) frames) where
   abbrev own : Emitted
   own = emission r.body w.first are.states (by_method are.framed.given.array)
 

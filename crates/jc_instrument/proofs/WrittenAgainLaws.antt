@@ -36,7 +36,7 @@ use Rattle.jc_methods.specs.ProbeMembers.{data_type, init_name, init_type, most_
 use Rattle.jc_emit.specs.Emission.{HasFrameStates, IsArrayNumber}
 use Rattle.jc_emit.specs.Straddling.{NoneStraddles}
 use Rattle.jc_emit.proofs.WideFrameLaws.{emitted}
-use Rattle.jc_layout.specs.Layout.{is_wide, chosen_length, chosen_starts, chosen_text}
+use Rattle.jc_layout.specs.Layout.{chosen_length, chosen_list, chosen_starts, chosen_text}
 use Rattle.jc_layout.specs.declared.layouts.Laid.{Laid}
 use Rattle.jc_layout.proofs.ChoiceLaws.{text_length}
 use Rattle.jc_instrument_code.specs.CodeText.{attribute}
@@ -165,7 +165,7 @@ classes_of pool names array (w ∷ works) all i x at = by i at (λ j there. clas
 -- the layout of a work, whether or not it fits
 abbrev laid_of : (array : ℕ) → BodyWithStates → Laid
 laid_of array x = record {
-  wide = is_wide (emitted_of array x).code;
+  wide = chosen_list (emitted_of array x).code;
   starts = chosen_starts (emitted_of array x).code;
   code = chosen_text (emitted_of array x).code;
 }

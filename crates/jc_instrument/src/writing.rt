@@ -1,5 +1,5 @@
 //! The instrumented code of a body as text, while the pool takes the classes that its frames name.
-ghost use Rattle.std.specs.Prelude.{◌≡◌, ◌-◌, ◌≤◌, ℕ, length, map, replicate, IfOk, IfErr};
+ghost use Rattle.std.specs.Prelude.{◌≡◌, ◌≤◌, ℕ, length, map, IfOk, IfErr};
 ghost use Rattle.std.specs.List.{AllByRecursion};
 ghost use Rattle.jc_methods.specs.VerificationTypes.{Grows, Names as ClassNames, type_state_at};
 ghost use Rattle.jc_frames.specs.FullTable.{CanBeWritten, HasPlace, RefusesClasses, named_by_all};
@@ -19,14 +19,6 @@ use jc_layout::Laid;
 use jc_methods::Fetch;
 use jc_pool::{Pool, PoolFull};
 use std::alloc::Global;
-
-/// Of each instruction that was laid out whether its jump is wide.
-fn jump_widths(alloc: Global, laid: &Laid) -> Result<Vec<bool>, Memory>
-    requires { 1 ≤ length laid.now.starts }
-    ensures { IfOk result (λ jumps. jumps.items ≡ replicate (length laid.now.starts - 1) laid.now.wide) }
-{
-    Ok(vec![in alloc; laid.wide; laid.starts.len() - 1]?)
-}
 
 /// What the Code attribute of an instrumented method holds (JVM Specification 4.7.3).
 ///
@@ -98,8 +90,7 @@ pub fn body_text(
         fetch: Fetch::Member,
         places: &insn_places,
     };
-    let wide = jump_widths(alloc, &laid)?;
-    let parts = emit_parts(alloc, &placed, &states, &wide, names)?;
+    let parts = emit_parts(alloc, &placed, &states, &laid.wide, names)?;
     take_classes(alloc, &parts.frames, names, pool)?;
     Ok(code_text(alloc, &parts, &laid, names, places, pool)?)
 }

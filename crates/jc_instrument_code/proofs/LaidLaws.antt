@@ -6,13 +6,14 @@ use Rattle.jc_methods.specs.declared.body.FrameAt.{FrameAt}
 use Rattle.jc_methods.specs.declared.emitted.Emitted.{Emitted}
 use Rattle.jc_methods.specs.declared.insn.Insn.{Insn}
 use Rattle.jc_frames.specs.FullTable.{AreRisingOffsets, AreShort, CanBeWritten, FitsFull}
-use Rattle.jc_methods.specs.Widened.{WideSet}
+use Rattle.jc_methods.specs.Widened.{WideSet, listed}
 use Rattle.jc_insn.specs.Sizes.{size_of, StartFrom, StartAt}
 use Rattle.jc_insn.proofs.SizeSumsLaws.{below_last, first_start, some_size}
-use Rattle.jc_layout.specs.Layout.{layout_set, IsChosen, is_wide, starts_of, chosen_starts, chosen_text, chosen_length, most_bytes}
+use Rattle.jc_layout.specs.Layout.{IsChosen, chosen, chosen_list, starts_of, chosen_starts, chosen_text, chosen_length, most_bytes}
 use Rattle.jc_layout.specs.declared.layouts.Laid.{Laid}
 use Rattle.jc_layout.proofs.ChoiceLaws.{chosen_count, chosen_stand, text_length}
-use Rattle.jc_layout.proofs.LayoutLaws.{one_choice, one_list}
+use Rattle.jc_layout.proofs.LayoutLaws.{one_list}
+use Rattle.jc_layout.proofs.RoundsLaws.{chosen_is, one_chosen}
 use Rattle.jc_instrument_code.specs.Given.{AreFrames, IsLaid}
 
 rises : (wide : WideSet) (n at : ℕ) (code : List Insn) (starts : List ℕ) → StartFrom wide n at code starts → AreRisingOffsets starts
@@ -42,7 +43,7 @@ module _ (e : Emitted) (l : Laid) (laid : IsLaid e l) where
       omega (arith, size, few)
 
   pub laid_rise : AreRisingOffsets l.starts
-  laid_rise = subst AreRisingOffsets (sym laid.starts) (rises (layout_set (is_wide e.code)) 0 0 e.code (chosen_starts e.code) (chosen_stand e.code))
+  laid_rise = subst AreRisingOffsets (sym laid.starts) (rises (chosen e.code) 0 0 e.code (chosen_starts e.code) (chosen_stand e.code))
 
   pub laid_short : AreShort l.starts
   laid_short = subst AreShort (sym laid.starts) short
@@ -52,7 +53,7 @@ module _ (e : Emitted) (l : Laid) (laid : IsLaid e l) where
           let all = chosen_starts e.code in
           let stand = chosen_stand e.code in
           let read = get_or_default all k d 0 lt in
-          let last = below_last (layout_set (is_wide e.code)) 0 0 e.code all stand k lt in
+          let last = below_last (chosen e.code) 0 0 e.code all stand k lt in
           let few = laid_length in
           omega (arith, read, last, few)
 
@@ -65,15 +66,16 @@ module _ (e : Emitted) (l : Laid) (laid : IsLaid e l) where
     each = subst (λ (n : ℕ). AllByRecursion (FitsFull n names) frames) (sym count) are.each;
   }
 
-starts_are : (code : List Insn) (starts : List ℕ) (wide : Bool) → IsChosen code wide → StartAt (layout_set wide) code starts → starts ≡ chosen_starts code
+starts_are : (code : List Insn) (starts : List ℕ) (wide : List Bool) → IsChosen code wide → StartAt (listed wide) code starts → starts ≡ chosen_starts code
 unfolding chosen_starts
-starts_are code starts wide chosen stand = one_list wide code starts stand ∙ ap (λ (t : Bool). starts_of t code) (one_choice code wide chosen)
+starts_are code starts wide is stand =
+    one_list (listed wide) code starts stand ∙ ap (λ (w : List Bool). starts_of (listed w) code) (one_chosen code wide (chosen_list code) is (chosen_is code))
 
-pub is_laid : (e : Emitted) (l : Laid) → IsChosen e.code l.wide → StartAt (layout_set l.wide) e.code l.starts → l.code ≡ chosen_text e.code
+pub is_laid : (e : Emitted) (l : Laid) → IsChosen e.code l.wide → StartAt (listed l.wide) e.code l.starts → l.code ≡ chosen_text e.code
     → length l.code ≡ chosen_length e.code → chosen_length e.code ≤ most_bytes → IsLaid e l
-is_laid e l chosen stand text size few = record {
-  wide = one_choice e.code l.wide chosen;
-  starts = starts_are e.code l.starts l.wide chosen stand;
+is_laid e l is stand text size few = record {
+  wide = one_chosen e.code l.wide (chosen_list e.code) is (chosen_is e.code);
+  starts = starts_are e.code l.starts l.wide is stand;
   text = text;
   few = omega (arith, size, few);
 }

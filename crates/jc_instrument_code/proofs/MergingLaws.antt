@@ -9,14 +9,10 @@ use Rattle.jc_bytes.proofs.AppendingLaws.{drop_is}
 use Rattle.jc_methods.specs.FrameOrder.{RiseFrom}
 use Rattle.jc_methods.specs.declared.body.FrameAt.{FrameAt}
 use Rattle.jc_layout.specs.Merged.{with_frame, merged}
-use Rattle.jc_layout.proofs.MergedLaws.{with_before, with_behind, with_same}
+use Rattle.jc_layout.proofs.MergedLaws.{rising_weaker, with_before, with_behind, with_same}
 use Rattle.jc_instrument_code.specs.Merging.{other_first, same_first}
 
 -- ---- frames in rising order
-
-pub rising_weaker : (a b : ℕ) (frames : List FrameAt) → b ≤ a → RiseFrom a frames → RiseFrom b frames
-rising_weaker a b [] le r = tt
-rising_weaker a b (f ∷ frames) le r = let above = r.0 in (omega (arith, le, above), r.1)
 
 rising_left : (frames : List FrameAt) (k a : ℕ) → RiseFrom a frames → RiseFrom 0 (drop k frames)
 rising_left frames zero a r = rising_weaker a 0 frames (omega arith) r

@@ -9,14 +9,14 @@ use Rattle.jc_pool.specs.Adding.{IsFirst}
 use Rattle.jc_pool.specs.Lookup.{utf8_of}
 use Rattle.jc_pool.specs.Pool.{PoolValue}
 use Rattle.jc_frames.specs.FullTable.{FitsFull, HasPlace, named_by_all}
-use Rattle.jc_layout.specs.Layout.{is_wide, chosen_starts, chosen_text, most_bytes}
+use Rattle.jc_layout.specs.Layout.{chosen_list, chosen_starts, chosen_text, most_bytes}
 use Rattle.jc_layout.specs.declared.layouts.Laid.{Laid}
 use Rattle.jc_instrument_code.specs.declared.code.CodePlaces.{CodePlaces}
 use Rattle.jc_instrument_code.specs.TwinCode.{chosen_frames, written_frames, lines_name, vars_name, kind_vars_name}
 
 -- this is the layout that is chosen for the code, and its bytes are as many as the code of a method has at most
 pub record IsLaid (e : Emitted) (l : Laid) : Type 0 where
-  pub wide : l.wide ≡ is_wide e.code
+  pub wide : l.wide ≡ chosen_list e.code
   pub starts : l.starts ≡ chosen_starts e.code
   pub text : l.code ≡ chosen_text e.code
   pub few : length l.code ≤ most_bytes

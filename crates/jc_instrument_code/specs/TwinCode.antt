@@ -1,5 +1,5 @@
 -- The text of the Code attribute of an instrumented method.
-use Rattle.std.specs.Prelude.{ℕ, List, ◌++◌, map, codes, if◌then◌else◌, slice_index}
+use Rattle.std.specs.Prelude.{ℕ, List, ◌++◌, map, codes, slice_index}
 use Rattle.jc_methods.specs.VerificationTypes.{Names, TypeStateAt, type_state_at}
 use Rattle.jc_methods.specs.declared.body.FrameAt.{FrameAt}
 use Rattle.jc_methods.specs.declared.emitted.Emitted.{Emitted}
@@ -8,16 +8,16 @@ use Rattle.jc_class.specs.declared.class_file.Attribute.{Attribute}
 use Rattle.jc_emit.specs.declared.tables.MovedTables.{MovedTables}
 use Rattle.jc_frames.specs.FullFrames.{Places}
 use Rattle.jc_layout.specs.LaidBody.{with_place}
-use Rattle.jc_layout.specs.Layout.{is_wide, chosen_starts, chosen_text}
-use Rattle.jc_layout.specs.Merged.{merged}
+use Rattle.jc_layout.specs.Layout.{chosen, chosen_starts, chosen_text}
+use Rattle.jc_layout.specs.Merged.{merged, used_frames}
 use Rattle.jc_instrument_code.specs.CodeText.{code_text, counted_text, row_text, line_text, var_text, table_attributes, frame_attributes}
 use Rattle.jc_instrument_code.specs.FirstPlaces.{text_place, class_place}
 
 -- ---- frames
 
--- the frames that the layout has, which is chosen for the code
+-- the frames of the layout that is chosen for the code, where the places are those of the emitted code
 abbrev pub chosen_frames : Emitted → List FrameAt
-chosen_frames e = if is_wide e.code then merged e.frames e.wide_frames else e.frames
+chosen_frames e = merged e.frames (used_frames (chosen e.code) e.wide_frames)
 
 -- the same, with classes by their names
 abbrev pub written_frames : Names → Emitted → List TypeStateAt

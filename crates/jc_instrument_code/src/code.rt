@@ -126,8 +126,8 @@ pub fn write_laid(
 /// What stands behind the name and the length of the Code attribute of an instrumented method (JVM
 /// Specification 4.7.3), from what is emitted.
 ///
-/// `laid` is the layout of the code, and `frames` has the frames of that layout: those of `emitted`,
-/// or in the wide layout `merged_frames` of both its lists. The classes that they name, and the texts
+/// `laid` is the layout of the code, and `frames` has the frames of that layout: `merged_frames` of those
+/// of `emitted` and of its `wide_frames` that are used. The classes that they name, and the texts
 /// that are needed, stand in the pool.
 ///
 /// # Errors

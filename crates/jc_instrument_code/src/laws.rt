@@ -6,8 +6,9 @@ ghost use Rattle.jc_methods.specs.declared.emitted.Emitted.{Emitted as Emission}
 ghost use Rattle.jc_pool.specs.Adding.{IsFirst};
 ghost use Rattle.jc_pool.specs.Lookup.{class_name_of, utf8_of};
 ghost use Rattle.jc_pool.specs.Pool.{PoolValue};
+ghost use Rattle.jc_methods.specs.Widened.{listed};
 ghost use Rattle.jc_insn.specs.Sizes.{StartAt};
-ghost use Rattle.jc_layout.specs.Layout.{layout_set, IsChosen, chosen_length, chosen_text, most_bytes};
+ghost use Rattle.jc_layout.specs.Layout.{IsChosen, chosen_length, chosen_text, most_bytes};
 ghost use Rattle.jc_layout.specs.declared.layouts.Laid.{Laid as LaidCode};
 ghost use Rattle.jc_instrument_code.specs.FirstPlaces.{class_place, text_place};
 ghost use Rattle.jc_instrument_code.specs.Given.{IsLaid};
@@ -15,7 +16,7 @@ ghost use Rattle.jc_instrument_code.specs.Given.{IsLaid};
 /// A layout as it is answered is the one that is chosen for the code, so a Code attribute can be
 /// written from it.
 pub fn each_layout_can_be_written()
-    ensures { (e : Emission) (l : LaidCode) → IsChosen e.code l.wide → StartAt (layout_set l.wide) e.code l.starts → l.code ≡ chosen_text e.code
+    ensures { (e : Emission) (l : LaidCode) → IsChosen e.code l.wide → StartAt (listed l.wide) e.code l.starts → l.code ≡ chosen_text e.code
         → length l.code ≡ chosen_length e.code → chosen_length e.code ≤ most_bytes → IsLaid e l }
 {}
 

@@ -14,5 +14,5 @@ mod texts;
 pub use code::{CodePlaces, CodeTables, NamedFrames, write_code, write_laid};
 pub use init::{AddedPlaces, write_init};
 pub use laws::{each_layout_can_be_written, first_places};
-pub use merging::{frames_of, merged_frames};
+pub use merging::{merged_frames, used_frames};
 pub use texts::first_text;

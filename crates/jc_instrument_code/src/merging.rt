@@ -1,13 +1,12 @@
-//! The frames of the wide layout.
-ghost use Rattle.std.specs.Prelude.{◌≡◌, IfOk, IsTrue};
+//! The frames of a layout.
+ghost use Rattle.std.specs.Prelude.{◌≡◌, IfOk};
 ghost use Rattle.jc_methods.specs.FrameOrder.{RiseFrom};
-ghost use Rattle.jc_layout.specs.Layout.{is_wide};
-ghost use Rattle.jc_layout.specs.Merged.{merged as merged_list};
+ghost use Rattle.jc_methods.specs.Widened.{listed};
+ghost use Rattle.jc_layout.specs.Merged.{is_used_by, merged as merged_list, used_frames};
 ghost use Rattle.jc_instrument_code.specs.Merging.{other_first, same_first};
-ghost use Rattle.jc_instrument_code.specs.TwinCode.{chosen_frames};
 
 use jc_bytes::{List, Memory, TryClone};
-use jc_methods::{Emitted, FrameAt};
+use jc_methods::{FrameAt, is_listed};
 use std::alloc::Global;
 
 /// Whether the first of the other frames comes next.
@@ -30,9 +29,8 @@ fn is_other_there(frames: &[FrameAt], others: &[FrameAt]) -> bool
     !frames.is_empty() && !others.is_empty() && others[0].at == frames[0].at
 }
 
-/// The frames of both lists in the order of their places (JVM Specification 4.7.4), one at each place, as for the wide
-/// layout of instrumented code: the first list has the frames of the narrow one, and the second those behind its
-/// conditional jumps. Where both have a frame at a place, that of the first list stays.
+/// The frames of both lists in the order of their places (JVM Specification 4.7.4), one at each place, as for a layout
+/// of instrumented code: the first list has the frames of the emitted code, and the second those behind wide jumps. Where both have a frame at a place, that of the first list stays.
 ///
 /// # Errors
 ///
@@ -65,14 +63,31 @@ pub fn merged_frames(
     Ok(all)
 }
 
-/// The frames that a layout of instrumented code has, where `merged` has those of the wide one.
-pub fn frames_of<'a>(emitted: &'a Emitted, merged: &'a [FrameAt], wide: bool) -> &'a [FrameAt]
-    requires wide { wide ≡ is_wide emitted.now.code }
-    requires merged { IsTrue wide → merged.now ≡ merged_list emitted.now.frames emitted.now.wide_frames }
-    ensures { result.now ≡ chosen_frames emitted.now }
+/// Whether the frame stands directly behind a wide jump.
+fn is_used(frame: &FrameAt, wide: &[bool]) -> bool
+    ensures { result ≡ is_used_by (listed wide.now) frame.now.at }
 {
-    if wide {
-        return merged;
+    frame.at > 0 && is_listed(wide, frame.at as usize - 1)
+}
+
+/// Of the frames behind conditional jumps those behind wide ones, which the frames of a layout are
+/// merged with.
+///
+/// # Errors
+///
+/// `Memory` where memory was refused.
+pub fn used_frames(
+    alloc: Global,
+    frames: &[FrameAt],
+    wide: &[bool],
+) -> Result<List<FrameAt>, Memory>
+    ensures { IfOk result (λ used. used ≡ used_frames (listed wide.now) frames.now) }
+{
+    let mut used = List::new(alloc);
+    'using: for frame in frames {
+        if is_used(frame, wide) {
+            used.push(frame.try_clone(alloc)?)?;
+        }
     }
-    &emitted.frames
+    Ok(used)
 }

@@ -46,7 +46,7 @@ use Rattle.jc_emit.specs.Sizes.{narrow, insn_at, early_probe, late_probe, arms_a
 use Rattle.jc_emit.specs.TwinCode.{to_of}
 use Rattle.jc_emit.specs.Written.{integer_in}
 use Rattle.jc_layout.specs.LaidBody.{with_place}
-use Rattle.jc_layout.specs.Layout.{layout_set, is_wide, chosen_starts, chosen_text}
+use Rattle.jc_layout.specs.Layout.{chosen, chosen_starts, chosen_text}
 use Rattle.jc_layout.proofs.FormedLaws.{inverse_form}
 use Rattle.jc_layout.proofs.LayableLaws.{all_formed}
 use Rattle.jc_instrument.specs.RoomCauses.{probed_code}
@@ -293,7 +293,7 @@ module _ (b : Body) (first : ℕ) (small : AllByRecursion HasByte b.code) where
   unfolding chosen_text
   text_are made =
       let code = probed_code b first in
-      code_are (slice_index (chosen_starts code)) (layout_set (is_wide code)) 0 code (chosen_starts code)
+      code_are (slice_index (chosen_starts code)) (chosen code) 0 code (chosen_starts code)
       (recursion_from_All IsWellFormed code (all_formed b first fetches.Member (integer_in []) made.code)) (mapped_byte (twin_items b first (narrow fetches.Member)) items_byte)
 
 -- ---- the code that was read

@@ -8,6 +8,7 @@ use Rattle.jc_methods.specs.declared.insn.Flow.TheVariants as flows
 use Rattle.jc_methods.specs.declared.insn.Insn.{Insn}
 use Rattle.jc_methods.specs.declared.probe_members.Fetch.TheVariants as fetches
 use Rattle.jc_methods.specs.Opcode as opcode
+use Rattle.jc_methods.specs.Widened.{WideSet}
 use Rattle.jc_insn.specs.Sizes.{jump_size, size_of}
 use Rattle.jc_insn.proofs.SizeSumsLaws.{some_size}
 use Rattle.jc_plan.specs.declared.branch.Branch.{Branch}
@@ -18,7 +19,7 @@ use Rattle.jc_emit.specs.Items.{Item, start, image, probe_array, probe_id, probe
 use Rattle.jc_emit.specs.Sizes.{narrow, insn_at, early_probe, late_probe, arms_by, arms_at, arm_sizes, hop_size}
 use Rattle.jc_emit.specs.TwinCode.{to_of}
 use Rattle.jc_emit.specs.Written.{integer_in}
-use Rattle.jc_layout.specs.Layout.{is_wide, chosen_starts, chosen_length, starts_from, starts_of}
+use Rattle.jc_layout.specs.Layout.{chosen, chosen_starts, chosen_length, starts_from, starts_of}
 use Rattle.jc_instrument.specs.RoomCauses.{probed_code}
 use Rattle.jc_instrument_laws.proofs.EmittedFramesLaws.{arms_size}
 
@@ -99,17 +100,17 @@ size_least at wide named v (probe_id id from late) = some_size at wide (insn_of 
 size_least at wide named v (probe_one id from late) = some_size at wide (insn_of named v (probe_one id from late))
 size_least at wide named v (probe_store id from late) = some_size at wide (insn_of named v (probe_store id from late))
 
-ends_at : (wide : Bool) (at : ℕ) (named : TwinPlaces) (v : ℕ) (xs : List Item)
-    → at + weight xs ≤ slice_index (starts_from wide at (map (insn_of named v) xs)) (length (map (insn_of named v) xs))
-ends_at wide at named v [] = omega arith
-ends_at wide at named v (x ∷ xs) =
-    let size = size_least at wide named v x in
-    let rest = ends_at wide (at + size_of at wide (insn_of named v x)) named v xs in
+ends_at : (wide : WideSet) (n at : ℕ) (named : TwinPlaces) (v : ℕ) (xs : List Item)
+    → at + weight xs ≤ slice_index (starts_from wide n at (map (insn_of named v) xs)) (length (map (insn_of named v) xs))
+ends_at wide n at named v [] = omega arith
+ends_at wide n at named v (x ∷ xs) =
+    let size = size_least at (wide n) named v x in
+    let rest = ends_at wide (suc n) (at + size_of at (wide n) (insn_of named v x)) named v xs in
     omega (arith, size, rest)
 
 pub code_least : (b : Body) (first : ℕ) → 5 * length b.code + 7 * total (arms_size b first) (length b.code) ≤ 5 * chosen_length (probed_code b first)
 unfolding chosen_starts starts_of
 code_least b first =
     let items = items_weight b first in
-    let end = ends_at (is_wide (probed_code b first)) 0 (unplaced (integer_in [])) b.arg_slots (twin_items b first (narrow fetches.Member)) in
+    let end = ends_at (chosen (probed_code b first)) 0 0 (unplaced (integer_in [])) b.arg_slots (twin_items b first (narrow fetches.Member)) in
     omega (arith, items, end)

@@ -4,6 +4,7 @@ use Rattle.std.specs.Prelude.{Contains, is_some, is_none}
 use Rattle.std.proofs.lemmas.List.Elements.{Contains-append_cases}
 use Rattle.jc_methods.specs.Flow.{flow_of}
 use Rattle.jc_bytes.specs.PlainLists.{pieces, total}
+use Rattle.jc_methods.specs.Widened.{WideSet}
 use Rattle.jc_methods.specs.declared.body.Body.{Body}
 use Rattle.jc_methods.specs.declared.body.FrameAt.{FrameAt}
 use Rattle.jc_methods.specs.declared.kind.State.{State}
@@ -17,9 +18,9 @@ use Rattle.jc_emit.specs.Items.{lead_of, land_of, image_of}
 use Rattle.jc_emit.specs.Sizes.{narrow, insn_at, late_probe, arms_at, arm_sizes, hop_size}
 use Rattle.jc_emit.specs.TwinFrames.{state_at, left_by, state_behind}
 use Rattle.jc_emit.proofs.FrameListsLaws.{in_piece, if_listed}
-use Rattle.jc_layout.specs.Layout.{is_wide}
-use Rattle.jc_layout.specs.Merged.{merged, with_frame}
-use Rattle.jc_layout.proofs.MergedLaws.{merged_cases}
+use Rattle.jc_layout.specs.Layout.{chosen}
+use Rattle.jc_layout.specs.Merged.{is_used_by, merged, used_frames, with_frame}
+use Rattle.jc_layout.proofs.MergedLaws.{merged_cases, used_cases}
 use Rattle.jc_instrument_code.specs.TwinCode.{chosen_frames}
 
 -- how many instructions the arms of a switch take
@@ -103,14 +104,15 @@ module _ (b : Body) (first : ℕ) (states : List State) (given : Emitting) where
       one_moved (tests_by b first states given (flow_of (insn_at b.code i))) (image_of b first (narrow given.fetch) i + 1)
       (state_behind b states i (late_probe b first i)) f (behind i (late_probe b first i)) p.listed
 
-  chosen_moved : (t : Bool) (f : FrameAt) → Contains (if t then merged narrow_frames further else narrow_frames) f → IsMoved f
-  chosen_moved false f c = narrow_moved f c
-  chosen_moved true f c = ⊎_elim (λ old. narrow_moved f old) (λ more. further_moved f more) (merged_cases narrow_frames further f c)
+  chosen_moved : (wide : WideSet) (f : FrameAt) → Contains (merged narrow_frames (used_frames wide further)) f → IsMoved f
+  chosen_moved wide f c =
+      ⊎_elim (λ old. narrow_moved f old) (λ more. further_moved f (used_cases wide further f more).0)
+      (merged_cases narrow_frames (used_frames wide further) f c)
 
   -- each frame that is written has a moved state
   pub each_moved : (f : FrameAt) → Contains (chosen_frames (emission b first states given)) f → IsMoved f
   unfolding emission
-  each_moved f c = chosen_moved (is_wide (emission b first states given).code) f c
+  each_moved f c = chosen_moved (chosen (emission b first states given).code) f c
 
   -- ---- how many there are
 
@@ -172,14 +174,23 @@ module _ (b : Body) (first : ℕ) (states : List State) (given : Emitting) where
       let one = with_count g (merged fs gs) in
       omega (arith, rest, one)
 
-  chosen_most : (t : Bool) → 5 * length (if t then merged narrow_frames further else narrow_frames) ≤ 15 * length b.code + total (arms_size b first) (length b.code)
-  chosen_most false = let most = narrow_most (length b.code) in omega (arith, most)
-  chosen_most true =
+  used_count : (wide : WideSet) (fs : List FrameAt) → length (used_frames wide fs) ≤ length fs
+  used_count wide [] = omega arith
+  used_count wide (f ∷ fs) = by (is_used_by wide f.at) (used_count wide fs)
+    where
+      by : (t : Bool) → length (used_frames wide fs) ≤ length fs
+          → length (if t then f ∷ used_frames wide fs else used_frames wide fs) ≤ length (f ∷ fs)
+      by true rest = omega (arith, rest)
+      by false rest = omega (arith, rest)
+
+  chosen_most : (wide : WideSet) → 5 * length (merged narrow_frames (used_frames wide further)) ≤ 15 * length b.code + total (arms_size b first) (length b.code)
+  chosen_most wide =
       let most = narrow_most (length b.code) in
       let more = further_most (length b.code) in
-      let both = merged_count narrow_frames further in
-      omega (arith, most, more, both)
+      let used = used_count wide further in
+      let both = merged_count narrow_frames (used_frames wide further) in
+      omega (arith, most, more, used, both)
 
   pub written_most : 5 * length (chosen_frames (emission b first states given)) ≤ 15 * length b.code + total (arms_size b first) (length b.code)
   unfolding emission
-  written_most = chosen_most (is_wide (emission b first states given).code)
+  written_most = chosen_most (chosen (emission b first states given).code)

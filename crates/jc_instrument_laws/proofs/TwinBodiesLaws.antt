@@ -28,7 +28,7 @@ use Rattle.jc_emit.specs.Marks.{TwinPlaces}
 use Rattle.jc_emit.specs.Twin.{Twin}
 use Rattle.jc_emit.specs.TwinBodies.{AreTwinBodies}
 use Rattle.jc_layout.specs.LaidBody.{laid_body, laid_frames}
-use Rattle.jc_layout.specs.Layout.{is_wide}
+use Rattle.jc_layout.specs.Layout.{chosen_list}
 use Rattle.jc_instrument_code.specs.TwinCode.{twin_code, written_frames}
 use Rattle.jc_instrument_reread.specs.Written.{IsWrittenMethod}
 use Rattle.jc_instrument_reread.proofs.LaidFrameLaws.{laid_named}
@@ -85,7 +85,7 @@ work_there (y ∷ works) rising (suc i) x at =
 
 -- ---- the frames of a layout
 
-laid_frames_are : (b : Body) (e : Emitted) (wide : Bool) (fetch : Fetch) (p : TwinPlaces) (uses : List Use)
+laid_frames_are : (b : Body) (e : Emitted) (wide : List Bool) (fetch : Fetch) (p : TwinPlaces) (uses : List Use)
     → (laid_body b e wide fetch p uses).frames ≡ laid_frames wide e
 unfolding laid_body
 laid_frames_are b e wide fetch p uses = refl
@@ -144,8 +144,8 @@ module _ (id : ℕ) (names : Names) (array : ℕ) (works : List BodyWithStates) 
             owner_is
             (is_twin names c (twin_class names array c works pool places) (code_places pool places) array body.method new x.body x.states x.first written);
         named =
-            ap (λ (l : List FrameAt). named_by_all (map (type_state_at names) l)) (laid_frames_are x.body (emitted_of array x) (is_wide (emitted_of array x).code) fetches.Member _ _)
-            ∙ laid_named (is_wide (emitted_of array x).code) names (emitted_of array x);
+            ap (λ (l : List FrameAt). named_by_all (map (type_state_at names) l)) (laid_frames_are x.body (emitted_of array x) (chosen_list (emitted_of array x).code) fetches.Member _ _)
+            ∙ laid_named (chosen_list (emitted_of array x).code) names (emitted_of array x);
       },
     )
 

@@ -21,7 +21,7 @@ use Rattle.jc_body.specs.Coded.{HasCode, IsCoded}
 use Rattle.jc_body.specs.declared.items.Row.{Row}
 use Rattle.jc_emit.specs.Emission.{emission}
 use Rattle.jc_layout.specs.LaidBody.{laid_body, with_place}
-use Rattle.jc_layout.specs.Layout.{chosen_length, chosen_starts, chosen_text, is_wide}
+use Rattle.jc_layout.specs.Layout.{chosen_length, chosen_starts, chosen_text, chosen_list}
 use Rattle.jc_layout.proofs.CallLaws.{laid_spells}
 use Rattle.jc_layout.proofs.ChoiceLaws.{text_length}
 use Rattle.jc_instrument_code.specs.CodeText.{attribute_text, code_text, counted_text, frame_attributes, line_text, row_text, table_attributes, var_text}
@@ -211,7 +211,7 @@ module _ (b : Body) (first : ℕ) (states : List State) (array : ℕ) (well : Is
   insns_spelled : Spells (with_place places.method (chosen_text e.code)) (written_insns places.method e) (written_starts e)
   unfolding laid_body
   insns_spelled =
-      laid_spells b first states (by_method array) refl (is_wide e.code) (calling places.method) [] (chosen_text e.code) (chosen_starts e.code) well w.call refl w.spelled
+      laid_spells b first states (by_method array) refl (chosen_list e.code) (calling places.method) [] (chosen_text e.code) (chosen_starts e.code) well w.call refl w.spelled
 
   some_insns : 1 ≤ length e.code
   some_insns = let size = code_length b first states (by_method array) well in omega (arith, size)

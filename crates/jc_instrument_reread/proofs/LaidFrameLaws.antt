@@ -1,5 +1,5 @@
 -- The frames of a layout are those that are read of the table that is written.
-use Rattle.std.proofs.Common.{◌≡◌, ℕ, ◌+◌, ◌≤◌, Bool, true, false, List, [], ◌∷◌, length, map, Some, if◌then◌else◌, refl, sym, ◌∙◌, ap, ap₂, subst, arith}
+use Rattle.std.proofs.Common.{◌≡◌, ℕ, ◌+◌, ◌≤◌, Bool, List, [], ◌∷◌, length, map, Some, refl, sym, ◌∙◌, ap, subst, arith}
 use Rattle.std.specs.Prelude.{Contains, slice_get, slice_index}
 use Rattle.std.specs.List.{AllByRecursion}
 use Rattle.std.proofs.lemmas.List.{length-map}
@@ -8,6 +8,7 @@ use Rattle.jc_methods.specs.VerificationTypes.{Names, IsNumbered, AreNumberedFra
 use Rattle.jc_methods.specs.Opcode as opcode
 use Rattle.jc_methods.specs.Starts.{AreStarts}
 use Rattle.jc_methods.specs.WellMade.{IsWellMadeOfAnySize}
+use Rattle.jc_methods.specs.Widened.{listed}
 use Rattle.jc_methods.specs.declared.body.Body.{Body}
 use Rattle.jc_methods.specs.declared.body.FrameAt.{FrameAt}
 use Rattle.jc_methods.specs.declared.emitted.Emitted.{Emitted}
@@ -31,7 +32,7 @@ use Rattle.jc_emit.specs.Shift.{image_kind}
 use Rattle.jc_emit.specs.Straddling.{NoneStraddles}
 use Rattle.jc_layout.specs.Layout.{laid_code}
 use Rattle.jc_layout.specs.LaidBody.{laid_form, laid_frames, laid_place, with_prelude}
-use Rattle.jc_layout.specs.Merged.{merged}
+use Rattle.jc_layout.specs.Merged.{merged, used_frames}
 use Rattle.jc_layout.proofs.LaidBodyLaws.{laid_told}
 use Rattle.jc_layout.proofs.LaidCodeLaws.{called, laid_is}
 use Rattle.jc_instrument_reread.proofs.AskedFrameLaws.{asked_good}
@@ -43,28 +44,12 @@ use Rattle.jc_instrument_reread.proofs.WritableFrameLaws.{IsSayable, HasNewAt, I
 -- ---- the frames of a layout
 
 -- the frames that a layout has, at the places of the emitted code
-abbrev pub frames_of : Bool → Emitted → List FrameAt
-frames_of wide e = if wide then merged e.frames e.wide_frames else e.frames
-
-kind_same : (code : List Insn) (k : Kind) → image_kind (laid_place false code) k ≡ k
-kind_same code kinds.Top = refl
-kind_same code k = refl
-
-kinds_same : (code : List Insn) (ks : List Kind) → map (image_kind (laid_place false code)) ks ≡ ks
-kinds_same code [] = refl
-kinds_same code (k ∷ ks) = ap₂ (λ (x : Kind) (xs : List Kind). x ∷ xs) (kind_same code k) (kinds_same code ks)
-
-frames_same : (code : List Insn) (frames : List FrameAt) → map (widened_frame (laid_place false code)) frames ≡ frames
-frames_same code [] = refl
-frames_same code (f ∷ frames) =
-    let locals = kinds_same code f.state.locals in
-    let stack = kinds_same code f.state.stack in
-    λ i. record { at = f.at; state = record { locals = locals i; stack = stack i } } ∷ frames_same code frames i
+abbrev pub frames_of : List Bool → Emitted → List FrameAt
+frames_of wide e = merged e.frames (used_frames (listed wide) e.wide_frames)
 
 -- the frames of the layout are these at their places in the layout
-pub laid_are : (wide : Bool) (e : Emitted) → laid_frames wide e ≡ map (widened_frame (laid_place wide e.code)) (frames_of wide e)
-laid_are false e = sym (frames_same e.code e.frames)
-laid_are true e = refl
+pub laid_are : (wide : List Bool) (e : Emitted) → laid_frames wide e ≡ map (widened_frame (laid_place wide e.code)) (frames_of wide e)
+laid_are wide e = refl
 
 -- ---- numbers of classes
 
@@ -87,14 +72,14 @@ frames_numbered names insns f (g ∷ frames) all = (
   frames_numbered names insns f frames all.1,
 )
 
-pub laid_numbered : (wide : Bool) (names insns : ℕ) (e : Emitted) → AllByRecursion (FitsFull insns names) (frames_of wide e)
+pub laid_numbered : (wide : List Bool) (names insns : ℕ) (e : Emitted) → AllByRecursion (FitsFull insns names) (frames_of wide e)
     → AreNumberedFrames names (laid_frames wide e)
 laid_numbered wide names insns e all =
     subst (AreNumberedFrames names) (sym (laid_are wide e)) (frames_numbered names insns (laid_place wide e.code) (frames_of wide e) all)
 
 -- ---- the classes that are named
 
-pub laid_named : (wide : Bool) (names : Names) (e : Emitted)
+pub laid_named : (wide : List Bool) (names : Names) (e : Emitted)
     → named_by_all (map (type_state_at names) (laid_frames wide e)) ≡ named_by_all (map (type_state_at names) (frames_of wide e))
 laid_named wide names e =
     ap (λ (l : List FrameAt). named_by_all (map (type_state_at names) l)) (laid_are wide e) ∙ all_named_renamed (laid_place wide e.code) names (frames_of wide e)
@@ -112,14 +97,14 @@ module _ (names : Names) (b : Body) (first : ℕ) (states : List State) (given :
   e = emission b first states given
 
   -- the code of the layout
-  pub insns_are : (wide : Bool) (named : TwinPlaces) → named.integer ≡ given.integer
+  pub insns_are : (wide : List Bool) (named : TwinPlaces) → named.integer ≡ given.integer
       → with_prelude given.fetch named (laid_code wide (emission b first states given).code) ≡ map (insn_of named b.arg_slots) (twin_items b first (laid_form b first given.fetch wide))
   unfolding emission
   insns_are wide named same =
       ap (with_prelude given.fetch named) (laid_is b first given.fetch (unplaced given.integer) wide well.code)
       ∙ called b first (laid_form b first given.fetch wide) named (unplaced given.integer) same
 
-  module _ (wide : Bool) (named : TwinPlaces) (g : Ground) (code_is : g.code ≡ map (insn_of named b.arg_slots) (twin_items b first (laid_form b first given.fetch wide)))
+  module _ (wide : List Bool) (named : TwinPlaces) (g : Ground) (code_is : g.code ≡ map (insn_of named b.arg_slots) (twin_items b first (laid_form b first given.fetch wide)))
       (locals_are : g.max_locals ≡ b.max_locals + 1) (stack_is : g.max_stack ≡ b.max_stack + 3) where
     count_is : length g.code ≡ length (twin_items b first (laid_form b first given.fetch wide))
     count_is = ap (λ (l : List Insn). length l) code_is ∙ length-map (twin_items b first (laid_form b first given.fetch wide)) (insn_of named b.arg_slots)

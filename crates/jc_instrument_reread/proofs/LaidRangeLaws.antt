@@ -1,6 +1,5 @@
 -- The numbers of instrumented code fit their types, so its layout spells it.
 use Rattle.std.proofs.Common.{◌≡◌, ◌⊎◌, inl, inr, ℕ, zero, suc, ◌+◌, ◌<◌, ◌≤◌, Bool, true, false, List, [], ◌∷◌, ◌++◌, length, map, get_or, nat_le, nat_lt, pos, w16, All, Option, Some, None, if◌then◌else◌, refl, sym, subst, arith}
-use Rattle.std.specs.Prelude.{slice_index}
 use Rattle.std.specs.List.{AllByRecursion}
 use Rattle.std.proofs.lemmas.Bool.{cases_lt, leb-true}
 use Rattle.std.proofs.lemmas.Int.{fits_signed_from_abs}
@@ -13,7 +12,7 @@ use Rattle.jc_methods.specs.InsnUse.{LocalsWithin, is_of_two_slots}
 use Rattle.jc_bytes.specs.PlainLists.{pieces}
 use Rattle.jc_methods.specs.ProbeMembers.{most_short}
 use Rattle.jc_methods.specs.WellMade.{IsWellMadeOfAnySize}
-use Rattle.jc_methods.specs.Widened.{none_wide, inverted}
+use Rattle.jc_methods.specs.Widened.{inverted}
 use Rattle.jc_methods.specs.declared.body.Body.{Body}
 use Rattle.jc_methods.specs.declared.insn.Flow.{Flow}
 use Rattle.jc_methods.specs.declared.insn.Flow.TheVariants as flows
@@ -29,8 +28,7 @@ use Rattle.jc_plan.specs.Plan.{lead_probe}
 use Rattle.jc_plan.specs.Probed.{probe_of}
 use Rattle.jc_frames.proofs.ReadLaws.{each_of}
 use Rattle.jc_insn.specs.Spells.{Spells}
-use Rattle.jc_insn.specs.Writing.{AllNear, IsInRange, code_text}
-use Rattle.jc_insn.proofs.LaidOutLaws.{IsLaidOut}
+use Rattle.jc_insn.specs.Writing.{IsInRange}
 use Rattle.jc_insn.proofs.PlacesLaws.{in_range_with}
 use Rattle.jc_insn.proofs.WideCodeLaws.{spells_wide}
 use Rattle.jc_emit.specs.Emission.{Emitting, emission}
@@ -38,8 +36,7 @@ use Rattle.jc_emit.specs.Items.{Item, arm_parts, prelude, early_part, hop_part, 
 use Rattle.jc_emit.specs.Marks.{unplaced, push, push_by}
 use Rattle.jc_emit.specs.Sizes.{narrow, arms_at, early_probe, insn_at, late_probe}
 use Rattle.jc_emit.specs.TwinCode.{arm_place, to_of}
-use Rattle.jc_layout.specs.Layout.{layout_set, laid_code, laid_starts, chosen_length, chosen_starts, chosen_text, is_wide}
-use Rattle.jc_layout.proofs.AllOrNoneLaws.{near_so, layout_says, spells_laid}
+use Rattle.jc_layout.specs.Layout.{laid_code, laid_starts, chosen, chosen_length, chosen_list, chosen_starts, chosen_text}
 use Rattle.jc_layout.proofs.ChoiceLaws.{chosen_stand, near}
 use Rattle.jc_layout.proofs.LayableLaws.{all_formed, all_within}
 
@@ -189,25 +186,16 @@ module _ (b : Body) (first : ℕ) (states : List State) (given : Emitting) (well
 
 -- ---- layouts
 
-spelled_by : (code : List Insn) (starts : List ℕ) (wide : Bool) → IsLaidOut (layout_set wide) code starts
-    → (wide ≡ false → AllNear (slice_index starts) none_wide 0 code starts)
-    → Spells (code_text (slice_index starts) (layout_set wide) 0 code starts) (laid_code wide code) (laid_starts wide code starts)
-spelled_by code starts wide out near =
-    spells_laid wide (code_text (slice_index starts) (layout_set wide) 0 code starts) code starts
-    (spells_wide (layout_set wide) code starts out
-    (near_so wide (layout_set wide) (slice_index starts) 0 code starts (layout_says wide 0 code) near))
-
 -- the layout that is chosen spells the instrumented code of a body whose instructions fit their types, where the places of Integers do
 pub chosen_spelled : (b : Body) (first : ℕ) (states : List State) (given : Emitting) → IsWellMadeOfAnySize b → All IsInRange b.code → b.max_locals + 1 ≤ 65535
     → ((id : ℕ) → given.integer id < 65536) → chosen_length (emission b first states given).code ≤ 65535
-    → Spells (chosen_text (emission b first states given).code) (laid_code (is_wide (emission b first states given).code) (emission b first states given).code)
-    (laid_starts (is_wide (emission b first states given).code) (emission b first states given).code (chosen_starts (emission b first states given).code))
+    → Spells (chosen_text (emission b first states given).code) (laid_code (chosen_list (emission b first states given).code) (emission b first states given).code)
+    (laid_starts (chosen_list (emission b first states given).code) (emission b first states given).code (chosen_starts (emission b first states given).code))
 unfolding chosen_text emission
 chosen_spelled b first states given well ranges locals integers few =
     let laid = code b first states given well ranges locals integers in
-    let wide = is_wide laid in
     let starts = chosen_starts laid in
-    spelled_by laid starts wide
+    spells_wide (chosen laid) laid starts
     (record {
       starts_at = chosen_stand laid;
       end = omega (arith, few);
@@ -215,4 +203,4 @@ chosen_spelled b first states given well ranges locals integers few =
       in_range = all_fit b first states given well ranges locals integers;
       places = places_fit b first states given well ranges locals integers;
     })
-    (near laid starts wide refl refl)
+    (near laid starts (chosen_list laid) refl refl)

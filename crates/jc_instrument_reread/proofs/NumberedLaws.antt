@@ -25,7 +25,7 @@ use Rattle.jc_emit.specs.Emission.{Emitting, emission}
 use Rattle.jc_emit.specs.Items.{lead_of}
 use Rattle.jc_emit.specs.TwinTables.{moved_line, moved_row}
 use Rattle.jc_layout.specs.LaidBody.{laid_body, laid_place, placed_var, with_prelude, with_place}
-use Rattle.jc_layout.specs.Layout.{laid_code, laid_starts, chosen_length, chosen_starts, chosen_text, is_wide}
+use Rattle.jc_layout.specs.Layout.{laid_code, laid_starts, chosen_length, chosen_starts, chosen_text, chosen_list}
 use Rattle.jc_instrument_code.specs.TwinCode.{code_attributes, offset_in, written_frames}
 use Rattle.jc_instrument_code.specs.declared.code.CodePlaces.{CodePlaces}
 use Rattle.jc_instrument_reread.specs.ReadCode.{line_at, row_at, var_at, written_coded, written_insns, written_starts, written_tables}
@@ -43,13 +43,13 @@ module _ (code : List Insn) (call : ℕ) where
   offset k = slice_index (chosen_starts code) k
 
   abbrev place : ℕ → ℕ
-  place = laid_place (is_wide code) code
+  place = laid_place (chosen_list code) code
 
   abbrev number : ℕ → ℕ
-  number = insn_number (laid_starts (is_wide code) code (chosen_starts code))
+  number = insn_number (laid_starts (chosen_list code) code (chosen_starts code))
 
   abbrev count : ℕ
-  count = length (with_prelude fetches.Member (calling call) (laid_code (is_wide code) code))
+  count = length (with_prelude fetches.Member (calling call) (laid_code (chosen_list code) code))
 
   row_same : (h : Handler) → IsRowIn (length code) h → handler_of number (row_at offset h) ≡ moved_row place place h
   row_same h is = λ i. record {
@@ -136,7 +136,7 @@ module _ (b : Body) (first : ℕ) (states : List State) (given : Emitting) (well
   end = length e.code
 
   abbrev laid : List Use → Body
-  laid uses = laid_body b e (is_wide e.code) fetches.Member (calling places.method) uses
+  laid uses = laid_body b e (chosen_list e.code) fetches.Member (calling places.method) uses
 
   abbrev last : ℕ
   last = lead_of b first (narrow given.fetch) (length b.code)

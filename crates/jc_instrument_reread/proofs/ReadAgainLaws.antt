@@ -45,7 +45,7 @@ use Rattle.jc_emit.specs.Sizes.{insn_at}
 use Rattle.jc_emit.specs.Twin.{NamesProbes, Twin}
 use Rattle.jc_emit.proofs.TwinCheckedLaws.{verified}
 use Rattle.jc_layout.specs.LaidBody.{laid_body, laid_form, laid_frames, laid_place}
-use Rattle.jc_layout.specs.Layout.{is_wide}
+use Rattle.jc_layout.specs.Layout.{chosen_list}
 use Rattle.jc_layout.proofs.LaidBodyLaws.{laid_twin}
 use Rattle.jc_layout.proofs.LaidCodeLaws.{begins_so}
 use Rattle.jc_instrument_code.specs.CodeText.{frame_attributes}
@@ -76,8 +76,8 @@ module _ (names : Names) (c twin : ClassFile) (places : CodePlaces) (array : ℕ
   abbrev e : Emitted
   e = emission b first states (by_method array)
 
-  abbrev wide : Bool
-  wide = is_wide (emission b first states (by_method array)).code
+  abbrev wide : List Bool
+  wide = chosen_list (emission b first states (by_method array)).code
 
   abbrev call : ℕ
   call = places.method
@@ -106,15 +106,16 @@ module _ (names : Names) (c twin : ClassFile) (places : CodePlaces) (array : ℕ
   few_bytes = is_coded.items.text.few
 
   -- the instructions are those of the twin
-  insns_so : coded.insns ≡ map (insn_of (calling places.method) b.arg_slots) (twin_items b first (laid_form b first fetches.Member (is_wide (emission b first states (by_method array)).code)))
+  insns_so : coded.insns ≡ map (insn_of (calling places.method) b.arg_slots) (twin_items b first (laid_form b first fetches.Member (chosen_list (emission b first states (by_method array)).code)))
   insns_so = insns_are names b first states (by_method array) w.source.well_made w.source.states_are w.source.frame_states w.source.none_straddles w.source.array_is
-      (is_wide (emission b first states (by_method array)).code) (calling places.method) refl
+      (chosen_list (emission b first states (by_method array)).code) (calling places.method) refl
 
-  insns_count : length coded.insns ≡ length (twin_items b first (laid_form b first fetches.Member (is_wide (emission b first states (by_method array)).code)))
+  insns_count : length coded.insns ≡ length (twin_items b first (laid_form b first fetches.Member (chosen_list (emission b first states (by_method array)).code)))
   insns_count = ap (λ (l : List Insn). length l) insns_so ∙ length-map (twin_items b first (laid_form b first fetches.Member wide)) (insn_of (calling call) b.arg_slots)
 
   twin_at : (i : ℕ) (insn : Insn) → slice_get coded.insns i ≡ Some insn
-      → slice_get (map (insn_of (calling places.method) b.arg_slots) (twin_items b first (laid_form b first fetches.Member (is_wide (emission b first states (by_method array)).code)))) i ≡ Some insn
+      → slice_get (map (insn_of (calling places.method) b.arg_slots)
+      (twin_items b first (laid_form b first fetches.Member (chosen_list (emission b first states (by_method array)).code)))) i ≡ Some insn
   twin_at i insn at = ap (λ (l : List Insn). slice_get l i) (sym insns_so) ∙ at
 
   locals_are : (emission b first states (by_method array)).max_locals ≡ b.max_locals + 1
@@ -155,7 +156,7 @@ module _ (names : Names) (c twin : ClassFile) (places : CodePlaces) (array : ℕ
   ground = ground_of twin.pool coded
 
   abbrev laid : List FrameAt
-  laid = laid_frames (is_wide (emission b first states (by_method array)).code) (emission b first states (by_method array))
+  laid = laid_frames (chosen_list (emission b first states (by_method array)).code) (emission b first states (by_method array))
 
   -- the places of the layout
   abbrev laid_places : Places
@@ -264,7 +265,7 @@ module _ (names : Names) (c twin : ClassFile) (places : CodePlaces) (array : ℕ
   -- the body of the chosen layout, with what its instructions and rows use
   abbrev pub body_again : Body
   body_again =
-      laid_body b (emission b first states (by_method array)) (is_wide (emission b first states (by_method array)).code) fetches.Member (calling places.method)
+      laid_body b (emission b first states (by_method array)) (chosen_list (emission b first states (by_method array)).code) fetches.Member (calling places.method)
       (some_uses twin.pool (places_used (written_insns places.method (emission b first states (by_method array)))
       (written_items twin.pool places names (emission b first states (by_method array))).rows)).0
 

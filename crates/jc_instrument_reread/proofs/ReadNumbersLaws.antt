@@ -36,7 +36,7 @@ use Rattle.jc_emit.specs.Sizes.{narrow}
 use Rattle.jc_emit.specs.Emission.{Emitting, emission}
 use Rattle.jc_emit.specs.Items.{land_of, lead_of}
 use Rattle.jc_emit.specs.TwinTables.{moved_line, moved_row, moved_var}
-use Rattle.jc_layout.specs.Layout.{laid_code, laid_starts, chosen_length, chosen_starts, chosen_text, is_wide}
+use Rattle.jc_layout.specs.Layout.{laid_code, laid_starts, chosen_length, chosen_starts, chosen_text, chosen_list}
 use Rattle.jc_instrument_reread.specs.WrittenCode.{HasShortNumbers, IsShortVar}
 use Rattle.jc_instrument_reread.proofs.LaidRangeLaws.{chosen_spelled}
 use Rattle.jc_instrument_reread.proofs.RangeLaws.{code_range}
@@ -253,7 +253,7 @@ module _ (b : Body) (first : ℕ) (states : List State) (given : Emitting) (shor
 pub record IsSpelled (e : Emitted) : Type 0 where
   pub numbers : HasShortNumbers e
   pub rows : length e.handlers ≤ 65535
-  pub spelled : Spells (chosen_text e.code) (laid_code (is_wide e.code) e.code) (laid_starts (is_wide e.code) e.code (chosen_starts e.code))
+  pub spelled : Spells (chosen_text e.code) (laid_code (chosen_list e.code) e.code) (laid_starts (chosen_list e.code) e.code (chosen_starts e.code))
 
 pub is_spelled : (Faults : List Fault) (names : Names) (c : ClassFile) (number : ℕ) (method : Member) (b : Body) (first : ℕ) (states : List State) (given : Emitting)
     → HasBody Faults names c number method b → AllByRecursion HasBytes method.attributes → IsWellMadeOfAnySize b → b.max_locals + 1 ≤ 65535

@@ -17,7 +17,6 @@ use Rattle.jc_methods.specs.declared.body.What.TheVariants as whats
 use Rattle.jc_methods.specs.declared.emitted.Emitted.{Emitted}
 use Rattle.jc_methods.specs.declared.insn.Insn.{Insn}
 use Rattle.jc_methods.specs.declared.kind.State.{State}
-use Rattle.jc_methods.specs.Widened.{all_wide}
 use Rattle.jc_pool.specs.declared.constant.ConstText.{ConstText}
 use Rattle.jc_pool.specs.declared.constant.ConstText.TheVariants as constants
 use Rattle.jc_pool.specs.Lookup.{Member, member_of, Computed, computed_of, class_name_of, const_of}
@@ -33,7 +32,7 @@ use Rattle.jc_emit.specs.TwinTables.{moved_row}
 use Rattle.jc_emit.proofs.BuiltLaws.{length_twin}
 use Rattle.jc_emit.proofs.RowLaws.{total_grows}
 use Rattle.jc_layout.specs.LaidBody.{laid_place}
-use Rattle.jc_layout.specs.Layout.{is_wide, chosen_length}
+use Rattle.jc_layout.specs.Layout.{chosen, chosen_list, chosen_length}
 use Rattle.jc_layout.proofs.MergedLaws.{wide_places_rise}
 use Rattle.jc_instrument_code.specs.TwinCode.{offset_in}
 use Rattle.jc_instrument_reread.specs.ReadCode.{row_at, written_insns, written_starts}
@@ -116,7 +115,7 @@ module _ (b : Body) (first : ℕ) (states : List State) (given : Emitting) (well
     code = (emission b first states given).code
 
     abbrev place : ℕ → ℕ
-    place k = laid_place (is_wide code) code k
+    place k = laid_place (chosen_list code) code k
 
     abbrev count : ℕ
     count = length (written_insns call (emission b first states given))
@@ -125,11 +124,7 @@ module _ (b : Body) (first : ℕ) (states : List State) (given : Emitting) (well
     offset k = offset_in (emission b first states given) k
 
     place_rises : (i j : ℕ) → i < j → place i < place j
-    place_rises i j lt = by (is_wide code)
-      where
-        by : (wide : Bool) → laid_place wide code i < laid_place wide code j
-        by false = lt
-        by true = wide_places_rise all_wide code i j lt
+    place_rises i j lt = wide_places_rise (chosen code) code i j lt
 
     -- the end of the code is the end of the layout
     end_place : place (length code) ≡ count

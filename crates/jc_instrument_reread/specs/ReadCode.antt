@@ -15,7 +15,7 @@ use Rattle.jc_body.specs.declared.items.LineEntry.{LineEntry}
 use Rattle.jc_body.specs.declared.items.VarEntry.{VarEntry}
 use Rattle.jc_body.specs.declared.items.Tables.{Tables}
 use Rattle.jc_layout.specs.LaidBody.{with_prelude, with_place}
-use Rattle.jc_layout.specs.Layout.{laid_code, laid_starts, is_wide, chosen_starts, chosen_text}
+use Rattle.jc_layout.specs.Layout.{laid_code, laid_starts, chosen_list, chosen_starts, chosen_text}
 use Rattle.jc_instrument_code.specs.declared.code.CodePlaces.{CodePlaces}
 use Rattle.jc_instrument_code.specs.TwinCode.{code_attributes, offset_in, written_frames}
 use Rattle.jc_instrument_reread.specs.WrittenCode.{calling}
@@ -50,10 +50,10 @@ written_items pool places names e = record {
 
 -- the instructions of the layout that is chosen, and where they begin
 abbrev pub written_insns : (call : ℕ) → Emitted → List Insn
-written_insns call e = with_prelude fetches.Member (calling call) (laid_code (is_wide e.code) e.code)
+written_insns call e = with_prelude fetches.Member (calling call) (laid_code (chosen_list e.code) e.code)
 
 abbrev pub written_starts : Emitted → List ℕ
-written_starts e = laid_starts (is_wide e.code) e.code (chosen_starts e.code)
+written_starts e = laid_starts (chosen_list e.code) e.code (chosen_starts e.code)
 
 abbrev pub written_coded : PoolValue → CodePlaces → Names → Emitted → Coded
 written_coded pool places names e = record {

@@ -11,7 +11,7 @@ use Rattle.jc_insn.specs.Spells.{Spells}
 use Rattle.jc_emit.specs.Emission.{Emitting}
 use Rattle.jc_emit.specs.Marks.{TwinPlaces}
 use Rattle.jc_emit.specs.Written.{given, integer_in}
-use Rattle.jc_layout.specs.Layout.{laid_code, laid_starts, is_wide, chosen_starts, chosen_text, chosen_length}
+use Rattle.jc_layout.specs.Layout.{laid_code, laid_starts, chosen_list, chosen_starts, chosen_text, chosen_length}
 use Rattle.jc_instrument_code.specs.declared.code.CodePlaces.{CodePlaces}
 use Rattle.jc_instrument_code.specs.Given.{AreNamed}
 use Rattle.jc_instrument_code.specs.TwinCode.{twin_code}
@@ -57,5 +57,5 @@ pub record IsWrittenCode (pool : PoolValue) (places : CodePlaces) (names : Names
   pub rows : length e.handlers ≤ 65535
   pub numbers : HasShortNumbers e
   pub few : chosen_length e.code ≤ 65535
-  pub spelled : Spells (chosen_text e.code) (laid_code (is_wide e.code) e.code) (laid_starts (is_wide e.code) e.code (chosen_starts e.code))
+  pub spelled : Spells (chosen_text e.code) (laid_code (chosen_list e.code) e.code) (laid_starts (chosen_list e.code) e.code (chosen_starts e.code))
   pub size : length (twin_code pool places.method places.frames names e) ≤ 4294967295

@@ -28,7 +28,7 @@ use Rattle.jc_emit.specs.Sizes.{narrow}
 use Rattle.jc_emit.specs.Emission.{Emitting, emission}
 use Rattle.jc_emit.specs.Items.{insn_of, twin_items}
 use Rattle.jc_emit.specs.Marks.{TwinPlaces, unplaced, invokestatic}
-use Rattle.jc_layout.specs.Layout.{layout_set, laid_starts, is_wide, chosen_starts, chosen_text}
+use Rattle.jc_layout.specs.Layout.{laid_starts, chosen, chosen_starts, chosen_text}
 use Rattle.jc_layout.specs.LaidBody.{with_prelude, with_place, laid_body, laid_form, SpellsLaid}
 use Rattle.jc_layout.proofs.ChoiceLaws.{chosen_stand}
 use Rattle.jc_layout.proofs.LaidCodeLaws.{begins_so, laid_is}
@@ -120,7 +120,7 @@ chosen_begins : (code : List Insn) → (rest : List ℕ) × (chosen_text (invoke
 unfolding chosen_text
 chosen_begins code =
     let whole = invokestatic 0 ∷ code in
-    text_begins (slice_index (chosen_starts whole)) (layout_set (is_wide whole)) code (chosen_starts whole) (chosen_stand whole)
+    text_begins (slice_index (chosen_starts whole)) (chosen whole) code (chosen_starts whole) (chosen_stand whole)
 
 with_called : (call : ℕ) (bytes starts : List ℕ) (whole code : List Insn) → call < 65536
     → bytes ≡ chosen_text (invokestatic 0 ∷ whole) → Spells bytes (invokestatic 0 ∷ code) starts
@@ -132,7 +132,7 @@ with_called call bytes starts whole code lt are s =
     (called_text call begins.0 starts code lt (subst (λ l. Spells l (invokestatic 0 ∷ code) starts) bytes_are s))
 
 module _ (b : Body) (first : ℕ) (states : List State) (given : Emitting) (member : given.fetch ≡ fetches.Member) where
-  pub laid_spells : (wide : Bool) (p : TwinPlaces) (uses : List Use) (bytes starts : List ℕ) → IsWellMadeOfAnySize b → p.giver < 65536
+  pub laid_spells : (wide : List Bool) (p : TwinPlaces) (uses : List Use) (bytes starts : List ℕ) → IsWellMadeOfAnySize b → p.giver < 65536
       → SpellsLaid b (emission b first states given) wide p uses bytes starts
   unfolding laid_body emission
   laid_spells wide p uses bytes starts well lt are s =

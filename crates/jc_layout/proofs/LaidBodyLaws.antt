@@ -1,8 +1,8 @@
 -- The body that the bytes of a layout stand for is a twin.
-use Rattle.std.proofs.Common.{◌≡◌, inl, inr, ⊎_elim, ℕ, Bool, true, false, List, [], ◌∷◌, map, refl, sym, ap, ap₂, ◌∙◌, subst}
+use Rattle.std.proofs.Common.{◌≡◌, inl, inr, ⊎_elim, ℕ, Bool, List, [], ◌∷◌, map, refl, sym, ap, ap₂, ◌∙◌, subst}
 use Rattle.std.specs.Prelude.{Contains, slice_index_or}
 use Rattle.jc_methods.specs.WellMade.{IsWellMadeOfAnySize}
-use Rattle.jc_methods.specs.Widened.{all_wide, wide_place}
+use Rattle.jc_methods.specs.Widened.{WideSet, listed, wide_place}
 use Rattle.jc_methods.specs.declared.insn.Insn.{Insn}
 use Rattle.jc_methods.specs.declared.kind.State.{State}
 use Rattle.jc_methods.specs.declared.body.Body.{Body}
@@ -22,18 +22,17 @@ use Rattle.jc_emit.specs.TwinCode.{IsTwinCode}
 use Rattle.jc_emit.specs.TwinTables.{AreMovedTables, moved_row, moved_line, moved_var}
 use Rattle.jc_emit.specs.TwinFrames.{state_at, IsFrame, AreTwinFrames}
 use Rattle.jc_emit.specs.Items.{insn_of, own_of, lead_of, land_of, image_of, marks_of_items, twin_items}
-use Rattle.jc_emit.specs.Emission.{Emitting, emission, widened_frame, AreFramesInForm, AreWidened, IsUsed}
+use Rattle.jc_emit.specs.Emission.{Emitting, emission, widened_frame, AreFramesInForm, AreWidened}
 use Rattle.jc_emit.specs.Twin.{NamesProbes, KeepsUses, Twin}
 use Rattle.jc_emit.proofs.EndsLaws.{images_are, lands_are, leads_are}
 use Rattle.jc_emit.proofs.WholeLaws.{code_told}
-use Rattle.jc_emit.proofs.FrameLaws.{layout_told}
 use Rattle.jc_emit.proofs.WidenedLaws.{lead_is, land_is}
 use Rattle.jc_emit.proofs.WideTwinLaws.{widened_frames}
 use Rattle.jc_emit.proofs.WideFrameLaws.{emitted}
 use Rattle.jc_layout.specs.Layout.{laid_code}
-use Rattle.jc_layout.specs.Merged.{merged}
+use Rattle.jc_layout.specs.Merged.{merged, used_frames}
 use Rattle.jc_layout.specs.LaidBody.{with_prelude, laid_place, placed_var, laid_frames, laid_body, laid_form}
-use Rattle.jc_layout.proofs.MergedLaws.{merged_cases, merged_left, merged_right, merged_rises, rising_widened}
+use Rattle.jc_layout.proofs.MergedLaws.{merged_cases, merged_left, merged_right, merged_rises, used_cases, used_in, used_rise, rising_widened}
 use Rattle.jc_layout.proofs.LaidCodeLaws.{called, laid_is}
 use Rattle.jc_layout.proofs.LayoutFramesLaws.{there_too}
 
@@ -51,18 +50,21 @@ vars_twice : (v : ℕ) (p land : ℕ → ℕ) (vars : List VarAt) → map (place
 vars_twice v p land [] = refl
 vars_twice v p land (x ∷ vars) = ap (λ l. moved_var v (λ i. p (land i)) x ∷ l) (vars_twice v p land vars)
 
--- ---- in either layout
+-- ---- where some jumps are wide
 
 module _ (b : Body) (first : ℕ) (states : List State) (given : Emitting) (names : List (List ℕ)) (well : IsWellMadeOfAnySize b)
-    (fit : (f : FrameAt) → Contains b.frames f → state_at states f.at ≡ f.state) (named : slice_index_or names given.array ([]) ≡ probe_array_class) where
+    (fit : (f : FrameAt) → Contains b.frames f → state_at states f.at ≡ f.state) (named : slice_index_or names given.array ([]) ≡ probe_array_class) (wide : List Bool) where
   abbrev e : Emitted
   e = emission b first states given
+
+  abbrev set : WideSet
+  set = listed wide
 
   abbrev narrow_form : TwinForm
   narrow_form = narrow given.fetch
 
-  abbrev form : Bool → TwinForm
-  form wide = laid_form b first given.fetch wide
+  abbrev form : TwinForm
+  form = laid_form b first given.fetch wide
 
   abbrev unnamed : TwinPlaces
   unnamed = unplaced given.integer
@@ -70,150 +72,130 @@ module _ (b : Body) (first : ℕ) (states : List State) (given : Emitting) (name
   abbrev code_in : List Insn
   code_in = map (insn_of (unplaced given.integer) b.arg_slots) (twin_items b first (narrow given.fetch))
 
-  abbrev own_in : Bool → List Bool
-  own_in wide = map own_of (twin_items b first (form wide))
+  abbrev own : List Bool
+  own = map own_of (twin_items b first (laid_form b first given.fetch wide))
 
   -- ---- frames
 
-  -- each frame behind a conditional jump is among the merged ones, as the one at its place is the same
-  wide_merged : (g : FrameAt) → Contains e.wide_frames g → Contains (merged e.frames e.wide_frames) g
+  abbrev used : List FrameAt
+  used = used_frames (listed wide) (emission b first states given).wide_frames
+
+  -- each frame behind a wide jump is among the merged ones, as the one at its place is the same
+  wide_merged : (g : FrameAt) → Contains used g → Contains (merged e.frames used) g
   wide_merged g c =
       let told = emitted b first states given names well fit named in
       ⊎_elim (λ here. here)
-      (λ there. merged_left e.frames e.wide_frames g (there_too b first states given names well fit named g c there))
-      (merged_right e.frames e.wide_frames 0 told.wide_frames.rising g c)
+      (λ there. merged_left e.frames used g (there_too b first states given names well fit named g (used_cases set e.wide_frames g c).0 there))
+      (merged_right e.frames used 0 (used_rise set 0 e.wide_frames told.wide_frames.rising) g c)
 
-  -- where each conditional jump is wide, each of them is used
-  all_used : (g : FrameAt) → Contains e.wide_frames g → IsUsed all_wide g
-  all_used g c =
-      let told = emitted b first states given names well fit named in
-      let asked = (told.wide_frames.each g c).1.behind in
-      (image_place e.own asked.test, asked.place, refl)
-
-  pub are_widened : AreWidened all_wide (emission b first states given)
-      (map (widened_frame (wide_place all_wide (emission b first states given).code))
-      (merged (emission b first states given).frames (emission b first states given).wide_frames))
+  are_widened : AreWidened (listed wide) (emission b first states given) (laid_frames wide (emission b first states given))
   are_widened =
       let told = emitted b first states given names well fit named in record {
-        rising = rising_widened all_wide e.code (merged e.frames e.wide_frames) (merged_rises e.frames e.wide_frames told.frames.rising);
+        rising = rising_widened set e.code (merged e.frames used) (merged_rises e.frames used told.frames.rising);
         each = λ f c.
-            let from = of_map (widened_frame (wide_place all_wide e.code)) (merged e.frames e.wide_frames) f c in (
+            let from = of_map (widened_frame (wide_place set e.code)) (merged e.frames used) f c in (
               from.0,
-              ⊎_elim (λ old. inl old) (λ more. inr (more, all_used from.0 more)) (merged_cases e.frames e.wide_frames from.0 from.1),
+              ⊎_elim (λ old. inl old) (λ more. inr (used_cases set e.wide_frames from.0 more)) (merged_cases e.frames used from.0 from.1),
               from.2,
             );
         every = λ g c.
-            in_map (widened_frame (wide_place all_wide e.code)) (merged e.frames e.wide_frames) g
-            (⊎_elim (λ old. merged_left e.frames e.wide_frames g old) (λ more. wide_merged g more.0) c);
+            in_map (widened_frame (wide_place set e.code)) (merged e.frames used) g
+            (⊎_elim (λ old. merged_left e.frames used g old) (λ more. wide_merged g (used_in set e.wide_frames g more.0 more.1)) c);
       }
 
-  narrow_frames : AreFramesInForm names states first b (form false) (emission b first states given).frames
-  unfolding emission
-  narrow_frames = layout_told b first states given names well.code well.frames fit named
-
-  pub laid_told : (wide : Bool) → AreFramesInForm names states first b (laid_form b first given.fetch wide) (laid_frames wide (emission b first states given))
-  laid_told false = narrow_frames
-  laid_told true = widened_frames b first states given all_wide names well fit named _ are_widened
+  pub laid_told : AreFramesInForm names states first b (laid_form b first given.fetch wide) (laid_frames wide (emission b first states given))
+  laid_told = widened_frames b first states given (listed wide) names well fit named _ are_widened
 
   -- ---- places
 
   -- where in the layout stands what stands for the instruction at a place of the emitted code
-  abbrev placed : Bool → ℕ → ℕ
-  placed wide i = laid_place wide code_in i
+  abbrev placed : ℕ → ℕ
+  placed i = laid_place wide code_in i
 
-  wide_lead : (i : ℕ) → placed true (lead_of b first narrow_form i) ≡ lead_of b first (form true) i
+  lead_in : (i : ℕ) → placed (lead_of b first narrow_form i) ≡ lead_of b first form i
   unfolding twin_items
-  wide_lead i = lead_is b first given.fetch all_wide unnamed well.code i
+  lead_in i = lead_is b first given.fetch (listed wide) unnamed well.code i
 
-  wide_land : (i : ℕ) → placed true (land_of b first narrow_form i) ≡ land_of b first (form true) i
+  land_in : (i : ℕ) → placed (land_of b first narrow_form i) ≡ land_of b first form i
   unfolding twin_items
-  wide_land i = land_is b first given.fetch all_wide unnamed well.code i
+  land_in i = land_is b first given.fetch (listed wide) unnamed well.code i
 
-  lead_in : (wide : Bool) (i : ℕ) → placed wide (lead_of b first narrow_form i) ≡ lead_of b first (form wide) i
-  lead_in false i = refl
-  lead_in true i = wide_lead i
+  leads_in : (λ i. placed (lead_of b first narrow_form i)) ≡ lead_of b first form
+  leads_in = λ k i. lead_in i k
 
-  land_in : (wide : Bool) (i : ℕ) → placed wide (land_of b first narrow_form i) ≡ land_of b first (form wide) i
-  land_in false i = refl
-  land_in true i = wide_land i
-
-  leads_in : (wide : Bool) → (λ i. placed wide (lead_of b first narrow_form i)) ≡ lead_of b first (form wide)
-  leads_in wide = λ k i. lead_in wide i k
-
-  lands_in : (wide : Bool) → (λ i. placed wide (land_of b first narrow_form i)) ≡ land_of b first (form wide)
-  lands_in wide = λ k i. land_in wide i k
+  lands_in : (λ i. placed (land_of b first narrow_form i)) ≡ land_of b first form
+  lands_in = λ k i. land_in i k
 
   -- where images, jumps and fall-throughs lead in a layout
-  abbrev images : Bool → ℕ → ℕ
-  images wide = image_of b first (form wide)
+  abbrev images : ℕ → ℕ
+  images = image_of b first form
 
-  abbrev lands : Bool → ℕ → ℕ
-  lands wide = land_of b first (form wide)
+  abbrev lands : ℕ → ℕ
+  lands = land_of b first form
 
-  abbrev leads : Bool → ℕ → ℕ
-  leads wide = lead_of b first (form wide)
+  abbrev leads : ℕ → ℕ
+  leads = lead_of b first form
 
   -- what holds of the function's places holds of those that the own instructions tell
-  at_own : (wide : Bool) (P : (image land lead : ℕ → ℕ) → Type 0) → P (images wide) (lands wide) (leads wide)
-      → let own = own_in wide in P (image_place own) (land_place b first own) (lead_place b first own)
-  at_own wide P h =
-      subst (λ f. P (image_place (own_in wide)) (land_place b first (own_in wide)) f) (sym (leads_are b first (form wide) well.code))
-      (subst (λ f. P (image_place (own_in wide)) f (leads wide)) (sym (lands_are b first (form wide) well.code))
-      (subst (λ f. P f (lands wide) (leads wide)) (sym (images_are b first (form wide) well.code)) h))
+  at_own : (P : (image land lead : ℕ → ℕ) → Type 0) → P images lands leads
+      → P (image_place own) (land_place b first own) (lead_place b first own)
+  at_own P h =
+      subst (λ f. P (image_place own) (land_place b first own) f) (sym (leads_are b first form well.code))
+      (subst (λ f. P (image_place own) f leads) (sym (lands_are b first form well.code))
+      (subst (λ f. P f lands leads) (sym (images_are b first form well.code)) h))
 
-  rows_laid : (wide : Bool)
-      → map (moved_row (placed wide) (placed wide)) (map (moved_row (lead_of b first narrow_form) (land_of b first narrow_form)) b.handlers)
-      ≡ map (moved_row (leads wide) (lands wide)) b.handlers
-  rows_laid wide =
-      rows_twice (placed wide) (lead_of b first narrow_form) (land_of b first narrow_form) b.handlers
-      ∙ ap₂ (λ lead land. map (moved_row lead land) b.handlers) (leads_in wide) (lands_in wide)
+  rows_laid : map (moved_row placed placed) (map (moved_row (lead_of b first narrow_form) (land_of b first narrow_form)) b.handlers)
+      ≡ map (moved_row leads lands) b.handlers
+  rows_laid =
+      rows_twice placed (lead_of b first narrow_form) (land_of b first narrow_form) b.handlers
+      ∙ ap₂ (λ lead land. map (moved_row lead land) b.handlers) leads_in lands_in
 
-  lines_laid : (wide : Bool) → map (moved_line (placed wide)) (map (moved_line (land_of b first narrow_form)) b.lines) ≡ map (moved_line (lands wide)) b.lines
-  lines_laid wide =
-      lines_twice (placed wide) (land_of b first narrow_form) b.lines
-      ∙ ap (λ land. map (moved_line land) b.lines) (lands_in wide)
+  lines_laid : map (moved_line placed) (map (moved_line (land_of b first narrow_form)) b.lines) ≡ map (moved_line lands) b.lines
+  lines_laid =
+      lines_twice placed (land_of b first narrow_form) b.lines
+      ∙ ap (λ land. map (moved_line land) b.lines) lands_in
 
-  vars_laid : (wide : Bool) (vars : List VarAt)
-      → map (placed_var (placed wide)) (map (moved_var b.arg_slots (land_of b first narrow_form)) vars) ≡ map (moved_var b.arg_slots (lands wide)) vars
-  vars_laid wide vars =
-      vars_twice b.arg_slots (placed wide) (land_of b first narrow_form) vars
-      ∙ ap (λ land. map (moved_var b.arg_slots land) vars) (lands_in wide)
+  vars_laid : (vars : List VarAt)
+      → map (placed_var placed) (map (moved_var b.arg_slots (land_of b first narrow_form)) vars) ≡ map (moved_var b.arg_slots lands) vars
+  vars_laid vars =
+      vars_twice b.arg_slots placed (land_of b first narrow_form) vars
+      ∙ ap (λ land. map (moved_var b.arg_slots land) vars) lands_in
 
-  code_laid : (wide : Bool) (p : TwinPlaces) → p.integer ≡ given.integer
-      → with_prelude given.fetch p (laid_code wide code_in) ≡ map (insn_of p b.arg_slots) (twin_items b first (form wide))
-  code_laid wide p e =
-      ap (with_prelude given.fetch p) (laid_is b first given.fetch unnamed wide well.code) ∙ called b first (form wide) p unnamed e
+  code_laid : (p : TwinPlaces) → p.integer ≡ given.integer
+      → with_prelude given.fetch p (laid_code wide code_in) ≡ map (insn_of p b.arg_slots) (twin_items b first form)
+  code_laid p e =
+      ap (with_prelude given.fetch p) (laid_is b first given.fetch unnamed wide well.code) ∙ called b first form p unnamed e
 
-  abbrev pub IsLaidTwin : (wide : Bool) → TwinPlaces → (giver : What) → List Use → Type 0
-  IsLaidTwin wide p giver uses =
+  abbrev pub IsLaidTwin : TwinPlaces → (giver : What) → List Use → Type 0
+  IsLaidTwin p giver uses =
       Twin names names states given.fetch giver first b (laid_body b (emission b first states given) wide given.fetch p uses)
 
-  pub laid_twin : (wide : Bool) (p : TwinPlaces) (giver : What) (uses : List Use) → p.integer ≡ given.integer
-      → NamesProbes given.fetch giver first (probe_count b) uses p → KeepsUses b (record b { uses = uses }) → IsLaidTwin wide p giver uses
+  pub laid_twin : (p : TwinPlaces) (giver : What) (uses : List Use) → p.integer ≡ given.integer
+      → NamesProbes given.fetch giver first (probe_count b) uses p → KeepsUses b (record b { uses = uses }) → IsLaidTwin p giver uses
   unfolding laid_body emission
-  laid_twin wide p giver uses same names_probes keeps = record {
-    marks = marks_of_items (twin_items b first (form wide));
-    form = form wide;
+  laid_twin p giver uses same names_probes keeps = record {
+    marks = marks_of_items (twin_items b first form);
+    form = laid_form b first given.fetch wide;
     fetch_is = refl;
     places = p;
     names_probes = names_probes;
     method = record { method = refl; owner = refl; name = refl; desc = refl; flags = refl; arg_slots = refl };
     uses = keeps;
     code =
-        subst (λ code. IsTwinCode b first (form wide) p code (marks_of_items (twin_items b first (form wide)))) (sym (code_laid wide p same))
-        (code_told b first (form wide) p well.code);
+        subst (λ code. IsTwinCode b first form p code (marks_of_items (twin_items b first form))) (sym (code_laid p same))
+        (code_told b first form p well.code);
     tables =
-        at_own wide
+        at_own
         (λ image land lead. AreMovedTables b lead land
-        (map (moved_row (placed wide) (placed wide)) (map (moved_row (lead_of b first narrow_form) (land_of b first narrow_form)) b.handlers))
-        (map (moved_line (placed wide)) (map (moved_line (land_of b first narrow_form)) b.lines))
-        (map (placed_var (placed wide)) (map (moved_var b.arg_slots (land_of b first narrow_form)) b.vars))
-        (map (placed_var (placed wide)) (map (moved_var b.arg_slots (land_of b first narrow_form)) b.kind_vars)))
-        (record { handlers_are = rows_laid wide; lines_are = lines_laid wide; vars_are = vars_laid wide b.vars; kind_vars_are = vars_laid wide b.kind_vars });
+        (map (moved_row placed placed) (map (moved_row (lead_of b first narrow_form) (land_of b first narrow_form)) b.handlers))
+        (map (moved_line placed) (map (moved_line (land_of b first narrow_form)) b.lines))
+        (map (placed_var placed) (map (moved_var b.arg_slots (land_of b first narrow_form)) b.vars))
+        (map (placed_var placed) (map (moved_var b.arg_slots (land_of b first narrow_form)) b.kind_vars)))
+        (record { handlers_are = rows_laid; lines_are = lines_laid; vars_are = vars_laid b.vars; kind_vars_are = vars_laid b.kind_vars });
     frames =
-        at_own wide
-        (λ image land lead. AreTwinFrames names names b.arg_slots image (IsFrame b first states image land lead (form wide)) (laid_frames wide (emission b first states given)))
-        (laid_told wide);
+        at_own
+        (λ image land lead. AreTwinFrames names names b.arg_slots image (IsFrame b first states image land lead form) (laid_frames wide (emission b first states given)))
+        laid_told;
     max_stack = refl;
     max_locals = refl;
   }

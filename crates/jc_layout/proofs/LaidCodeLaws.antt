@@ -14,7 +14,7 @@ use Rattle.jc_methods.specs.declared.insn.Insn.TheVariants as insns
 use Rattle.jc_methods.specs.declared.probe_members.Fetch.{Fetch}
 use Rattle.jc_methods.specs.declared.probe_members.Fetch.TheVariants as fetches
 use Rattle.jc_methods.specs.Opcode as opcode
-use Rattle.jc_methods.specs.Widened.{all_wide, inverted}
+use Rattle.jc_methods.specs.Widened.{inverted, listed}
 use Rattle.jc_plan.specs.declared.branch.Branch.{Branch}
 use Rattle.jc_plan.specs.Probed.{probe_of}
 use Rattle.jc_plan.specs.Plan.{lead_probe}
@@ -127,8 +127,7 @@ module _ (b : Body) (first : ℕ) (form : TwinForm) where
       by fetches.Constant =
           ap (λ (l : List Insn). insns.Constant p.giver ∷ insns.OfClass opcode.checkcast p.array ∷ astore b.arg_slots ∷ l) (same_body p q e)
 
--- the code of the narrow layout, or its wide form
-pub laid_is : (b : Body) (first : ℕ) (fetch : Fetch) (p : TwinPlaces) (wide : Bool) → IsCode b.code
+-- the emitted code, where these jumps are wide
+pub laid_is : (b : Body) (first : ℕ) (fetch : Fetch) (p : TwinPlaces) (wide : List Bool) → IsCode b.code
     → laid_code wide (map (insn_of p b.arg_slots) (twin_items b first (narrow fetch))) ≡ map (insn_of p b.arg_slots) (twin_items b first (laid_form b first fetch wide))
-laid_is b first fetch p false is_code = refl
-laid_is b first fetch p true is_code = widened_is b first fetch all_wide p is_code
+laid_is b first fetch p wide is_code = widened_is b first fetch (listed wide) p is_code

@@ -1,15 +1,16 @@
--- The frames of the wide layout, instruction by instruction, are those of both lists in the order of their places.
-use Rattle.std.proofs.Common.{◌≡◌, ⊎_elim, ℕ, zero, suc, ◌+◌, ◌<◌, ◌≤◌, Bool, true, false, ◌&&◌, ◌||◌, not, List, [], ◌∷◌, ◌++◌, length, replicate, refl, sym, ap, ap₂, ◌∙◌, subst, arith, append_assoc, nat_lt, nat_eq, if◌then◌else◌}
+-- The frames of a layout, instruction by instruction, are those of the narrow code and those behind wide jumps, in the order of their
+-- places.
+use Rattle.std.proofs.Common.{◌≡◌, ⊎_elim, ℕ, zero, suc, ◌+◌, ◌<◌, ◌≤◌, Bool, true, false, ◌&&◌, ◌||◌, not, List, [], ◌∷◌, ◌++◌, length, refl, sym, ap, ap₂, ◌∙◌, subst, arith, append_assoc, nat_lt, nat_eq, if◌then◌else◌}
 use Rattle.std.specs.Prelude.{Contains, is_some, is_none, slice_index_or}
-use Rattle.std.proofs.lemmas.Bool.{not-false, not-true}
-use Rattle.std.proofs.lemmas.List.{append-nil, length-map, get_or-replicate}
-use Rattle.std.proofs.lemmas.List.Elements.{Contains-append_cases}
+use Rattle.std.proofs.lemmas.Bool.{and_parts, not-false, not-true}
+use Rattle.std.proofs.lemmas.List.{append-nil}
+use Rattle.std.proofs.lemmas.List.Elements.{Contains-append_cases, filter-append}
 use Rattle.jc_bytes.specs.PlainLists.{pieces}
 use Rattle.jc_bytes.proofs.BooleanLaws.{none_in, first_in, later_in}
 use Rattle.jc_methods.specs.Flow.{flow_of}
 use Rattle.jc_methods.specs.FrameOrder.{RiseFrom}
 use Rattle.jc_methods.specs.WellMade.{IsWellMadeOfAnySize}
-use Rattle.jc_methods.specs.Widened.{WideSet, listed}
+use Rattle.jc_methods.specs.Widened.{WideSet}
 use Rattle.jc_methods.specs.declared.insn.Flow.{Flow}
 use Rattle.jc_methods.specs.declared.insn.Flow.TheVariants as flows
 use Rattle.jc_methods.specs.declared.kind.State.{State}
@@ -17,20 +18,17 @@ use Rattle.jc_methods.specs.declared.body.Body.{Body}
 use Rattle.jc_methods.specs.declared.body.FrameAt.{FrameAt}
 use Rattle.jc_plan.specs.declared.branch.Branch.{Branch}
 use Rattle.jc_plan.specs.Plan.{lead_probe}
-use Rattle.jc_emit.specs.Marks.{unplaced}
 use Rattle.jc_emit.specs.Shift.{probe_array_class}
 use Rattle.jc_emit.specs.Sizes.{TwinForm, narrow, insn_at, arms_by, arms_at}
 use Rattle.jc_emit.specs.TwinFrames.{state_at, left_by}
-use Rattle.jc_emit.specs.Items.{insn_of, segment_size, lead_of, land_of, image_of, twin_items}
+use Rattle.jc_emit.specs.Items.{segment_size, lead_of, land_of, image_of}
 use Rattle.jc_emit.specs.Emission.{Emitting, emission, frame, frame_if, moved_state, has_frame, has_inverse, arm_frames, frames_at, tests_by, wide_frames_at}
 use Rattle.jc_emit.specs.Stages.{is_framed_behind, is_further, further_frames_at, layout_frames, layout_frames_at}
-use Rattle.jc_emit.proofs.BuiltLaws.{length_twin}
 use Rattle.jc_emit.proofs.FrameListsLaws.{rises_within, in_piece, of_piece, if_listed}
 use Rattle.jc_emit.proofs.FrameLaws.{part_rises, layout_told}
 use Rattle.jc_emit.proofs.RowLaws.{total_grows}
 use Rattle.jc_emit.proofs.WideFrameLaws.{is_test, not_there, framed_behind, wide_frame}
-use Rattle.jc_layout.specs.Layout.{layout_set}
-use Rattle.jc_layout.specs.Merged.{with_frame, merged}
+use Rattle.jc_layout.specs.Merged.{with_frame, merged, is_used_by, used_frames}
 use Rattle.jc_layout.proofs.MergedLaws.{IsThere, with_before, with_behind, with_there, merged_left, merged_rises}
 
 -- ---- lists
@@ -119,13 +117,6 @@ module _ (b : Body) (first : ℕ) (states : List State) (given : Emitting) (name
   abbrev framed : ℕ → Bool
   framed i = is_framed_behind b first states given i
 
-  -- the conditional jump has no frame behind it yet
-  abbrev asks_by : ℕ → Flow → Bool
-  asks_by i flow = is_further b first states given (layout_set true) i flow
-
-  abbrev further : ℕ → List FrameAt
-  further i = further_frames_at b first states given (layout_set true) i
-
   abbrev behind : ℕ → FrameAt
   behind i = wide_frame b first states given names well.code well.frames fit named i
 
@@ -157,33 +148,7 @@ module _ (b : Body) (first : ℕ) (states : List State) (given : Emitting) (name
   abbrev arms_with : ℕ → List Branch → List FrameAt
   arms_with i xs = arm_frames b first states given (q_of i + 1) (moved (left_by (insn_at b.code i) (state_at states i))) xs
 
-  -- ---- which conditional jumps ask for a frame
-
-  asks_is : (i : ℕ) (flow : Flow) → asks_by i flow ≡ true → (flow ≡ flows.Branches) × (framed i ≡ false)
-  asks_is i flows.Branches h = (refl, not-true (framed i) h)
-  asks_is i flows.GoesOn h = cc
-  asks_is i flows.Jumps h = cc
-  asks_is i flows.Switches h = cc
-  asks_is i flows.Returns h = cc
-  asks_is i flows.Throws h = cc
-
-  asks_not : (i : ℕ) (flow : Flow) → flow ≡ flows.Branches → asks_by i flow ≡ false → framed i ≡ true
-  asks_not i flow e h = not-false (framed i) (ap (asks_by i) (sym e) ∙ h)
-
-  -- what is known of a frame that is asked for
-  record IsAsked (i : ℕ) (f : FrameAt) : Type 0 where
-    tests_is : flow_at i ≡ flows.Branches
-    plain : framed i ≡ false
-    at_is : q_of i + 1 ≡ f.at
-
-  asked : (i : ℕ) (f : FrameAt) → Contains (further i) f → IsAsked i f
-  asked i f c =
-      let held = in_list_if (asks_by i (flow_at i)) (wide i) f c in
-      let is = if_listed (tests i) (behind i) f held.1 in
-      let h = asks_is i (flow_at i) held.0 in
-      record { tests_is = h.0; plain = h.1; at_is = ap (λ x. x.at) is.1 }
-
-  -- ---- the frames of conditional jumps that ask for one
+  -- ---- the frames in front of the one behind a conditional jump
 
   -- the frames of a conditional jump stand in front of the one behind its image
   own_before : (i : ℕ) → flow_at i ≡ flows.Branches → (f : FrameAt) → Contains (part i) f → f.at < q_of i + 1
@@ -216,69 +181,6 @@ module _ (b : Body) (first : ℕ) (states : List State) (given : Emitting) (name
       (λ own. own_before n e g own)
       (Contains-append_cases (pieces part n) (part n) g c)
 
-  merged_one : (n : ℕ) → merged (pieces part n ++ part n) (further n) ≡ (pieces part n ++ part n) ++ further n
-  merged_one n =
-      merged_list_if (asks_by n (flow_at n)) (pieces part n ++ part n) (wide n)
-      (λ t. merged_if (tests n) (behind n) (pieces part n ++ part n) (λ u. all_before n (asks_is n (flow_at n) t).0))
-
-  apart : (n : ℕ) → n < length b.code → (f g : FrameAt) → Contains (pieces further n) f → Contains (part n ++ further n) g → f.at < g.at
-  apart n lt f g c d =
-      let p = in_piece further n f c in
-      let i = p.piece in
-      let less = p.within in
-      let is = asked i f p.listed in
-      let at = is.at_is in
-      let grows = lead_grows (suc i) n (omega (arith, less)) in
-      ⊎_elim
-      (λ own.
-      let within = part_within n g own in
-      let from = within.0 in
-      let there = of_piece part (length b.code) n g lt own in
-      let other : g.at ≡ q_of i + 1 → ⊥ = not_there b first states given names well.code well.frames fit named i is.tests_is is.plain g there in
-      omega (arith, at, grows, from, other))
-      (λ last. let here = (asked n g last).at_is in omega (arith, at, grows, here))
-      (Contains-append_cases (part n) (further n) g d)
-
-  merged_pieces : (n : ℕ) → n ≤ length b.code → merged (pieces part n) (pieces further n) ≡ pieces (layout_frames_at b first states given (layout_set true)) n
-  merged_pieces zero le = refl
-  merged_pieces (suc n) le =
-      let front = pieces part n in
-      let others = pieces further n in
-      merged_on (front ++ part n) others (further n)
-      ∙ ap (λ (l : List FrameAt). merged l others) (merged_one n ∙ append_assoc front (part n) (further n))
-      ∙ merged_front front others (part n ++ further n) (apart n (omega (arith, le)))
-      ∙ ap (λ (l : List FrameAt). l ++ (part n ++ further n)) (merged_pieces n (omega (arith, le)))
-
-  -- ---- the frames of the others stand there already
-
-  -- among these frames are those of the narrow code
-  abbrev HasParts : List FrameAt → Type 0
-  HasParts all = (g : FrameAt) → Contains all_parts g → Contains all g
-
-  unasked : (n : ℕ) → n < length b.code → (all : List FrameAt) → RiseFrom 0 all → HasParts all → asks_by n (flow_at n) ≡ false
-      → (t : Bool) → tests n ≡ t → merged all (frame_if t (behind n)) ≡ all
-  unasked n lt all r has h false e = refl
-  unasked n lt all r has h true e =
-      let is = is_test b first states given names well.code well.frames fit named (flow_at n) e in
-      let there = framed_behind b first states given names well.code well.frames fit named n lt is (asks_not n (flow_at n) is h) in
-      with_there 0 (behind n) all r (behind n, has (behind n) there, refl)
-
-  one_alike : (n : ℕ) → n < length b.code → (all : List FrameAt) → RiseFrom 0 all → HasParts all → merged all (wide n) ≡ merged all (further n)
-  one_alike n lt all r has = by (asks_by n (flow_at n)) refl
-    where
-      by : (t : Bool) → asks_by n (flow_at n) ≡ t → merged all (wide n) ≡ merged all (list_if t (wide n))
-      by true h = refl
-      by false h = unasked n lt all r has h (tests n) refl
-
-  merged_alike : (n : ℕ) → n ≤ length b.code → (all : List FrameAt) → RiseFrom 0 all → HasParts all
-      → merged all (pieces wide n) ≡ merged all (pieces further n)
-  merged_alike zero le all r has = refl
-  merged_alike (suc n) le all r has =
-      merged_on all (pieces wide n) (wide n)
-      ∙ ap (λ (l : List FrameAt). merged l (pieces wide n)) (one_alike n (omega (arith, le)) all r has)
-      ∙ merged_alike n (omega (arith, le)) (merged all (further n)) (merged_rises all (further n) r) (λ g c. merged_left all (further n) g (has g c))
-      ∙ sym (merged_on all (pieces further n) (further n))
-
   -- the frame behind a conditional jump is a frame of the narrow code wherever one stands there
   pub there_too : (g : FrameAt) → Contains (emission b first states given).wide_frames g → IsThere (emission b first states given).frames g.at
       → Contains (emission b first states given).frames g
@@ -296,54 +198,142 @@ module _ (b : Body) (first : ℕ) (states : List State) (given : Emitting) (name
           subst (Contains all_parts) same (framed_behind b first states given names well.code well.frames fit named i lt is t)
       by i lt is e same false t = absurd (not_there b first states given names well.code well.frames fit named i is t h d e)
 
-  -- ---- the whole
+  -- ---- where these jumps are wide
 
-  narrow_pieces : pieces (layout_frames_at b first states given (layout_set false)) (length b.code) ≡ all_parts
-  narrow_pieces = pieces_alike (layout_frames_at b first states given (layout_set false)) part (length b.code) (λ i lt. by i (flow_at i))
-    where
-      by : (i : ℕ) (flow : Flow) → part i ++ list_if (is_further b first states given (layout_set false) i flow) (wide i) ≡ part i
-      by i flow = ap (λ (t : Bool). part i ++ list_if t (wide i)) (none i flow) ∙ append-nil (part i)
-        where
-          none : (j : ℕ) (flow : Flow) → is_further b first states given (layout_set false) j flow ≡ false
-          none j flows.Branches = refl
-          none j flows.GoesOn = refl
-          none j flows.Jumps = refl
-          none j flows.Switches = refl
-          none j flows.Returns = refl
-          none j flows.Throws = refl
+  module _ (set : WideSet) where
+    -- the conditional jump is wide, and has no frame behind it yet
+    abbrev asks_by : ℕ → Flow → Bool
+    asks_by i flow = is_further b first states given set i flow
 
-  set_laid : (all : Bool) → layout_frames b first states given (layout_set all)
-      ≡ (if all then merged (emission b first states given).frames (emission b first states given).wide_frames else (emission b first states given).frames)
-  unfolding emission
-  set_laid true = sym (merged_alike (length b.code) (omega arith) all_parts parts_rise (λ g c. c) ∙ merged_pieces (length b.code) (omega arith))
-  set_laid false = narrow_pieces
+    abbrev further : ℕ → List FrameAt
+    further i = further_frames_at b first states given set i
 
-  -- a set that says the same of each instruction of the narrow code gives the same frames
-  module _ (all : Bool) (set : WideSet) (same : (q : ℕ) → q < length (emission b first states given).code → set q ≡ all) where
-    image_within : (i : ℕ) → i < length b.code → q_of i < length (emission b first states given).code
+    -- the frame behind the conditional jump, if it is wide
+    abbrev used : ℕ → List FrameAt
+    used i = list_if (set (q_of i)) (wide i)
+
+    asks_is : (i : ℕ) (flow : Flow) → asks_by i flow ≡ true → (flow ≡ flows.Branches) × (framed i ≡ false)
+    asks_is i flows.Branches h = (refl, not-true (framed i) (and_parts (set (q_of i)) (not (framed i)) h).1)
+    asks_is i flows.GoesOn h = cc
+    asks_is i flows.Jumps h = cc
+    asks_is i flows.Switches h = cc
+    asks_is i flows.Returns h = cc
+    asks_is i flows.Throws h = cc
+
+    asks_not : (i : ℕ) (flow : Flow) → flow ≡ flows.Branches → set (q_of i) ≡ true → asks_by i flow ≡ false → framed i ≡ true
+    asks_not i flow e is_wide h =
+        not-false (framed i) (ap (λ (t : Bool). t && not (framed i)) (sym is_wide) ∙ ap (asks_by i) (sym e) ∙ h)
+
+    asks_none : (i : ℕ) (flow : Flow) → set (q_of i) ≡ false → asks_by i flow ≡ false
+    asks_none i flows.Branches h = ap (λ (t : Bool). t && not (framed i)) h
+    asks_none i flows.GoesOn h = refl
+    asks_none i flows.Jumps h = refl
+    asks_none i flows.Switches h = refl
+    asks_none i flows.Returns h = refl
+    asks_none i flows.Throws h = refl
+
+    -- what is known of a frame that is asked for
+    record IsAsked (i : ℕ) (f : FrameAt) : Type 0 where
+      tests_is : flow_at i ≡ flows.Branches
+      plain : framed i ≡ false
+      at_is : q_of i + 1 ≡ f.at
+
+    asked : (i : ℕ) (f : FrameAt) → Contains (further i) f → IsAsked i f
+    asked i f c =
+        let held = in_list_if (asks_by i (flow_at i)) (wide i) f c in
+        let is = if_listed (tests i) (behind i) f held.1 in
+        let h = asks_is i (flow_at i) held.0 in
+        record { tests_is = h.0; plain = h.1; at_is = ap (λ x. x.at) is.1 }
+
+    -- ---- the frames of conditional jumps that ask for one
+
+    merged_one : (n : ℕ) → merged (pieces part n ++ part n) (further n) ≡ (pieces part n ++ part n) ++ further n
+    merged_one n =
+        merged_list_if (asks_by n (flow_at n)) (pieces part n ++ part n) (wide n)
+        (λ t. merged_if (tests n) (behind n) (pieces part n ++ part n) (λ u. all_before n (asks_is n (flow_at n) t).0))
+
+    apart : (n : ℕ) → n < length b.code → (f g : FrameAt) → Contains (pieces further n) f → Contains (part n ++ further n) g → f.at < g.at
+    apart n lt f g c d =
+        let p = in_piece further n f c in
+        let i = p.piece in
+        let less = p.within in
+        let is = asked i f p.listed in
+        let at = is.at_is in
+        let grows = lead_grows (suc i) n (omega (arith, less)) in
+        ⊎_elim
+        (λ own.
+        let within = part_within n g own in
+        let from = within.0 in
+        let there = of_piece part (length b.code) n g lt own in
+        let other : g.at ≡ q_of i + 1 → ⊥ = not_there b first states given names well.code well.frames fit named i is.tests_is is.plain g there in
+        omega (arith, at, grows, from, other))
+        (λ last. let here = (asked n g last).at_is in omega (arith, at, grows, here))
+        (Contains-append_cases (part n) (further n) g d)
+
+    merged_pieces : (n : ℕ) → n ≤ length b.code → merged (pieces part n) (pieces further n) ≡ pieces (layout_frames_at b first states given set) n
+    merged_pieces zero le = refl
+    merged_pieces (suc n) le =
+        let front = pieces part n in
+        let others = pieces further n in
+        merged_on (front ++ part n) others (further n)
+        ∙ ap (λ (l : List FrameAt). merged l others) (merged_one n ∙ append_assoc front (part n) (further n))
+        ∙ merged_front front others (part n ++ further n) (apart n (omega (arith, le)))
+        ∙ ap (λ (l : List FrameAt). l ++ (part n ++ further n)) (merged_pieces n (omega (arith, le)))
+
+    -- ---- the frames of the others stand there already
+
+    -- among these frames are those of the narrow code
+    abbrev HasParts : List FrameAt → Type 0
+    HasParts all = (g : FrameAt) → Contains all_parts g → Contains all g
+
+    unasked : (n : ℕ) → n < length b.code → (all : List FrameAt) → RiseFrom 0 all → HasParts all → set (q_of n) ≡ true
+        → asks_by n (flow_at n) ≡ false → (t : Bool) → tests n ≡ t → merged all (frame_if t (behind n)) ≡ all
+    unasked n lt all r has is_wide h false e = refl
+    unasked n lt all r has is_wide h true e =
+        let is = is_test b first states given names well.code well.frames fit named (flow_at n) e in
+        let there = framed_behind b first states given names well.code well.frames fit named n lt is (asks_not n (flow_at n) is is_wide h) in
+        with_there 0 (behind n) all r (behind n, has (behind n) there, refl)
+
+    one_alike : (n : ℕ) → n < length b.code → (all : List FrameAt) → RiseFrom 0 all → HasParts all → merged all (used n) ≡ merged all (further n)
+    one_alike n lt all r has = by (set (q_of n)) refl (asks_by n (flow_at n)) refl
+      where
+        by : (s : Bool) → set (q_of n) ≡ s → (t : Bool) → asks_by n (flow_at n) ≡ t → merged all (list_if s (wide n)) ≡ merged all (list_if t (wide n))
+        by true is true h = refl
+        by true is false h = unasked n lt all r has is h (tests n) refl
+        by false is t h = ap (λ (x : Bool). merged all (list_if x (wide n))) (sym (asks_none n (flow_at n) is) ∙ h)
+
+    merged_alike : (n : ℕ) → n ≤ length b.code → (all : List FrameAt) → RiseFrom 0 all → HasParts all
+        → merged all (pieces used n) ≡ merged all (pieces further n)
+    merged_alike zero le all r has = refl
+    merged_alike (suc n) le all r has =
+        merged_on all (pieces used n) (used n)
+        ∙ ap (λ (l : List FrameAt). merged l (pieces used n)) (one_alike n (omega (arith, le)) all r has)
+        ∙ merged_alike n (omega (arith, le)) (merged all (further n)) (merged_rises all (further n) r) (λ g c. merged_left all (further n) g (has g c))
+        ∙ sym (merged_on all (pieces further n) (further n))
+
+    -- ---- the whole
+
+    used_one : (i : ℕ) → used_frames set (wide i) ≡ used i
+    used_one i = by (tests i)
+      where
+        by : (t : Bool) → used_frames set (frame_if t (behind i)) ≡ list_if (set (q_of i)) (frame_if t (behind i))
+        by true = ap (λ (s : Bool). list_if s (behind i ∷ [])) (ap (is_used_by set) {x = q_of i + 1} {y = suc (q_of i)} (omega arith))
+        by false = none (set (q_of i))
+          where
+            none : (s : Bool) → [] ≡ list_if s []
+            none true = refl
+            none false = refl
+
+    used_pieces : (n : ℕ) → used_frames set (pieces wide n) ≡ pieces used n
+    used_pieces zero = refl
+    used_pieces (suc n) =
+        filter-append (λ (f : FrameAt). is_used_by set f.at) (pieces wide n) (wide n)
+        ∙ ap₂ (λ (x y : List FrameAt). x ++ y) (used_pieces n) (used_one n)
+
+    -- the frames of a layout are those of the narrow code and those behind wide jumps
+    pub frames_laid : layout_frames b first states given set
+        ≡ merged (emission b first states given).frames (used_frames set (emission b first states given).wide_frames)
     unfolding emission
-    image_within i lt =
-        let size = length-map (twin_items b first form) (insn_of (unplaced given.integer) b.arg_slots) ∙ length_twin b first form in
-        let grows = lead_grows (suc i) (length b.code) (omega (arith, lt)) in
-        omega (arith, size, grows)
-
-    further_alike : (i : ℕ) → i < length b.code → (flow : Flow) → is_further b first states given set i flow ≡ is_further b first states given (layout_set all) i flow
-    further_alike i lt flows.Branches = ap (λ (t : Bool). t && not (framed i)) (same (q_of i) (image_within i lt))
-    further_alike i lt flows.GoesOn = refl
-    further_alike i lt flows.Jumps = refl
-    further_alike i lt flows.Switches = refl
-    further_alike i lt flows.Returns = refl
-    further_alike i lt flows.Throws = refl
-
-    same_set : layout_frames b first states given set ≡ layout_frames b first states given (layout_set all)
-    same_set =
-        pieces_alike (layout_frames_at b first states given set) (layout_frames_at b first states given (layout_set all)) (length b.code)
-        (λ i lt. ap (λ (t : Bool). part i ++ list_if t (wide i)) (further_alike i lt (flow_at i)))
-
-  -- the frames of a layout are those of the narrow code, or of both lists
-  pub frames_laid : (all : Bool) (list : List Bool) → list ≡ replicate (length (emission b first states given).code) all
-      → layout_frames b first states given (listed list)
-      ≡ (if all then merged (emission b first states given).frames (emission b first states given).wide_frames else (emission b first states given).frames)
-  frames_laid all list is =
-      let count = length (emission b first states given).code in
-      same_set all (listed list) (λ q lt. ap (λ (l : List Bool). listed l q) is ∙ get_or-replicate count q all false lt) ∙ set_laid all
+    frames_laid =
+        sym (ap (merged all_parts) (used_pieces (length b.code))
+        ∙ merged_alike (length b.code) (omega arith) all_parts parts_rise (λ g c. c) ∙ merged_pieces (length b.code) (omega arith))

@@ -1,90 +1,145 @@
--- The offsets of a layout are one list, and the test chooses the layout.
-use Rattle.std.proofs.Common.{◌≡◌, ℕ, suc, ◌+◌, Bool, true, false, not, List, [], ◌∷◌, refl, sym, ap, ◌∙◌, nat_lt, nat_le}
+-- The offsets of a layout are one list, and the wide jumps that are chosen leave room for the others.
+use Rattle.std.proofs.Common.{◌≡◌, ℕ, zero, suc, ◌+◌, Bool, true, false, ◌||◌, not, List, [], ◌∷◌, length, replicate, get_or, refl, sym, ap, ◌∙◌, nat_lt, nat_le, subst, arith, Some}
 use Rattle.std.specs.Prelude.{slice_index}
-use Rattle.std.proofs.lemmas.Bool.{and_parts, and_from, ltb-true, lt-ltb, leb-true, le-leb}
+use Rattle.std.proofs.lemmas.Bool.{and_parts, ltb-true, leb-true}
 use Rattle.jc_methods.specs.declared.insn.Insn.{Insn}
 use Rattle.jc_methods.specs.declared.insn.Insn.TheVariants as insns
 use Rattle.jc_methods.specs.Insn.{with_places}
-use Rattle.jc_methods.specs.Widened.{none_wide}
-use Rattle.jc_insn.specs.Sizes.{size_of, StartFrom, StartAt}
+use Rattle.jc_methods.specs.Widened.{WideSet, listed}
+use Rattle.jc_insn.specs.Sizes.{IsJump, size_of, StartFrom, StartAt}
 use Rattle.jc_insn.specs.Writing.{IsNear, IsNearJump, AllNear}
-use Rattle.jc_layout.specs.Layout.{layout_set, starts_from, starts_of, IsChosen, is_near, is_near_jump, all_near, is_wide}
+use Rattle.jc_layout.specs.Layout.{starts_from, starts_of, is_near, is_far_by, with_far, rounds, AreJumps, OthersNear, chosen, chosen_list}
+use Rattle.jc_layout.proofs.RoundsLaws.{chosen_is, rounds_length}
 
 -- ---- offsets
 
-stand_from : (wide : Bool) (n at : ℕ) (code : List Insn) → StartFrom (layout_set wide) n at code (starts_from wide at code)
+stand_from : (wide : WideSet) (n at : ℕ) (code : List Insn) → StartFrom wide n at code (starts_from wide n at code)
 stand_from wide n at [] = refl
 stand_from wide n at (insn ∷ code) =
-    (starts_from wide (at + size_of at wide insn) code, refl, stand_from wide (suc n) (at + size_of at wide insn) code)
+    (starts_from wide (suc n) (at + size_of at (wide n) insn) code, refl, stand_from wide (suc n) (at + size_of at (wide n) insn) code)
 
-pub starts_stand : (wide : Bool) (code : List Insn) → StartAt (layout_set wide) code (starts_of wide code)
+pub starts_stand : (wide : WideSet) (code : List Insn) → StartAt wide code (starts_of wide code)
 unfolding starts_of
 starts_stand wide code = stand_from wide 0 0 code
 
-one_from : (wide : Bool) (n at : ℕ) (code : List Insn) (starts : List ℕ) → StartFrom (layout_set wide) n at code starts → starts ≡ starts_from wide at code
+one_from : (wide : WideSet) (n at : ℕ) (code : List Insn) (starts : List ℕ) → StartFrom wide n at code starts → starts ≡ starts_from wide n at code
 one_from wide n at [] starts s = s
 one_from wide n at (insn ∷ code) starts (later, is, more) =
-    is ∙ ap (λ (l : List ℕ). at ∷ l) (one_from wide (suc n) (at + size_of at wide insn) code later more)
+    is ∙ ap (λ (l : List ℕ). at ∷ l) (one_from wide (suc n) (at + size_of at (wide n) insn) code later more)
 
-pub one_list : (wide : Bool) (code : List Insn) (starts : List ℕ) → StartAt (layout_set wide) code starts → starts ≡ starts_of wide code
+pub one_list : (wide : WideSet) (code : List Insn) (starts : List ℕ) → StartAt wide code starts → starts ≡ starts_of wide code
 unfolding starts_of
 one_list wide code starts s = one_from wide 0 0 code starts s
 
--- ---- the choice
+-- ---- room
 
 near_to : (at to : ℕ) → is_near at to ≡ true → IsNear at to
 near_to at to h = let p = and_parts (nat_lt to (at + 32768)) (nat_le at (to + 32768)) h in
     (ltb-true to (at + 32768) p.0, leb-true at (to + 32768) p.1)
 
-near_from : (at to : ℕ) → IsNear at to → is_near at to ≡ true
-near_from at to h = and_from (nat_lt to (at + 32768)) (nat_le at (to + 32768)) (lt-ltb to (at + 32768) h.0) (le-leb at (to + 32768) h.1)
+was_near : (near : Bool) → not near ≡ false → near ≡ true
+was_near true e = refl
+was_near false e = sym e
 
-jump_to : (at : ℕ) (insn : Insn) → is_near_jump at insn ≡ true → IsNearJump at insn
-jump_to at (insns.Jump op to) h = near_to at to h
-jump_to at insn h = tt
+-- an instruction that isn't far, and begins at this offset, has room
+near_by : (starts : List ℕ) (n at : ℕ) (insn : Insn) → slice_index starts n ≡ at → is_far_by starts n insn ≡ false
+    → IsNearJump at (with_places (slice_index starts) insn)
+near_by starts n at (insns.Jump op to) is e =
+    subst (λ a. IsNear a (slice_index starts to)) is
+    (near_to (slice_index starts n) (slice_index starts to) (was_near (is_near (slice_index starts n) (slice_index starts to)) e))
+near_by starts n at insn is e = tt
 
-jump_from : (at : ℕ) (insn : Insn) → IsNearJump at insn → is_near_jump at insn ≡ true
-jump_from at (insns.Jump op to) h = near_from at to h
-jump_from at insn h = refl
+-- the truth values of these instructions are those of the set
+abbrev AreOf : WideSet → (n : ℕ) → List Bool → Type 0
+AreOf set n [] = Unit {0}
+AreOf set n (w ∷ wide) = (set n ≡ w) × AreOf set (suc n) wide
 
-all_to : (places : ℕ → ℕ) (n : ℕ) (code : List Insn) (starts : List ℕ) → all_near places code starts ≡ true → AllNear places none_wide n code starts
-all_to places n [] starts h = tt
-all_to places n (insn ∷ code) [] h = tt
-all_to places n (insn ∷ code) (at ∷ starts) h =
-    let p = and_parts (is_near_jump at (with_places places insn)) (all_near places code starts) h in
-    (λ narrow. jump_to at (with_places places insn) p.0, all_to places (suc n) code starts p.1)
+module _ (starts : List ℕ) (set : WideSet) where
+  -- these offsets are those from the instruction with this number on
+  abbrev AreFrom : (n : ℕ) → (here : List ℕ) → Type 0
+  AreFrom n here = (k : ℕ) → slice_index starts (k + n) ≡ slice_index here k
 
-all_from : (places : ℕ → ℕ) (n : ℕ) (code : List Insn) (starts : List ℕ) → AllNear places none_wide n code starts → all_near places code starts ≡ true
-all_from places n [] starts h = refl
-all_from places n (insn ∷ code) [] h = refl
-all_from places n (insn ∷ code) (at ∷ starts) h =
-    and_from (is_near_jump at (with_places places insn)) (all_near places code starts) (jump_from at (with_places places insn) (h.0 refl))
-    (all_from places (suc n) code starts h.1)
+  -- a round makes no further one of these jumps wide
+  abbrev IsStill : ℕ → List Insn → List Bool → Type 0
+  IsStill n code wide = with_far starts n code wide ≡ wide
 
--- each jump has room at these offsets
-abbrev HaveRoom : List Insn → List ℕ → Type 0
-HaveRoom code starts = AllNear (slice_index starts) none_wide 0 code starts
+  all_near : (n at : ℕ) (code : List Insn) (wide : List Bool) (here : List ℕ) → length wide ≡ length code
+      → AreOf set n wide → StartFrom set n at code here → AreFrom n here → IsStill n code wide → AllNear (slice_index starts) set n code here
+  all_near n at [] wide here size are s same still = tt
+  all_near n at (insn ∷ code) [] here size are s same still = absurd (omega (arith, size))
+  all_near n at (insn ∷ code) (w ∷ wide) here size are (later, is, more) same still =
+      subst (AllNear (slice_index starts) set n (insn ∷ code)) (sym is) (
+        λ narrow. near_by starts n at insn (ap (slice_index starts) {x = n} {y = zero + n} (omega arith) ∙ same zero ∙ ap (λ (l : List ℕ). slice_index l 0) is)
+            (not_far w (is_far_by starts n insn) (sym are.0 ∙ narrow) (first still)),
+        all_near (suc n) (at + size_of at (set n) insn) code wide later (omega (arith, size)) are.1 more
+            (λ k. ap (slice_index starts) {x = k + suc n} {y = suc k + n} (omega arith) ∙ same (suc k) ∙ ap (λ (l : List ℕ). slice_index l (suc k)) is)
+            (rest still),
+      )
+    where
+      first : (w || is_far_by starts n insn) ∷ with_far starts (suc n) code wide ≡ w ∷ wide → (w || is_far_by starts n insn) ≡ w
+      first e = cc
 
-chosen_by : (code : List Insn) (starts : List ℕ) (t : Bool) → all_near (slice_index starts) code starts ≡ t
-    → (not t ≡ false → HaveRoom code starts) × (not t ≡ true → HaveRoom code starts → ⊥)
-chosen_by code starts true e = (λ h. all_to (slice_index starts) 0 code starts e, λ h. cc)
-chosen_by code starts false e = (λ h. cc, λ h fits. differ (sym e ∙ all_from (slice_index starts) 0 code starts fits))
+      rest : (w || is_far_by starts n insn) ∷ with_far starts (suc n) code wide ≡ w ∷ wide → with_far starts (suc n) code wide ≡ wide
+      rest e = cc
+
+      not_far : (w far : Bool) → w ≡ false → (w || far) ≡ w → far ≡ false
+      not_far true far e d = absurd cc
+      not_far false far e d = d
+
+are_of : (set : WideSet) (n : ℕ) (wide : List Bool) → ((k : ℕ) → set (k + n) ≡ get_or wide k false) → AreOf set n wide
+are_of set n [] h = tt
+are_of set n (w ∷ wide) h =
+    (ap set {x = n} {y = zero + n} (omega arith) ∙ h zero, are_of set (suc n) wide (λ k. ap set {x = k + suc n} {y = suc k + n} (omega arith) ∙ h (suc k)))
+
+chosen_size : (code : List Insn) → length (chosen_list code) ≡ length code
+unfolding chosen_list
+chosen_size code = rounds_length code (length code)
+
+pub chosen_near : (code : List Insn) → OthersNear code (chosen code)
+chosen_near code =
+    let wide = chosen_list code in
+    let starts = starts_of (listed (chosen_list code)) code in
+    all_near starts (listed wide) 0 0 code wide starts (chosen_size code)
+    (are_of (listed wide) 0 wide (λ k. ap (listed wide) {x = k + 0} {y = k} (omega arith))) (starts_stand (listed wide) code)
+    (λ k. ap (slice_index starts) {x = k + 0} {y = k} (omega arith)) (chosen_is code).ended
+
+-- ---- nothing but jumps is wide
+
+abbrev AreOnly : List Insn → List Bool → Type 0
+AreOnly [] wide = Unit {0}
+AreOnly (insn ∷ code) [] = Unit {0}
+AreOnly (insn ∷ code) (w ∷ wide) = (w ≡ true → IsJump insn) × AreOnly code wide
+
+was_wide : (w : Bool) → (w || false) ≡ true → w ≡ true
+was_wide true e = refl
+was_wide false e = e
+
+jump_of : (starts : List ℕ) (n : ℕ) (insn : Insn) (w : Bool) → (w ≡ true → IsJump insn) → (w || is_far_by starts n insn) ≡ true → IsJump insn
+jump_of starts n (insns.Jump op to) w h e = tt
+jump_of starts n insn w h e = h (was_wide w e)
+
+only_far : (starts : List ℕ) (n : ℕ) (code : List Insn) (wide : List Bool) → AreOnly code wide → AreOnly code (with_far starts n code wide)
+only_far starts n [] wide o = tt
+only_far starts n (insn ∷ code) [] o = tt
+only_far starts n (insn ∷ code) (w ∷ wide) o = (jump_of starts n insn w o.0, only_far starts (suc n) code wide o.1)
+
+only_none : (code : List Insn) → AreOnly code (replicate (length code) false)
+only_none [] = tt
+only_none (insn ∷ code) = ((λ e. absurd cc), only_none code)
+
+only_rounds : (code : List Insn) (k : ℕ) → AreOnly code (rounds code k)
+only_rounds code zero = only_none code
+only_rounds code (suc k) = only_far (starts_of (listed (rounds code k)) code) 0 code (rounds code k) (only_rounds code k)
+
+only_told : (code : List Insn) (wide : List Bool) → AreOnly code wide → AreJumps code (listed wide)
+only_told [] wide o place insn has is = absurd cc
+only_told (x ∷ code) [] o place insn has is = absurd cc
+only_told (x ∷ code) (w ∷ wide) o zero insn has is = subst IsJump (same has) (o.0 is)
   where
-    differ : false ≡ true → ⊥
-    differ x = cc
+    same : Some x ≡ Some insn → x ≡ insn
+    same e = cc
+only_told (x ∷ code) (w ∷ wide) o (suc place) insn has is = only_told code wide o.1 place insn has is
 
-pub layout_chosen : (code : List Insn) → IsChosen code (is_wide code)
-unfolding is_wide
-layout_chosen code =
-    let starts = starts_of false code in
-    let c = chosen_by code starts (all_near (slice_index starts) code starts) refl in
-    record { narrow = c.0; wide_only = c.1 }
-
-both_chosen : (code : List Insn) (a b : Bool) → IsChosen code a → IsChosen code b → a ≡ b
-both_chosen code true true c d = refl
-both_chosen code true false c d = absurd (c.wide_only refl (d.narrow refl))
-both_chosen code false true c d = absurd (d.wide_only refl (c.narrow refl))
-both_chosen code false false c d = refl
-
-pub one_choice : (code : List Insn) (wide : Bool) → IsChosen code wide → wide ≡ is_wide code
-one_choice code wide c = both_chosen code wide (is_wide code) c (layout_chosen code)
+pub chosen_jumps : (code : List Insn) → AreJumps code (chosen code)
+unfolding chosen_list
+chosen_jumps code = only_told code (rounds code (length code)) (only_rounds code (length code))

@@ -1,7 +1,13 @@
-pub mod LayoutLaws
+pub mod RoundsLaws
+pub mod FarLaws
 pub mod OffsetLaws
-pub mod AllOrNoneLaws
+pub mod LayoutLaws
 pub mod ChoiceLaws
+pub mod ReachedLaws
+pub mod ShiftLaws
+pub mod FarJumpsLaws
+pub mod JumpListsLaws
+pub mod KeptLaws
 pub mod FormedLaws
 pub mod ItemTargetsLaws
 pub mod LayableLaws

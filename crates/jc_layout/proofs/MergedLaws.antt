@@ -1,4 +1,4 @@
--- The frames of the wide layout: which they are, and that they are in rising order.
+-- The frames of a layout: which they are, and that they are in rising order.
 use Rattle.std.proofs.Common.{◌≡◌, ◌⊎◌, inl, inr, ⊎_elim, ℕ, zero, suc, ◌+◌, ◌<◌, ◌≤◌, Bool, true, false, List, [], ◌∷◌, map, refl, sym, ap, ap₂, ◌∙◌, subst, arith, nat_lt, nat_eq, if◌then◌else◌}
 use Rattle.std.specs.Prelude.{Contains}
 use Rattle.std.proofs.lemmas.Bool.{ltb-true, eqb-true}
@@ -12,9 +12,9 @@ use Rattle.jc_methods.specs.declared.body.FrameAt.{FrameAt}
 use Rattle.jc_bytes.proofs.FirstSeenLaws.{contains_one}
 use Rattle.jc_methods.specs.FrameOrder.{RiseFrom}
 use Rattle.jc_bytes.proofs.BooleanLaws.{none_in, which_in, first_in, later_in}
-use Rattle.jc_emit.specs.Emission.{widened_frame}
+use Rattle.jc_emit.specs.Emission.{IsUsed, widened_frame}
 use Rattle.jc_emit.proofs.TwinPremisesLaws.{risen}
-use Rattle.jc_layout.specs.Merged.{with_frame, merged}
+use Rattle.jc_layout.specs.Merged.{with_frame, merged, is_used_by, used_frames}
 
 -- ---- places
 
@@ -153,6 +153,56 @@ with_rises from f (h ∷ frames) r le =
 pub merged_rises : (frames others : List FrameAt) → RiseFrom 0 frames → RiseFrom 0 (merged frames others)
 merged_rises frames [] r = r
 merged_rises frames (f ∷ others) r = with_rises 0 f (merged frames others) (merged_rises frames others r) (omega arith)
+
+-- ---- those behind wide jumps
+
+used_at : (wide : WideSet) (f : FrameAt) → is_used_by wide f.at ≡ true → IsUsed wide f
+used_at wide f e = by f.at refl e
+  where
+    by : (place : ℕ) → f.at ≡ place → is_used_by wide place ≡ true → IsUsed wide f
+    by zero is t = absurd cc
+    by (suc q) is t = (q, omega (arith, is), t)
+
+pub is_used : (wide : WideSet) (f : FrameAt) → IsUsed wide f → is_used_by wide f.at ≡ true
+is_used wide f (q, is, t) = ap (is_used_by wide) {x = f.at} {y = suc q} (omega (arith, is)) ∙ t
+
+pub used_cases : (wide : WideSet) (frames : List FrameAt) (g : FrameAt) → Contains (used_frames wide frames) g → Contains frames g × IsUsed wide g
+used_cases wide [] g c = absurd (none_in g c)
+used_cases wide (f ∷ frames) g c = by (λ d. used_cases wide frames g d) (is_used_by wide f.at) refl c
+  where
+    by : (Contains (used_frames wide frames) g → Contains frames g × IsUsed wide g) → (t : Bool) → is_used_by wide f.at ≡ t
+        → Contains (if t then f ∷ used_frames wide frames else used_frames wide frames) g → Contains (f ∷ frames) g × IsUsed wide g
+    by rest true is c =
+        ⊎_elim (λ same. subst (λ x. Contains (f ∷ frames) x × IsUsed wide x) same (first_in f frames, used_at wide f is))
+        (λ later. let p = rest later in (later_in f frames g p.0, p.1))
+        (which_in f (used_frames wide frames) g c)
+    by rest false is c = let p = rest c in (later_in f frames g p.0, p.1)
+
+pub used_in : (wide : WideSet) (frames : List FrameAt) (g : FrameAt) → Contains frames g → IsUsed wide g → Contains (used_frames wide frames) g
+used_in wide [] g c u = absurd (none_in g c)
+used_in wide (f ∷ frames) g c u = by (λ d. used_in wide frames g d u) (is_used_by wide f.at) refl (which_in f frames g c)
+  where
+    by : (Contains frames g → Contains (used_frames wide frames) g) → (t : Bool) → is_used_by wide f.at ≡ t → (f ≡ g) ⊎ Contains frames g
+        → Contains (if t then f ∷ used_frames wide frames else used_frames wide frames) g
+    by rest true is (inl same) = subst (λ x. Contains (f ∷ used_frames wide frames) x) same (first_in f (used_frames wide frames))
+    by rest true is (inr later) = later_in f (used_frames wide frames) g (rest later)
+    by rest false is (inl same) = absurd (differ (sym is ∙ ap (λ (x : FrameAt). is_used_by wide x.at) same ∙ is_used wide g u))
+      where
+        differ : false ≡ true → ⊥
+        differ e = cc
+    by rest false is (inr later) = rest later
+
+pub rising_weaker : (a b : ℕ) (frames : List FrameAt) → b ≤ a → RiseFrom a frames → RiseFrom b frames
+rising_weaker a b [] le r = tt
+rising_weaker a b (f ∷ frames) le r = let above = r.0 in (omega (arith, le, above), r.1)
+
+pub used_rise : (wide : WideSet) (from : ℕ) (frames : List FrameAt) → RiseFrom from frames → RiseFrom from (used_frames wide frames)
+used_rise wide from [] r = tt
+used_rise wide from (f ∷ frames) r = by (is_used_by wide f.at) (used_rise wide (f.at + 1) frames r.1)
+  where
+    by : (t : Bool) → RiseFrom (f.at + 1) (used_frames wide frames) → RiseFrom from (if t then f ∷ used_frames wide frames else used_frames wide frames)
+    by true rest = (r.0, rest)
+    by false rest = let above = r.0 in rising_weaker (f.at + 1) from (used_frames wide frames) (omega (arith, above)) rest
 
 -- ---- in the wide form of code
 

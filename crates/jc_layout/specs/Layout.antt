@@ -1,72 +1,97 @@
--- Where the instructions of code stand, and whether its jumps are wide (JVM Specification 4.7.3 and 6.5, goto_w).
-use Rattle.std.specs.Prelude.{◌≡◌, ⊤, ℕ, ◌+◌, ◌<◌, Bool, true, false, ◌&&◌, not, if◌then◌else◌, List, [], ◌∷◌, length, None, slice_index, nat_lt, nat_le}
+-- Where the instructions of code stand, and which of its jumps are wide (JVM Specification 4.7.3 and 6.5, goto_w).
+use Rattle.std.specs.Prelude.{◌≡◌, ⊤, ℕ, zero, suc, ◌+◌, ◌<◌, Bool, true, false, ◌&&◌, ◌||◌, not, List, [], ◌∷◌, length, replicate, None, slice_index, nat_lt, nat_le}
 use Rattle.jc_bytes.specs.declared.fail.Fail.{Fail}
 use Rattle.jc_bytes.specs.declared.fail.Fail.TheVariants as fails
 use Rattle.jc_bytes.specs.declared.refusal.Refusal.{Refusal}
 use Rattle.jc_bytes.specs.declared.refusal.RefusalKind.TheVariants as kinds
 use Rattle.jc_methods.specs.declared.insn.Insn.{Insn}
 use Rattle.jc_methods.specs.declared.insn.Insn.TheVariants as insns
-use Rattle.jc_methods.specs.Insn.{with_places}
-use Rattle.jc_methods.specs.Widened.{WideSet, none_wide, all_wide, widened}
+use Rattle.jc_methods.specs.Widened.{WideSet, HasAt, listed, widened}
 use Rattle.jc_insn.specs.Layouts.{wide_starts}
-use Rattle.jc_insn.specs.Sizes.{size_of}
+use Rattle.jc_insn.specs.Sizes.{IsJump, size_of}
 use Rattle.jc_insn.specs.Writing.{AllNear, code_text}
 
--- ---- the two layouts
+-- ---- what stands in a layout
 
--- all jumps of the wide layout are wide, and none of the narrow one
-abbrev pub layout_set : (all : Bool) → WideSet
-layout_set all place = all
+-- the instructions that stand where these jumps are wide, and where they begin
+abbrev pub laid_code : List Bool → List Insn → List Insn
+laid_code wide code = widened (listed wide) code
 
--- the instructions that stand in a layout of the code, and where they begin
-abbrev pub laid_code : Bool → List Insn → List Insn
-laid_code wide code = if wide then widened all_wide code else code
-
-abbrev pub laid_starts : Bool → List Insn → List ℕ → List ℕ
-laid_starts wide code starts = if wide then wide_starts all_wide 0 code starts else starts
+abbrev pub laid_starts : List Bool → List Insn → List ℕ → List ℕ
+laid_starts wide code starts = wide_starts (listed wide) 0 code starts
 
 -- ---- offsets
 
--- the offsets at which the instructions begin, the first at this one, and then that of the end
-abbrev pub starts_from : Bool → ℕ → List Insn → List ℕ
-starts_from wide at [] = at ∷ []
-starts_from wide at (insn ∷ code) = at ∷ starts_from wide (at + size_of at wide insn) code
+-- The offsets at which the instructions begin, the first, which has the number n, at this one, and then that of the end. The jumps of
+-- the set are wide.
+abbrev pub starts_from : WideSet → (n at : ℕ) → List Insn → List ℕ
+starts_from wide n at [] = at ∷ []
+starts_from wide n at (insn ∷ code) = at ∷ starts_from wide (suc n) (at + size_of at (wide n) insn) code
 
-unfoldable pub starts_of : Bool → List Insn → List ℕ
-starts_of wide code = starts_from wide 0 code
+unfoldable pub starts_of : WideSet → List Insn → List ℕ
+starts_of wide code = starts_from wide 0 0 code
 
--- ---- the choice
-
--- each jump of the narrow layout has room in two bytes
-abbrev pub FitsNarrow : List Insn → Type 0
-FitsNarrow code = AllNear (slice_index (starts_of false code)) none_wide 0 code (starts_of false code)
-
--- the layout is narrow exactly where each jump has room
-pub record IsChosen (code : List Insn) (wide : Bool) : Type 0 where
-  pub narrow : wide ≡ false → FitsNarrow code
-  pub wide_only : wide ≡ true → FitsNarrow code → ⊥
-
--- ---- the choice as a test
+-- ---- room in two bytes
 
 abbrev pub is_near : ℕ → ℕ → Bool
 is_near at to = nat_lt to (at + 32768) && nat_le at (to + 32768)
 
-abbrev pub is_near_jump : ℕ → Insn → Bool
-is_near_jump at (insns.Jump op to) = is_near at to
-is_near_jump at insn = true
+-- the instruction with this number is a jump that has no room in two bytes, where the instructions begin at these offsets
+abbrev pub is_far_by : (starts : List ℕ) → (n : ℕ) → Insn → Bool
+is_far_by starts n (insns.Jump op to) = not (is_near (slice_index starts n) (slice_index starts to))
+is_far_by starts n insn = false
 
-abbrev pub all_near : (ℕ → ℕ) → List Insn → List ℕ → Bool
-all_near places (insn ∷ code) (at ∷ starts) = is_near_jump at (with_places places insn) && all_near places code starts
-all_near places code starts = true
+-- ---- the choice
 
-unfoldable pub is_wide : List Insn → Bool
-is_wide code = not (all_near (slice_index (starts_of false code)) code (starts_of false code))
+-- The truth value of each instruction: whether it is a jump that is wide, or has no room.
+abbrev pub with_far : (starts : List ℕ) → (n : ℕ) → List Insn → List Bool → List Bool
+with_far starts n [] wide = []
+with_far starts n (insn ∷ code) [] = []
+with_far starts n (insn ∷ code) (w ∷ wide) = (w || is_far_by starts n insn) ∷ with_far starts (suc n) code wide
 
--- ---- the layout that is chosen
+-- One round: the code is laid out with these jumps wide, and each jump without room becomes wide too. The wide ones stay wide, also
+-- where the padding of a switch would leave them room again.
+abbrev pub round : List Insn → List Bool → List Bool
+round code wide = with_far (starts_of (listed wide) code) 0 code wide
+
+-- after so many rounds, of which the first begins with no wide jump
+abbrev pub rounds : List Insn → ℕ → List Bool
+rounds code zero = replicate (length code) false
+rounds code (suc k) = round code (rounds code k)
+
+-- a jump that isn't wide has no room, where the instructions begin at these offsets
+abbrev pub has_far : (starts : List ℕ) → (n : ℕ) → List Insn → List Bool → Bool
+has_far starts n [] wide = false
+has_far starts n (insn ∷ code) [] = false
+has_far starts n (insn ∷ code) (w ∷ wide) = (not w && is_far_by starts n insn) || has_far starts (suc n) code wide
+
+-- The wide jumps: those that rounds lead to, once none makes one more jump wide. This isn't the least set in which each other jump
+-- has room, since a jump that one round makes wide may move a switch to where its padding is less.
+pub record IsChosen (code : List Insn) (wide : List Bool) : Type 0 where
+  pub count : ℕ
+  pub reached : wide ≡ rounds code count
+  pub ended : round code wide ≡ wide
+
+-- each round but the last makes a jump wide, so as many rounds as there are instructions are enough
+unfoldable pub chosen_list : List Insn → List Bool
+chosen_list code = rounds code (length code)
+
+abbrev pub chosen : List Insn → WideSet
+chosen code = listed (chosen_list code)
+
+-- each jump that isn't wide has room in two bytes
+abbrev pub OthersNear : List Insn → WideSet → Type 0
+OthersNear code wide = AllNear (slice_index (starts_of wide code)) wide 0 code (starts_of wide code)
+
+-- nothing but jumps is wide
+abbrev pub AreJumps : List Insn → WideSet → Type 0
+AreJumps code wide = (place : ℕ) (insn : Insn) → HasAt code place insn → wide place ≡ true → IsJump insn
+
+-- ---- the layout
 
 -- the offsets of the instructions, and that of the end
 unfoldable pub chosen_starts : List Insn → List ℕ
-chosen_starts code = starts_of (is_wide code) code
+chosen_starts code = starts_of (chosen code) code
 
 -- how many bytes there are
 abbrev pub chosen_length : List Insn → ℕ
@@ -74,7 +99,7 @@ chosen_length code = slice_index (chosen_starts code) (length code)
 
 -- the bytes
 unfoldable pub chosen_text : List Insn → List ℕ
-chosen_text code = code_text (slice_index (chosen_starts code)) (layout_set (is_wide code)) 0 code (chosen_starts code)
+chosen_text code = code_text (slice_index (chosen_starts code)) (chosen code) 0 code (chosen_starts code)
 
 -- ---- code that is too large
 

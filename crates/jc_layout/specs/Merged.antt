@@ -1,5 +1,6 @@
 -- Frames of two lists, by their places (JVM Specification 4.7.4).
-use Rattle.std.specs.Prelude.{List, [], ◌∷◌, nat_lt, nat_eq, if◌then◌else◌}
+use Rattle.std.specs.Prelude.{ℕ, zero, suc, Bool, false, List, [], ◌∷◌, filter, nat_lt, nat_eq, if◌then◌else◌}
+use Rattle.jc_methods.specs.Widened.{WideSet}
 use Rattle.jc_methods.specs.declared.body.FrameAt.{FrameAt}
 
 -- a frame in front of the first of these that stands behind it, unless one stands at its place
@@ -14,3 +15,12 @@ with_frame f (g ∷ frames) =
 abbrev pub merged : List FrameAt → List FrameAt → List FrameAt
 merged frames [] = frames
 merged frames (f ∷ others) = with_frame f (merged frames others)
+
+-- a wide jump stands directly in front of the place
+abbrev pub is_used_by : WideSet → (place : ℕ) → Bool
+is_used_by wide zero = false
+is_used_by wide (suc q) = wide q
+
+-- of the frames behind conditional jumps those behind wide ones
+abbrev pub used_frames : WideSet → List FrameAt → List FrameAt
+used_frames wide frames = filter (λ (f : FrameAt). is_used_by wide f.at) frames

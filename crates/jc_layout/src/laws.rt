@@ -2,6 +2,7 @@
 //!
 //! [`each_laid_body_has_a_twin`] is the promise of this crate; the others are steps, which the crates above cite too.
 ghost use Rattle.std.specs.Prelude.{◌≡◌, ℕ, Bool, List};
+ghost use Rattle.jc_methods.specs.Widened.{WideSet};
 ghost use Rattle.jc_methods.specs.VerificationTypes.{Names};
 ghost use Rattle.jc_methods.specs.WellMade.{IsWellMadeOfAnySize};
 ghost use Rattle.jc_methods.specs.declared.body.Body.{Body};
@@ -13,22 +14,25 @@ ghost use Rattle.jc_insn.specs.Sizes.{StartAt};
 ghost use Rattle.jc_emit.specs.Emission.{Emitting, emission, HasFrameStates, IsArrayNumber};
 ghost use Rattle.jc_layout.specs.LaidBody.{LaidBodiesAreSpelled, LaidBodiesAreTwins};
 ghost use Rattle.jc_layout.specs.Layable.{IsLayable};
-ghost use Rattle.jc_layout.specs.Layout.{layout_set, starts_of, IsChosen, is_wide};
+ghost use Rattle.jc_layout.specs.Layout.{starts_of, AreJumps, IsChosen, OthersNear, chosen, chosen_list};
 
-/// The body that stands in a layout of the instrumented code is a twin of the body, in either
-/// layout, where what the twin names has its places in the pool and what the body uses stays.
+/// The body that stands in a layout of the instrumented code is a twin of the body, whichever jumps
+/// are wide, where what the twin names has its places in the pool and what the body uses stays.
 pub fn each_laid_body_has_a_twin()
     ensures { (b : Body) (first : ℕ) (states : List State) (given : Emitting) (names : Names) → IsWellMadeOfAnySize b
         → HasFrameStates b states → IsArrayNumber names given.array → LaidBodiesAreTwins names b first states given }
 {}
 
-/// In each layout there is one list of offsets at which the instructions begin, whatever padding
-/// switches need, and one layout is chosen.
+/// Where some jumps are wide there is one list of offsets at which the instructions begin, whatever
+/// padding switches need. One list of wide jumps is chosen: only jumps are in it, and each other jump
+/// has room in two bytes.
 pub fn each_layout_is_chosen()
-    ensures starts { (wide : Bool) (code : List Insn) → StartAt (layout_set wide) code (starts_of wide code) }
-    ensures one { (wide : Bool) (code : List Insn) (starts : List ℕ) → StartAt (layout_set wide) code starts → starts ≡ starts_of wide code }
-    ensures chosen { (code : List Insn) → IsChosen code (is_wide code) }
-    ensures one_choice { (code : List Insn) (wide : Bool) → IsChosen code wide → wide ≡ is_wide code }
+    ensures starts { (wide : WideSet) (code : List Insn) → StartAt wide code (starts_of wide code) }
+    ensures one { (wide : WideSet) (code : List Insn) (starts : List ℕ) → StartAt wide code starts → starts ≡ starts_of wide code }
+    ensures chosen { (code : List Insn) → IsChosen code (chosen_list code) }
+    ensures one_choice { (code : List Insn) (wide : List Bool) → IsChosen code wide → wide ≡ chosen_list code }
+    ensures near { (code : List Insn) → OthersNear code (chosen code) }
+    ensures jumps { (code : List Insn) → AreJumps code (chosen code) }
 {}
 
 /// The instrumented code of a well made body can be laid out.

@@ -1,13 +1,14 @@
 //! Instrumented code of bodies, and its layouts.
-ghost use Rattle.std.specs.Prelude.{◌≡◌, ◌≤◌, true, length, IfOk};
+ghost use Rattle.std.specs.Prelude.{◌≡◌, ◌≤◌, length, IfOk};
 ghost use Rattle.jc_methods.specs.FrameOrder.{RiseFrom};
 ghost use Rattle.jc_methods.specs.ProbeMembers.{most_ids};
 ghost use Rattle.jc_methods.specs.VerificationTypes.{AreNumberedFrames};
 ghost use Rattle.jc_methods.specs.WellMade.{IsWellMade};
+ghost use Rattle.jc_methods.specs.Widened.{listed};
 ghost use Rattle.jc_instrument_code.specs.Given.{AreFrames, IsLaid};
 ghost use Rattle.jc_instrument_code.specs.TwinCode.{chosen_frames};
 ghost use Rattle.jc_layout.specs.Layable.{IsLayable};
-ghost use Rattle.jc_layout.specs.Merged.{merged};
+ghost use Rattle.jc_layout.specs.Merged.{merged, used_frames};
 ghost use Rattle.tests_classes.specs.Instrumented.{IsInstrumented, FitsInLayout};
 
 use crate::codes::{LaidCode, coded};
@@ -15,7 +16,7 @@ use crate::shown::{put_emitted, put_layout};
 use crate::ways::{Asked, planned};
 use jc_bytes::{Fail, List, Memory, Names, Refusal};
 use jc_emit::emit;
-use jc_instrument_code::{each_layout_can_be_written, frames_of, merged_frames};
+use jc_instrument_code::{each_layout_can_be_written, merged_frames, used_frames};
 use jc_kinds::states;
 use jc_layout::{Laid, layout};
 use jc_methods::{Body, Emitted, Fetch, FrameAt};
@@ -93,8 +94,8 @@ pub fn laid(
     );
     let emitted = out.accepted(emission)?;
     let laid = out.accepted(laid_out(alloc, &emitted))?;
-    let merged = out.got(merged(alloc, &emitted, laid.wide))?;
-    put_layout(&laid, frames_of(&emitted, &merged, laid.wide), out)
+    let frames = out.got(merged(alloc, &emitted, &laid.wide))?;
+    put_layout(&laid, &frames, out)
 }
 
 /// Puts the Code attribute in which the method at this place of the pool is called for the array of probes.
@@ -148,17 +149,14 @@ fn in_layout(
     with_frames(alloc, code, pool, method, out)
 }
 
-/// The frames of both layouts in the order of their places, if the wide one is chosen; else none.
-fn merged(alloc: Global, emitted: &Emitted, wide: bool) -> Result<List<FrameAt>, Memory>
+/// The frames of a layout in which these jumps are wide, in the order of their places.
+fn merged(alloc: Global, emitted: &Emitted, wide: &[bool]) -> Result<List<FrameAt>, Memory>
     requires frames { RiseFrom 0 emitted.now.frames }
     requires wide_frames { RiseFrom 0 emitted.now.wide_frames }
-    ensures { IfOk result (λ all. wide ≡ true → all ≡ merged emitted.now.frames emitted.now.wide_frames) }
+    ensures { IfOk result (λ all. all ≡ merged emitted.now.frames (used_frames (listed wide.now) emitted.now.wide_frames)) }
 {
-    if wide {
-        merged_frames(alloc, &emitted.frames, &emitted.wide_frames)
-    } else {
-        Ok(List::new(alloc))
-    }
+    let used = used_frames(alloc, &emitted.wide_frames, wide)?;
+    merged_frames(alloc, &emitted.frames, &used)
 }
 
 /// Puts the Code attribute of instrumented code in this layout.
@@ -175,7 +173,6 @@ fn with_frames(
     requires fit { AreFrames code.emitted.now (length code.names.now) (chosen_frames code.emitted.now) }
 {
     let LaidCode { emitted, laid, .. } = code;
-    let merged = out.got(merged(alloc, emitted, laid.wide))?;
-    let frames = frames_of(emitted, &merged, laid.wide);
-    coded(alloc, code, frames, method, pool, out)
+    let frames = out.got(merged(alloc, emitted, &laid.wide))?;
+    coded(alloc, code, &frames, method, pool, out)
 }

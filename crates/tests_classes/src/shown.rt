@@ -180,9 +180,23 @@ fn put_offset(laid: &Laid, at: usize, out: &mut Answer) {
     }
 }
 
-/// Puts the form of the layout, the offsets of its frames and of its end, and its bytes.
+/// Puts whether a jump is wide, and the numbers of those that are, as the emitted code has them.
+fn put_wide(wide: &[bool], out: &mut Answer) {
+    out.put(if wide.contains(&true) {
+        "wide"
+    } else {
+        "narrow"
+    });
+    for (number, is_wide) in wide.iter().enumerate() {
+        if *is_wide {
+            out.label(" ", &number);
+        }
+    }
+}
+
+/// Puts the wide jumps of the layout, the offsets of its frames and of its end, and its bytes.
 pub fn put_layout(laid: &Laid, frames: &[FrameAt], out: &mut Answer) -> Option<()> {
-    out.put(if laid.wide { "wide" } else { "narrow" });
+    put_wide(&laid.wide, out);
     out.put("; frames");
     for frame in frames {
         put_offset(laid, frame.at as usize, out);

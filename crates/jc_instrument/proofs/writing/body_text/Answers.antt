@@ -1,4 +1,4 @@
-use Rattle.std.proofs.Common.{List, length, map, sym, ◌∙◌, arith, subst}
+use Rattle.std.proofs.Common.{List, length, map, sym, subst}
 use Rattle.std.specs.List.{AllByRecursion}
 use Rattle.std.proofs.lemmas.Result.{err_from_is_err_and}
 use Rattle.jc_methods.specs.VerificationTypes.{AreNumberedFrames, type_state_at}
@@ -6,19 +6,8 @@ use Rattle.jc_methods.specs.declared.body.FrameAt.{FrameAt}
 use Rattle.jc_frames.specs.FullTable.{HasPlace, RefusesClasses, TakesClasses, named_by_all}
 use Rattle.jc_frames.proofs.TakenLaws.{all_stand}
 use Rattle.jc_kinds.specs.Answers.{AreStates}
-use Rattle.jc_instrument.proofs.WritingLaws.{body_written, can_be_written, few_bytes, few_rows, frames_of, meant_refused, numbered_of, ready_grown, starts_count}
+use Rattle.jc_instrument.proofs.WritingLaws.{body_written, can_be_written, few_bytes, few_rows, frames_of, meant_refused, numbered_of, ready_grown}
 use Rattle.jc_instrument.proofs.writing.body_text.Goals as goal
-
-pub jump_widths-requires : goal.jump_widths-requires
-jump_widths-requires c =
-    let plan = c.requires.plan in
-    let count = starts_count c.args.names.now c.args.ready plan.0 c.requires plan.1 in
-    omega (arith, count)
-
-pub returns-in_err-wide-clause-refused : goal.returns-in_err-wide-clause-refused
-returns-in_err-wide-clause-refused c = λ others array w of.
-    let p = err_from_is_err_and c.from_residual.result c.from_residual.ensures.1 in
-    rw (p.1, p.2) tt
 
 pub emit_parts-requires-clause-states : goal.emit_parts-requires-clause-states
 emit_parts-requires-clause-states c =
@@ -33,8 +22,8 @@ take_classes-requires c =
     subst (AreNumberedFrames (length now)) (sym c.deref-3.ensures)
     (numbered_of r.laid.starts (length now) c.in_ok-parts.parts.frames
     (can_be_written now r ready c.in_ok-parts.parts.frames plan.0 plan.1
-    (frames_of c.args.names.now now r plan.0 c.in_ok-parts.parts.frames c.deref.result.now c.deref-2.result.now c.in_ok-parts.ensures.names c.requires plan.1
-    c.deref.ensures (c.deref-2.ensures.value ∙ c.in_ok-wide.ensures) (c.in_ok-parts.ensures.frames plan.0 plan.1))))
+    (frames_of c.args.names.now now r plan.0 c.in_ok-parts.parts.frames c.deref.result.now c.deref-2.result.now c.in_ok-parts.ensures.names c.requires
+    c.deref.ensures c.deref-2.ensures (c.in_ok-parts.ensures.frames plan.0 plan.1))))
 
 pub code_text-requires-clause-rows : goal.code_text-requires-clause-rows
 code_text-requires-clause-rows c =
@@ -51,8 +40,8 @@ code_text-requires-clause-frames c =
     let plan = c.requires.plan in
     let ready = ready_grown c.args.names.now now r c.in_ok-parts.ensures.names c.requires in
     can_be_written now r ready c.in_ok-parts.parts.frames plan.0 plan.1
-    (frames_of c.args.names.now now r plan.0 c.in_ok-parts.parts.frames c.deref.result.now c.deref-2.result.now c.in_ok-parts.ensures.names c.requires plan.1
-    c.deref.ensures (c.deref-2.ensures.value ∙ c.in_ok-wide.ensures) (c.in_ok-parts.ensures.frames plan.0 plan.1))
+    (frames_of c.args.names.now now r plan.0 c.in_ok-parts.parts.frames c.deref.result.now c.deref-2.result.now c.in_ok-parts.ensures.names c.requires
+    c.deref.ensures c.deref-2.ensures (c.in_ok-parts.ensures.frames plan.0 plan.1))
 
 pub code_text-requires-clause-classes : goal.code_text-requires-clause-classes
 code_text-requires-clause-classes c =
@@ -63,7 +52,7 @@ code_text-requires-clause-classes c =
 
 pub returns-in_err-parts-clause-refused : goal.returns-in_err-parts-clause-refused
 returns-in_err-parts-clause-refused c = λ others array w of.
-    let r = c.from_residual-in_err-parts in
+    let r = c.from_residual in
     let p = err_from_is_err_and r.result r.ensures.1 in
     rw (p.1, p.2) tt
 
@@ -78,7 +67,7 @@ returns-in_err-take_classes-clause-refused c = λ others array w of.
     rw (p.1, p.2)
     (meant_refused c.args.names.now now others array c.args.ready w c.in_ok-parts.ensures.names c.requires of c.in_ok-parts.parts.frames
     (frames_of c.args.names.now now c.args.ready w.first c.in_ok-parts.parts.frames c.deref.result.now c.deref-2.result.now c.in_ok-parts.ensures.names
-    c.requires of.plan c.deref.ensures (c.deref-2.ensures.value ∙ c.in_ok-wide.ensures) (c.in_ok-parts.ensures.frames w.first of.plan)) c.args.pool.now c.take_classes.new.pool e refused)
+    c.requires c.deref.ensures c.deref-2.ensures (c.in_ok-parts.ensures.frames w.first of.plan)) c.args.pool.now c.take_classes.new.pool e refused)
 
 pub returns-in_err-code_text-clause-refused : goal.returns-in_err-code_text-clause-refused
 returns-in_err-code_text-clause-refused c = λ others array w of.
@@ -94,6 +83,6 @@ returns-clause-text c = λ others array w of.
     c.in_ok-take_classes.ensures.classes in
     body_written c.args.names.now now others array c.args.ready w c.in_ok-parts.ensures.names c.requires of c.in_ok-parts.parts.frames
     (frames_of c.args.names.now now c.args.ready w.first c.in_ok-parts.parts.frames c.deref.result.now c.deref-2.result.now c.in_ok-parts.ensures.names
-    c.requires of.plan c.deref.ensures (c.deref-2.ensures.value ∙ c.in_ok-wide.ensures) (c.in_ok-parts.ensures.frames w.first of.plan))
+    c.requires c.deref.ensures c.deref-2.ensures (c.in_ok-parts.ensures.frames w.first of.plan))
     c.args.pool.now taken c.args.places.now c.in_ok-parts.parts.tables c.in_ok-code_text.field-0 takes
     (c.in_ok-parts.ensures.tables w.first of.plan) c.in_ok-code_text.ensures
