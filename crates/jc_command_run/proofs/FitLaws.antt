@@ -5,21 +5,21 @@ use Rattle.std.proofs.lemmas.List.Elements.{All-from_recursion}
 use Rattle.std.proofs.lemmas.Option.{same_Some}
 use Rattle.jc_bytes.specs.ByteLists.{AreBytes}
 use Rattle.jc_bytes.specs.Modified.{IsModified}
+use Rattle.jc_class.specs.declared.class_file.ClassFile.{ClassFile}
 use Rattle.jc_class.proofs.WritableLaws.{class_holds}
 use Rattle.jc_instrument.proofs.PoolTextLaws.{class_pool, class_short}
 use Rattle.jc_link_programs.specs.Linking.{IsLinkedClass, AreLinkedClasses, IsProgramOf}
 use Rattle.jc_link_programs.specs.ProbeInits.{AreProbes}
 use Rattle.jc_methods.specs.VerificationTypes.{Names}
 use Rattle.jc_methods.specs.declared.body.Body.{Body}
-use Rattle.jc_pool.specs.Pool.{PoolValue}
 use Rattle.jc_programs.specs.declared.program.Program.{Program}
 use Rattle.jc_programs.specs.declared.program.Linked.{Linked}
 use Rattle.jc_programs.specs.declared.program.ProbeInit.{ProbeInit}
 use Rattle.jc_command_run.specs.HitStore.{count_of, FitsRecord, FitRecords}
 
-few_probes : (pool : PoolValue) (name : List ℕ) (bodies : List Body) (o : Option ProbeInit) → AreProbes pool name bodies o → count_of o ≤ 65535
-few_probes pool name bodies None are = omega arith
-few_probes pool name bodies (Some init) are = omega (arith, are.asks.code.count_fits)
+few_probes : (c : ClassFile) (name : List ℕ) (bodies : List Body) (o : Option ProbeInit) → AreProbes c name bodies o → count_of o ≤ 65535
+few_probes c name bodies None are = omega arith
+few_probes c name bodies (Some init) are = omega (arith, are.asks.code.count_fits)
 
 fits_record : (names : Names) (bytes : List ℕ) (c : Linked) → AreBytes bytes → IsLinkedClass names bytes c → FitsRecord c
 fits_record names bytes c are linked =
@@ -30,7 +30,7 @@ fits_record names bytes c are linked =
     record {
       short = omega (arith, short);
       text = subst IsModified named this.2;
-      count = few_probes file.pool c.name c.bodies c.probes linked.is.probes;
+      count = few_probes file c.name c.bodies c.probes linked.is.probes;
     }
 
 each_fits : (names : Names) (files : List (List ℕ)) (classes : List Linked) → AllByRecursion AreBytes files → AreLinkedClasses names files classes → AllByRecursion FitsRecord classes

@@ -1,28 +1,31 @@
 -- What a class's added method asks for is found, or it has none that asks.
-use Rattle.std.proofs.Common.{◌≡◌, ◌⊎◌, inl, inr, ℕ, ℤ, ◌<◌, ◌≤◌, ◌^◌, Bool, true, false, List, Option, Some, None, int_eq, refl, sym, ◌∙◌, ap, subst, arith}
+use Rattle.std.proofs.Common.{◌≡◌, ◌⊎◌, inl, inr, ℕ, ℤ, ◌<◌, ◌≤◌, ◌^◌, Bool, true, false, List, Option, Some, None, int_eq, refl, sym, ◌∙◌, ap, arith}
 use Rattle.std.specs.Int.{w64, cast_signed, cast_unsigned}
 use Rattle.std.specs.Bool.{Decides}
 use Rattle.std.proofs.lemmas.Bool.{cases_lt}
 use Rattle.std.proofs.lemmas.Bool.Decides.{Decides-int_eq}
 use Rattle.std.proofs.lemmas.Int.{of_z-to_z}
 use Rattle.std.proofs.lemmas.Option.{none-some, same_Some}
-use Rattle.jc_methods.specs.ProbeMembers.{data_name, data_type, runtime_class, fetch_name, fetch_type, most_probes}
+use Rattle.jc_methods.specs.ProbeMembers.{data_name, data_type, fetch_of, runtime_class, fetch_name, fetch_type, most_probes}
 use Rattle.jc_methods.specs.WellMade.{what_used}
 use Rattle.jc_methods.specs.declared.body.Body.{Body}
 use Rattle.jc_methods.specs.declared.body.Use.{Use}
 use Rattle.jc_methods.specs.declared.body.What.{What}
 use Rattle.jc_methods.specs.declared.body.What.TheVariants as whats
 use Rattle.jc_methods.specs.declared.insn.Insn.{Insn}
+use Rattle.jc_methods.specs.declared.probe_members.Fetch.{Fetch}
+use Rattle.jc_methods.specs.declared.probe_members.Fetch.TheVariants as fetches
 use Rattle.jc_programs.specs.declared.program.ProbeInit.{ProbeInit}
 use Rattle.jc_pool.specs.Lookup.{string_of}
-use Rattle.jc_pool.specs.Pool.{PoolValue}
-use Rattle.jc_emit.specs.Added.{init_code}
+use Rattle.jc_class.specs.declared.class_file.ClassFile.{ClassFile}
 use Rattle.jc_instrument.proofs.DecidedLaws.{OrNot, text_or_not}
 use Rattle.jc_instrument.proofs.RoomDecidedLaws.{both_or_not}
-use Rattle.jc_link_programs.specs.ProbeInits.{places_of, asked_in, NamesMembers, AsksFor, AreProbes, init_of}
-use Rattle.jc_link_programs.specs.declared.probe_inits.Asked.{Asked}
-use Rattle.jc_link_programs.proofs.ProbeInitLaws.{asks_meant, Meant, meant_asks, none_asked}
+use Rattle.jc_link_programs.specs.OwnBootstrap.{HasBootstrap}
+use Rattle.jc_link_programs.specs.ProbeInits.{AreProbes, CodeAsks, NamesField, NamesMembers, added_code, added_of, asked_in, number_in, places_of}
+use Rattle.jc_link_programs.specs.declared.asked.Asked.{Asked}
+use Rattle.jc_link_programs.proofs.ProbeInitLaws.{Meant, are_probes, asks_meant, meant_asks, none_added, none_asked, none_asking, none_named}
 use Rattle.jc_link_programs.proofs.SameCodeLaws.{code_decided}
+use Rattle.jc_link_laws.proofs.FoundBootstrapLaws.{bootstrap_or_not}
 use Rattle.jc_link_laws.proofs.FoundPairLaws.{texts_or_not}
 
 -- ---- facts
@@ -94,67 +97,97 @@ id_or_not None = inr (λ h. let e = h.1.0 in cc)
 
 -- ---- what the code asks for
 
-members_or_not : (uses : List Use) (name : List ℕ) (a : Asked) → OrNot (NamesMembers uses name a)
-members_or_not uses name a =
-    by (field_or_not (what_used uses a.field) name data_name data_type) (method_or_not (what_used uses a.fetch) runtime_class fetch_name fetch_type)
+named_or_not : (fetch : Fetch) (uses : List Use) (name : List ℕ) (field : ℕ) → OrNot (NamesField fetch uses name field)
+named_or_not fetches.Member uses name field = field_or_not (what_used uses field) name data_name data_type
+named_or_not fetches.Constant uses name field = inl tt
+
+members_or_not : (fetch : Fetch) (uses : List Use) (name : List ℕ) (a : Asked) → OrNot (NamesMembers fetch uses name a)
+members_or_not fetch uses name a =
+    by (named_or_not fetch uses name a.field) (method_or_not (what_used uses a.fetch) runtime_class fetch_name fetch_type)
   where
-    by : OrNot (what_used uses a.field ≡ Some (whats.Field name data_name data_type)) → OrNot (what_used uses a.fetch ≡ Some (whats.Method runtime_class fetch_name fetch_type))
-        → OrNot (NamesMembers uses name a)
-    by (inl field) (inl fetch) = inl (record { field_is = field; fetch_is = fetch })
+    by : OrNot (NamesField fetch uses name a.field) → OrNot (what_used uses a.fetch ≡ Some (whats.Method runtime_class fetch_name fetch_type))
+        → OrNot (NamesMembers fetch uses name a)
+    by (inl field) (inl fetched) = inl (record { field_is = field; fetch_is = fetched })
     by (inl field) (inr other) = inr (λ m. other m.fetch_is)
-    by (inr other) fetch = inr (λ m. other m.field_is)
+    by (inr other) fetched = inr (λ m. other m.field_is)
 
-module _ (pool : PoolValue) (name : List ℕ) (b : Body) where
-  abbrev Asks : Type 0
-  Asks = (init : ProbeInit) × AsksFor pool name b init
+-- what code asks for
+record Known (fetch : Fetch) (name : List ℕ) (b : Body) : Type 0 where
+  id : ℕ
+  count : ℕ
+  text : ℕ
+  asks : CodeAsks fetch name b id count text
 
-  asks_by : (a : Asked) → asked_in b.code ≡ Some a → OrNot Asks
-  asks_by a there = by (cases_lt most_probes a.count) (code_or_not b.code (init_code (places_of a) a.count))
-      (members_or_not b.uses name a) (id_or_not (what_used b.uses a.id)) (text_or_not (string_of pool a.name) name)
+module _ (fetch : Fetch) (name : List ℕ) (b : Body) where
+  known_by : (a : Asked) → asked_in fetch b.code ≡ Some a → (count : ℕ) → number_in b.uses a.count ≡ Some count → OrNot (Known fetch name b)
+  known_by a there count number = by (cases_lt most_probes count) (code_or_not b.code (added_code fetch (places_of a) count))
+      (members_or_not fetch b.uses name a) (id_or_not (what_used b.uses a.id))
     where
-      meant : (h : Asks) → Meant name b a h.0 h.1.text
-      meant h = asks_meant name b a there h.0 h.1.text h.1.code
+      meant : (k : Known fetch name b) → Meant fetch name b a k.id k.count k.text
+      meant k = asks_meant fetch name b a there k.id k.count k.text k.asks
 
-      id_there : (h : Asks) → (id : ℕ) × IsIdOf (what_used b.uses a.id) id
-      id_there h = (h.0.id, ((meant h).id, h.1.code.id_fits))
+      one_count : (k : Known fetch name b) → k.count ≡ count
+      one_count k = same_Some k.count count (sym (meant k).number ∙ number)
 
-      text_there : (h : Asks) → string_of pool a.name ≡ Some name
-      text_there h = ap (string_of pool) (meant h).name ∙ h.1.name_is
+      code_there : (k : Known fetch name b) → b.code ≡ added_code fetch (places_of a) count
+      code_there k = (meant k).code ∙ ap (added_code fetch (places_of a)) (one_count k)
 
-      by : (most_probes < a.count) ⊎ (a.count ≤ most_probes) → OrNot (b.code ≡ init_code (places_of a) a.count) → OrNot (NamesMembers b.uses name a)
-          → OrNot ((id : ℕ) × IsIdOf (what_used b.uses a.id) id) → OrNot (string_of pool a.name ≡ Some name) → OrNot Asks
-      by (inl many) code members id text = inr (λ h. let few = (meant h).few in omega (arith, many, few))
-      by (inr few) (inr other) members id text = inr (λ h. other (meant h).code)
-      by (inr few) (inl code) (inr other) id text = inr (λ h. other (meant h).members)
-      by (inr few) (inl code) (inl members) (inr none) text = inr (λ h. none (id_there h))
-      by (inr few) (inl code) (inl members) (inl id) (inr other) = inr (λ h. other (text_there h))
-      by (inr few) (inl code) (inl members) (inl id) (inl text) = inl (
-        record { id = id.0; count = a.count; bootstrap = None },
-        record {
-          text = a.name;
-          code = meant_asks name b a (record { id = id.0; count = a.count; bootstrap = None }) a.name
-              (record { count = refl; few = few; code = code; members = members; id = id.1.0; name = refl }) id.1.1 refl;
-          name_is = text;
-        },
-      )
+      by : (most_probes < count) ⊎ (count ≤ most_probes) → OrNot (b.code ≡ added_code fetch (places_of a) count) → OrNot (NamesMembers fetch b.uses name a)
+          → OrNot ((id : ℕ) × IsIdOf (what_used b.uses a.id) id) → OrNot (Known fetch name b)
+      by (inl many) code members id = inr (λ k. let few = (meant k).few in let e = one_count k in omega (arith, many, few, e))
+      by (inr few) (inr other) members id = inr (λ k. other (code_there k))
+      by (inr few) (inl code) (inr other) id = inr (λ k. other (meant k).members)
+      by (inr few) (inl code) (inl members) (inr none) = inr (λ k. none (k.id, ((meant k).id_is, k.asks.id_fits)))
+      by (inr few) (inl code) (inl members) (inl id) = inl (record {
+        id = id.0;
+        count = count;
+        text = a.name;
+        asks = meant_asks fetch name b a id.0 count a.name
+            (record { number = number; few = few; code = code; members = members; id_is = id.1.0; name = refl }) id.1.1;
+      })
 
-  asks_or_not : OrNot Asks
-  asks_or_not = by (asked_in b.code) refl
+  known_of : (a : Asked) → asked_in fetch b.code ≡ Some a → OrNot (Known fetch name b)
+  known_of a there = by (number_in b.uses a.count) refl
     where
-      by : (o : Option Asked) → asked_in b.code ≡ o → OrNot Asks
-      by None none = inr (λ h. none_asked name b none h.0 h.1.text h.1.code)
-      by (Some a) there = asks_by a there
+      by : (o : Option ℕ) → number_in b.uses a.count ≡ o → OrNot (Known fetch name b)
+      by None none = inr (λ k. none-some k.count (sym none ∙ (asks_meant fetch name b a there k.id k.count k.text k.asks).number))
+      by (Some count) number = known_by a there count number
 
-pub found_probes : (pool : PoolValue) (name : List ℕ) (bodies : List Body) → (o : Option ProbeInit) × AreProbes pool name bodies o
-found_probes pool name bodies = by (init_of bodies) refl
-  where
-    with_body : (b : Body) → init_of bodies ≡ Some b → OrNot (Asks pool name b) → (o : Option ProbeInit) × AreProbes pool name bodies o
-    with_body b first (inl asks) = (Some asks.0, record { body = b; first = first; asks = asks.1 })
-    with_body b first (inr none) = (
-      None,
-      λ init h. none (init, subst (λ (x : Body). AsksFor pool name x init) (same_Some h.body b (sym h.first ∙ first)) h.asks),
-    )
+  known_or_not : OrNot (Known fetch name b)
+  known_or_not = by (asked_in fetch b.code) refl
+    where
+      by : (o : Option Asked) → asked_in fetch b.code ≡ o → OrNot (Known fetch name b)
+      by None none = inr (λ k. none_asked fetch name b none k.id k.count k.text k.asks)
+      by (Some a) there = known_of a there
 
-    by : (o : Option Body) → init_of bodies ≡ o → (o : Option ProbeInit) × AreProbes pool name bodies o
-    by None none = (None, λ init h. none-some h.body (sym none ∙ h.first))
-    by (Some b) first = with_body b first (asks_or_not pool name b)
+-- ---- what the class asks for
+
+module _ (c : ClassFile) (name : List ℕ) (bodies : List Body) where
+  abbrev fetch : Fetch
+  fetch = fetch_of c.major
+
+  abbrev Found : Type 0
+  Found = (o : Option ProbeInit) × AreProbes c name bodies o
+
+  with_known : (b : Body) → added_of fetch bodies ≡ Some b → Known fetch name b → Found
+  with_known b first k = by (text_or_not (string_of c.pool k.text) name) (bootstrap_or_not c name fetch)
+    where
+      by : OrNot (string_of c.pool k.text ≡ Some name) → OrNot ((number : Option ℕ) × HasBootstrap fetch c name number) → Found
+      by (inr other) bootstrap = (None, none_named c name bodies fetch refl b first k.id k.count k.text k.asks other)
+      by (inl named) (inr none) =
+          (None, are_probes c name bodies fetch refl b first k.id k.count k.text k.asks named None tt tt (λ number has. none (number, has)))
+      by (inl named) (inl found) =
+          let init : ProbeInit = record { id = k.id; count = k.count; bootstrap = found.0 } in
+          (Some init, are_probes c name bodies fetch refl b first k.id k.count k.text k.asks named (Some init) (refl, refl) found.1 tt)
+
+  pub found_probes : Found
+  found_probes = by (added_of fetch bodies) refl
+    where
+      with_body : (b : Body) → added_of fetch bodies ≡ Some b → OrNot (Known fetch name b) → Found
+      with_body b first (inl k) = with_known b first k
+      with_body b first (inr none) =
+          (None, none_asking c name bodies fetch refl b first (λ id count text asks. none (record { id = id; count = count; text = text; asks = asks })))
+
+      by : (o : Option Body) → added_of fetch bodies ≡ o → Found
+      by None none = (None, none_added c name bodies fetch refl none)
+      by (Some b) first = with_body b first (known_or_not fetch name b)

@@ -8,6 +8,7 @@ use Rattle.jc_bytes.proofs.ListLaws.{all_at, put_cases}
 use Rattle.jc_methods.specs.ProbeMembers.{init_name, most_probes}
 use Rattle.jc_methods.specs.VerificationTypes.{Names}
 use Rattle.jc_methods.specs.declared.body.Body.{Body}
+use Rattle.jc_methods.specs.declared.probe_members.Fetch.TheVariants as fetches
 use Rattle.jc_pool.specs.Lookup.{Member as MemberText, class_name_of, long_in, long_of, member_of, string_of, utf8_of}
 use Rattle.jc_pool.specs.Pool.{PoolValue}
 use Rattle.jc_pool.specs.declared.index.Naming.TheVariants as naming
@@ -112,7 +113,7 @@ module _ (t : ClassFile) (few_places : length t.pool < 65536) (owner : List ℕ)
       let same_method = same_of (sym body.at ∙ at) in
       let same = same_bodies names (init_names t owner id count places method added) t number method _ _ b (init_body t owner id count places method added number)
       (subst (λ (x : Member). IsBody names t number x b) same_method body.is) (init_is_body t owner id count places method added number) in
-      let place = same_name_place p (named_places places) count count (sym code ∙ ap (λ (x : Body). x.code) same.rest) in
+      let place = same_name_place fetches.Member p (named_places places) count count (sym code ∙ ap (λ (x : Body). x.code) same.rest) in
       ap (string_of t.pool) place ∙ m.name_is
     where
       same_of : {x y : Member} → Some x ≡ Some y → x ≡ y

@@ -1,4 +1,5 @@
 pub mod ChangedPairLaws
+pub mod FoundBootstrapLaws
 pub mod FoundPairLaws
 pub mod FoundProbesLaws
 pub mod InitProbesLaws

@@ -172,7 +172,7 @@ module _ (c : ClassFile) (is : IsClassFile c) (read : IsReadPool c.pool) (most :
     with_states : SomeStates under raised (length raised) → SomeLinked front
     with_states s =
         let now = grown_bodies under s.names c (length c.methods) raised s.grows raised_are in
-        let found = found_probes c.pool is.this_class.0 raised in
+        let found = found_probes c is.this_class.0 raised in
         record {
           names = s.names;
           grows = grows_both front under s.names (all.names, refl) s.grows;

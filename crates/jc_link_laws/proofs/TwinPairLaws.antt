@@ -9,8 +9,9 @@ use Rattle.jc_bytes.proofs.OptionLaws.{some_is}
 use Rattle.jc_bytes.proofs.ListLaws.{stands_at}
 use Rattle.jc_methods.specs.VerificationTypes.{Names}
 use Rattle.jc_methods.specs.EntryState.{is_static}
-use Rattle.jc_methods.specs.ProbeMembers.{init_name, init_type}
+use Rattle.jc_methods.specs.ProbeMembers.{fetch_of, init_name}
 use Rattle.jc_methods.specs.declared.body.Body.{Body}
+use Rattle.jc_methods.specs.declared.probe_members.Fetch.{Fetch}
 use Rattle.jc_programs.specs.declared.program.Linked.{Linked}
 use Rattle.jc_programs.specs.declared.program.ProbeInit.{ProbeInit}
 use Rattle.jc_programs.specs.declared.program.StaticField.{StaticField}
@@ -24,7 +25,8 @@ use Rattle.jc_instrument.specs.Causes.{NoCause}
 use Rattle.jc_instrument.specs.Reasons.{HasAdded, HasAddedName}
 use Rattle.jc_instrument.specs.Refused.{IsAccepted, probe_causes}
 use Rattle.jc_link_programs.specs.Linking.{IsLinkedOf, IsLinkedClass}
-use Rattle.jc_link_programs.specs.ProbeInits.{AreProbes, init_of, is_init}
+use Rattle.jc_link_programs.specs.OwnBootstrap.{added_type}
+use Rattle.jc_link_programs.specs.ProbeInits.{AreProbes, added_of, is_added}
 use Rattle.jc_link_programs.specs.Statics.{static_of, static_with, statics_among}
 use Rattle.jc_link_programs.proofs.SameLinkedLaws.{same_linked}
 use Rattle.jc_link_laws.proofs.KeptStaticsLaws.{static_name}
@@ -96,29 +98,29 @@ module _ (names : Names) (c : ClassFile) (l : Linked) (p : IsLinkedOf names c l)
   has_no_added = record { bodies = λ b there is. body_name b there (inl is); statics = λ f there is. static_field_name f there (inr is) }
 
 -- the first body with the name of the added method has this name
-pub init_named : (bodies : List Body) (b : Body) → init_of bodies ≡ Some b → Contains bodies b × (b.name ≡ init_name)
-init_named [] b e = absurd (none-some b e)
-init_named (x ∷ xs) b e = by (is_init x) refl e (init_named xs b)
+pub added_named : (fetch : Fetch) (bodies : List Body) (b : Body) → added_of fetch bodies ≡ Some b → Contains bodies b × (b.name ≡ init_name)
+added_named fetch [] b e = absurd (none-some b e)
+added_named fetch (x ∷ xs) b e = by (is_added fetch x) refl e (added_named fetch xs b)
   where
     name_is : (s t : Bool) → s && t ≡ true → s ≡ true
     name_is true t h = refl
     name_is false t h = h
 
-    by : (t : Bool) → is_init x ≡ t → cond t (Some x) (init_of xs) ≡ Some b → (init_of xs ≡ Some b → Contains xs b × (b.name ≡ init_name))
+    by : (t : Bool) → is_added fetch x ≡ t → cond t (Some x) (added_of fetch xs) ≡ Some b → (added_of fetch xs ≡ Some b → Contains xs b × (b.name ≡ init_name))
         → Contains (x ∷ xs) b × (b.name ≡ init_name)
     by true is found later = subst (λ (y : Body). Contains (x ∷ xs) y × (y.name ≡ init_name)) (some_is found) (
       first_in x xs,
-      (bytes_eq-Decides x.name init_name).0 (name_is (bytes_eq x.name init_name) (bytes_eq x.desc init_type) is),
+      (bytes_eq-Decides x.name init_name).0 (name_is (bytes_eq x.name init_name) (bytes_eq x.desc (added_type fetch)) is),
     )
     by false is found later = let f = later found in (later_in x xs b f.0, f.1)
 
 pub no_probes : (names : Names) (c : ClassFile) (l : Linked) → IsLinkedOf names c l → (HasAdded c → ⊥) → l.probes ≡ None
 no_probes names c l p none = by l.probes p.probes
   where
-    by : (o : Option ProbeInit) → AreProbes c.pool l.name l.bodies o → o ≡ None
+    by : (o : Option ProbeInit) → AreProbes c l.name l.bodies o → o ≡ None
     by None is = refl
     by (Some init) is =
-        let named = init_named l.bodies is.body is.first in
+        let named = added_named (fetch_of c.major) l.bodies is.body is.first in
         absurd (body_name names c l p none is.body named.0 (inl named.1))
 
 -- ---- an unchanged pair

@@ -149,7 +149,7 @@ next_fits old new classes more c grows before last e = all_put (IsLinked new) cl
 
 pub linked_is : (names : Names) (c : ClassFile) (bodies : List Body) (l : Linked) → AreCheckedUnder names c bodies → All (HasStates names) bodies
     → class_name_of c.pool c.this_class ≡ Some l.name → l.version ≡ c.major → l.bodies ≡ bodies → l.statics ≡ statics_of c → l.has_clinit ≡ has_clinit c
-    → AreProbes c.pool l.name l.bodies l.probes → IsLinkedOf names c l
+    → AreProbes c l.name l.bodies l.probes → IsLinkedOf names c l
 linked_is names c bodies l are states name version same statics clinit probes = record {
   version = version;
   name = name;

@@ -2,10 +2,11 @@
 use Rattle.std.proofs.Common.{◌≡◌, ◌⊎◌, inl, inr, ℕ, Bool, true, false, cond, List, [], ◌∷◌, Option, Some, None, refl, sym, ◌∙◌, ap, subst}
 use Rattle.jc_bytes.proofs.OptionLaws.{none_some, some_is}
 use Rattle.jc_methods.specs.VerificationTypes.{Names}
+use Rattle.jc_methods.specs.ProbeMembers.{fetch_of}
 use Rattle.jc_methods.specs.declared.body.Body.{Body}
+use Rattle.jc_methods.specs.declared.probe_members.Fetch.{Fetch}
 use Rattle.jc_programs.specs.declared.program.Linked.{Linked}
 use Rattle.jc_programs.specs.declared.program.ProbeInit.{ProbeInit}
-use Rattle.jc_pool.specs.Pool.{PoolValue}
 use Rattle.jc_class.specs.declared.class_file.ClassFile.{ClassFile}
 use Rattle.jc_class.proofs.FirstBadLaws.{one_class_of}
 use Rattle.jc_body.specs.BodyOf.{BodyOf, Bodiless}
@@ -15,10 +16,11 @@ use Rattle.jc_emit.specs.TwinBodies.{IsSameBody, AreSameBodies}
 use Rattle.jc_instrument.specs.Bodies.{AreBodies, IsListed}
 use Rattle.jc_instrument.proofs.OneBodyLaws.{same_body}
 use Rattle.jc_link_programs.specs.Linking.{IsLinkedOf, IsLinkedClass, AreLinkedClasses}
-use Rattle.jc_link_programs.specs.ProbeInits.{AsksFor, is_init, init_of, HasInit, AreProbes}
+use Rattle.jc_link_programs.specs.ProbeInits.{AsksFor, is_added, added_of, HasInit, AreProbes}
 use Rattle.jc_link_programs.specs.SameProgram.{IsSameLinked, AreSameClasses}
 use Rattle.jc_link_programs.proofs.PairedLaws.{IsThere, AreThere, AreSameWhere, paired}
-use Rattle.jc_link_programs.proofs.ProbeInitLaws.{one_init}
+use Rattle.jc_link_programs.proofs.OwnBootstrapLaws.{one_bootstrap}
+use Rattle.jc_link_programs.proofs.ProbeInitLaws.{one_count, one_id}
 
 -- ---- bodies
 
@@ -57,71 +59,77 @@ same_lists names others c xs ys p q =
 
 -- ---- probes
 
-module _ (names others : Names) where
-  same_test : (x y : Body) → IsSameBody names others x y → is_init y ≡ is_init x
-  same_test x y s = ap is_init s.others
+module _ (names others : Names) (fetch : Fetch) where
+  same_test : (x y : Body) → IsSameBody names others x y → is_added fetch y ≡ is_added fetch x
+  same_test x y s = ap (is_added fetch) s.others
 
-  pub first_same : (xs ys : List Body) → AreSameBodies names others xs ys → (b : Body) → init_of xs ≡ Some b
-      → (d : Body) × (init_of ys ≡ Some d) × IsSameBody names others b d
+  pub first_same : (xs ys : List Body) → AreSameBodies names others xs ys → (b : Body) → added_of fetch xs ≡ Some b
+      → (d : Body) × (added_of fetch ys ≡ Some d) × IsSameBody names others b d
   first_same [] [] same b e = absurd (none_some e)
   first_same [] (y ∷ ys) same b e = absurd same
   first_same (x ∷ xs) [] same b e = absurd same
-  first_same (x ∷ xs) (y ∷ ys) same b e = by (is_init x) refl e (λ f. first_same xs ys same.1 b f)
+  first_same (x ∷ xs) (y ∷ ys) same b e = by (is_added fetch x) refl e (λ f. first_same xs ys same.1 b f)
     where
-      test : (t : Bool) → is_init x ≡ t → is_init y ≡ t
+      test : (t : Bool) → is_added fetch x ≡ t → is_added fetch y ≡ t
       test t is = same_test x y same.0 ∙ is
 
-      by : (t : Bool) → is_init x ≡ t → cond t (Some x) (init_of xs) ≡ Some b
-          → (init_of xs ≡ Some b → (d : Body) × (init_of ys ≡ Some d) × IsSameBody names others b d)
-          → (d : Body) × (init_of (y ∷ ys) ≡ Some d) × IsSameBody names others b d
+      by : (t : Bool) → is_added fetch x ≡ t → cond t (Some x) (added_of fetch xs) ≡ Some b
+          → (added_of fetch xs ≡ Some b → (d : Body) × (added_of fetch ys ≡ Some d) × IsSameBody names others b d)
+          → (d : Body) × (added_of fetch (y ∷ ys) ≡ Some d) × IsSameBody names others b d
       by true is f later =
-          (y, ap (λ (t : Bool). cond t (Some y) (init_of ys)) (test true is), subst (λ (z : Body). IsSameBody names others z y) (some_is f) same.0)
+          (y, ap (λ (t : Bool). cond t (Some y) (added_of fetch ys)) (test true is), subst (λ (z : Body). IsSameBody names others z y) (some_is f) same.0)
       by false is f later =
           let found = later f in
-          (found.0, ap (λ (t : Bool). cond t (Some y) (init_of ys)) (test false is) ∙ found.1, found.2)
+          (found.0, ap (λ (t : Bool). cond t (Some y) (added_of fetch ys)) (test false is) ∙ found.1, found.2)
 
-  same_asks : (pool : PoolValue) (name : List ℕ) (x y : Body) (init : ProbeInit) → IsSameBody names others x y → AsksFor pool name x init → AsksFor pool name y init
-  same_asks pool name x y init s h =
+module _ (names others : Names) (c : ClassFile) (name : List ℕ) where
+  same_asks : (x y : Body) (init : ProbeInit) → IsSameBody names others x y → AsksFor c name x init → AsksFor c name y init
+  same_asks x y init s h =
       let a = h.code in
-      subst (λ (z : Body). AsksFor pool name z init) (sym s.others) (record {
+      subst (λ (z : Body). AsksFor c name z init) (sym s.others) (record {
         text = h.text;
         code = record {
           places = a.places;
           code = a.code;
           count_fits = a.count_fits;
+          count_is = a.count_is;
           field_is = a.field_is;
           id_is = a.id_is;
           id_fits = a.id_fits;
           text_is = a.text_is;
           fetch_is = a.fetch_is;
-          bootstrap_is = a.bootstrap_is;
         };
         name_is = h.name_is;
+        bootstrap = h.bootstrap;
       })
 
-  same_init : (pool : PoolValue) (name : List ℕ) (xs ys : List Body) (init : ProbeInit) → AreSameBodies names others xs ys → HasInit pool name xs init → HasInit pool name ys init
-  same_init pool name xs ys init same h =
-      let found = first_same xs ys same h.body h.first in
-      record { body = found.0; first = found.1; asks = same_asks pool name h.body found.0 init found.2 h.asks }
+  same_init : (xs ys : List Body) (init : ProbeInit) → AreSameBodies names others xs ys → HasInit c name xs init → HasInit c name ys init
+  same_init xs ys init same h =
+      let found = first_same names others (fetch_of c.major) xs ys same h.body h.first in
+      record { body = found.0; first = found.1; asks = same_asks h.body found.0 init found.2 h.asks }
 
--- a class asks for one id and number of probes
-pub one_asked : (pool : PoolValue) (name : List ℕ) (bodies : List Body) (i j : ProbeInit) → HasInit pool name bodies i → HasInit pool name bodies j → i ≡ j
-one_asked pool name bodies i j p q =
+-- a class asks for one id, number of probes and bootstrap method
+pub one_asked : (c : ClassFile) (name : List ℕ) (bodies : List Body) (i j : ProbeInit) → HasInit c name bodies i → HasInit c name bodies j → i ≡ j
+one_asked c name bodies i j p q =
     let same : p.body ≡ q.body = some_is (sym p.first ∙ q.first) in
-    let a = subst (λ (b : Body). AsksFor pool name b i) same p.asks in
-    one_init name q.body i j a.text q.asks.text a.code q.asks.code
+    let a = subst (λ (b : Body). AsksFor c name b i) same p.asks in
+    let fetch = fetch_of c.major in
+    let id = one_id fetch name q.body i.id j.id i.count j.count a.text q.asks.text a.code q.asks.code in
+    let count = one_count fetch name q.body i.id j.id i.count j.count a.text q.asks.text a.code q.asks.code in
+    let bootstrap = one_bootstrap fetch c name i.bootstrap j.bootstrap a.bootstrap q.asks.bootstrap in
+    λ k. record { id = id k; count = count k; bootstrap = bootstrap k }
 
-pub one_probes : (pool : PoolValue) (name : List ℕ) (bodies : List Body) (o q : Option ProbeInit)
-    → AreProbes pool name bodies o → AreProbes pool name bodies q → q ≡ o
-one_probes pool name bodies None None p r = refl
-one_probes pool name bodies None (Some j) p r = absurd (p j r)
-one_probes pool name bodies (Some i) None p r = absurd (r i p)
-one_probes pool name bodies (Some i) (Some j) p r = ap Some (one_asked pool name bodies j i r p)
+pub one_probes : (c : ClassFile) (name : List ℕ) (bodies : List Body) (o q : Option ProbeInit)
+    → AreProbes c name bodies o → AreProbes c name bodies q → q ≡ o
+one_probes c name bodies None None p r = refl
+one_probes c name bodies None (Some j) p r = absurd (p j r)
+one_probes c name bodies (Some i) None p r = absurd (r i p)
+one_probes c name bodies (Some i) (Some j) p r = ap Some (one_asked c name bodies j i r p)
 
-moved_probes : (names others : Names) (pool : PoolValue) (name : List ℕ) (xs ys : List Body) → AreSameBodies names others xs ys
-    → (o : Option ProbeInit) → AreProbes pool name xs o → AreProbes pool name ys o
-moved_probes names others pool name xs ys same None p = λ init h. p init (same_init others names pool name ys xs init (turned_bodies names others xs ys same) h)
-moved_probes names others pool name xs ys same (Some i) p = same_init names others pool name xs ys i same p
+moved_probes : (names others : Names) (c : ClassFile) (name : List ℕ) (xs ys : List Body) → AreSameBodies names others xs ys
+    → (o : Option ProbeInit) → AreProbes c name xs o → AreProbes c name ys o
+moved_probes names others c name xs ys same None p = λ init h. p init (same_init others names c name ys xs init (turned_bodies names others xs ys same) h)
+moved_probes names others c name xs ys same (Some i) p = same_init names others c name xs ys i same p
 
 -- ---- classes
 
@@ -135,8 +143,8 @@ same_of names others c a b p q =
       bodies = bodies;
       statics = q.statics ∙ sym p.statics;
       has_clinit = q.clinit ∙ sym p.clinit;
-      probes = one_probes c.pool a.name b.bodies a.probes b.probes (moved_probes names others c.pool a.name a.bodies b.bodies bodies a.probes p.probes)
-          (subst (λ (n : List ℕ). AreProbes c.pool n b.bodies b.probes) name q.probes);
+      probes = one_probes c a.name b.bodies a.probes b.probes (moved_probes names others c a.name a.bodies b.bodies bodies a.probes p.probes)
+          (subst (λ (n : List ℕ). AreProbes c n b.bodies b.probes) name q.probes);
     }
 
 pub same_linked : (names others : Names) (bytes : List ℕ) (a b : Linked) → IsLinkedClass names bytes a → IsLinkedClass others bytes b → IsSameLinked names others a b

@@ -1,4 +1,5 @@
 pub mod Linking
+pub mod OwnBootstrap
 pub mod Pairs
 pub mod ProbeInits
 pub mod SameProgram

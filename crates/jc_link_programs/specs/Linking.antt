@@ -39,7 +39,7 @@ pub record IsLinkedOf (names : Names) (file : ClassFile) (linked : Linked) : Typ
   pub states : All (HasStates names) linked.bodies
   pub statics : linked.statics ≡ statics_of file
   pub clinit : linked.has_clinit ≡ has_clinit file
-  pub probes : AreProbes file.pool linked.name linked.bodies linked.probes
+  pub probes : AreProbes file linked.name linked.bodies linked.probes
 
 -- the bytes are a class file that no cause refuses, and this is linked of it
 pub record IsLinkedClass (names : Names) (bytes : List ℕ) (linked : Linked) : Type 0 where

@@ -1,9 +1,11 @@
 //! Programs: class files that are linked.
 #![tactic(auto)]
 
+mod asked;
 mod laws;
 mod link_refusal;
 mod linking;
+mod own_bootstrap;
 mod pairs;
 mod probe_inits;
 mod statics;

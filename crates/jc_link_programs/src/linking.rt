@@ -48,10 +48,10 @@ fn class_with(alloc: Global, class: &ClassFile, bodies: List<Body>) -> Result<Li
     ensures firsts { IfOk result (λ c. All IsStatic c.statics) }
     ensures few { IfOk result (λ c. length c.statics ≤ 65535) }
     ensures clinit { IfOk result (λ c. c.has_clinit ≡ has_clinit class.now) }
-    ensures probes { IfOk result (λ c. AreProbes class.now.pool c.name c.bodies c.probes) }
+    ensures probes { IfOk result (λ c. AreProbes class.now c.name c.bodies c.probes) }
 {
     let name = class_name(alloc, class)?;
-    let probes = probes_of(alloc, &class.pool, &name, &bodies)?;
+    let probes = probes_of(alloc, class, &name, &bodies)?;
     Ok(Linked {
         version: class.major,
         statics: statics_of(alloc, class)?,

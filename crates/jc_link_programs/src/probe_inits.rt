@@ -1,127 +1,36 @@
 //! The probes of a class: what its `$jacocoInit` asks for.
-ghost use Rattle.std.specs.Prelude.{◌≡◌, ◌≤◌, ◌↔◌, ℕ, IsTrue, Some, IfOk, IfSome, IfNone, MatchOption};
+ghost use Rattle.std.specs.Prelude.{◌≡◌, ◌↔◌, ℕ, Option as Maybe, IsTrue, Some, IfOk, IfSome, IfNone, MatchOption};
 ghost use Rattle.std.specs.Int.{w64, cast_signed};
 ghost use Rattle.std.specs.Option.{option_copied};
-ghost use Rattle.jc_methods.specs.ProbeMembers.{data_name, data_type, runtime_class, fetch_name, fetch_type, most_probes, most_short};
+ghost use Rattle.jc_methods.specs.ProbeMembers.{data_name, data_type, runtime_class, fetch_name, fetch_type};
 ghost use Rattle.jc_methods.specs.WellMade.{what_used};
 ghost use Rattle.jc_methods.specs.declared.body.What.TheVariants as whats;
-ghost use Rattle.jc_programs.specs.declared.program.ProbeInit.{ProbeInit as Init};
-ghost use Rattle.jc_emit.specs.Added.{init_code};
-ghost use Rattle.jc_emit.specs.Marks.{push};
-ghost use Rattle.jc_link_programs.specs.ProbeInits.{places_of, pushed, asked_in, NamesMembers, AreProbes, CodeAsks, is_init, init_of};
+ghost use Rattle.jc_pool.specs.Lookup.{string_of};
+ghost use Rattle.jc_link_programs.specs.OwnBootstrap.{HasBootstrap, added_type};
+ghost use Rattle.jc_link_programs.specs.ProbeInits.{added_code, added_of, int_above, is_added, number_in, places_of, AreProbes, CodeAsks};
+ghost use Rattle.jc_link_programs.specs.ProbeInits.{NamesField, NamesMembers};
 
+use crate::asked::{Asked, Counted, added_code, asked_in};
+use crate::own_bootstrap::last_number;
 use jc_bytes::{List, Memory};
+use jc_class::ClassFile;
 use jc_methods::{
-    Body, DATA_NAME, FETCH_NAME, FETCH_TYPE, INIT_NAME, INIT_TYPE, Insn, MOST_PROBES, PROBE_ARRAY,
-    RUNTIME_CLASS, Use, What, opcode,
+    BOOTSTRAP_TYPE, Body, DATA_NAME, FETCH_NAME, FETCH_TYPE, Fetch, INIT_NAME, INIT_TYPE, Insn,
+    MOST_PROBES, MOST_SHORT, PROBE_ARRAY, RUNTIME_CLASS, Use, What, fetch_of,
 };
 use jc_pool::Pool;
 use jc_programs::ProbeInit;
 use std::alloc::Global;
 
-/// What code names in the constant pool where the method that gives the probe array names it, and the number that it
-/// pushes there.
-#[derive(Clone, Copy, Debug, PartialEq, Eq)]
-pub struct Asked {
-    /// The field that keeps the array.
-    pub field: u16,
+/// What code asks for.
+#[derive(Clone, Copy)]
+struct Known {
     /// The id of the class.
-    pub id: u16,
-    /// The name of the class.
-    pub name: u16,
+    id: u64,
     /// The number of probes.
-    pub count: u32,
-    /// The method that makes the array.
-    pub fetch: u16,
-}
-
-/// The number that an instruction pushes, as `iconst`, `bipush` or `sipush` (JVM Specification 6.5).
-fn pushed(insn: &Insn) -> Option<u32>
-    ensures { result ≡ pushed insn.now }
-{
-    match insn {
-        Insn::Simple(op) => {
-            if *op >= opcode::ICONST_0 && *op <= opcode::ICONST_5 {
-                Some(u32::from(*op - opcode::ICONST_0))
-            } else {
-                None
-            }
-        }
-        Insn::Push { value, .. } => {
-            if *value >= 0 {
-                Some(*value as u32)
-            } else {
-                None
-            }
-        }
-        _ => None,
-    }
-}
-
-/// What code names and pushes where the method does.
-fn asked_in(code: &[Insn]) -> Option<Asked>
-    ensures { result ≡ asked_in code.now }
-{
-    match code {
-        [field, _, _, _, id, name, count, fetch, ..] => Some(Asked {
-            field: field.pool_place()?,
-            id: id.pool_place()?,
-            name: name.pool_place()?,
-            count: pushed(count)?,
-            fetch: fetch.pool_place()?,
-        }),
-        _ => None,
-    }
-}
-
-/// The shortest instruction that pushes a number.
-fn push(number: u32) -> Insn
-    requires { number ≤ most_short }
-    ensures { result ≡ push number }
-{
-    if number <= 5 {
-        Insn::Simple(opcode::ICONST_0 + number as u8)
-    } else if number <= 127 {
-        Insn::Push {
-            op: opcode::BIPUSH,
-            value: number as i16,
-        }
-    } else {
-        Insn::Push {
-            op: opcode::SIPUSH,
-            value: number as i16,
-        }
-    }
-}
-
-/// The instruction that uses a member at a place.
-fn member(op: u8, place: u16) -> Insn
-    ensures { result ≡ Insn.Member op place }
-{
-    Insn::Member { op, place }
-}
-
-/// The code of the method.
-fn init_code(alloc: Global, asked: &Asked) -> Result<List<Insn>, Memory>
-    requires { asked.now.count ≤ most_probes }
-    ensures { IfOk result (λ code. code ≡ init_code (places_of asked.now) asked.now.count) }
-{
-    Ok(List::from_vec(vec![in alloc;
-        member(opcode::GETSTATIC, asked.field),
-        Insn::Simple(opcode::DUP),
-        Insn::Jump {
-            op: opcode::IFNONNULL,
-            to: 10
-        },
-        Insn::Simple(opcode::POP),
-        Insn::Constant2 { place: asked.id },
-        Insn::Constant { place: asked.name },
-        push(asked.count),
-        member(opcode::INVOKESTATIC, asked.fetch),
-        Insn::Simple(opcode::DUP),
-        member(opcode::PUTSTATIC, asked.field),
-        Insn::Simple(opcode::ARETURN),
-    ]?))
+    count: u32,
+    /// The place of the class's name.
+    name: u16,
 }
 
 /// Whether the two are one list of instructions.
@@ -187,17 +96,63 @@ fn id_of(what: &What) -> Option<u64>
     }
 }
 
-/// Whether the method names the field and the method that it uses.
-fn names_members(uses: &[Use], class: &[u8], asked: &Asked) -> bool
-    ensures { IsTrue result ↔ NamesMembers uses.now class.now asked.now }
+/// The Integer of a number that no shorter instruction pushes.
+fn int_above(what: &What) -> Option<u32>
+    ensures { result ≡ int_above what.now }
 {
-    let Some(field) = what_used(uses, asked.field) else {
+    match what {
+        What::Int(value) => {
+            if *value < 0 {
+                return None;
+            }
+            let number = *value as u32;
+            if number <= MOST_SHORT {
+                None
+            } else {
+                Some(number)
+            }
+        }
+        _ => None,
+    }
+}
+
+/// The number of probes, pushed or loaded as instrumentation does it.
+fn number_in(uses: &[Use], count: Counted) -> Option<u32>
+    ensures { result ≡ number_in uses.now count }
+{
+    match count {
+        Counted::Pushed(number) => {
+            if number <= MOST_SHORT {
+                Some(number)
+            } else {
+                None
+            }
+        }
+        Counted::Loaded(place) => int_above(what_used(uses, place)?),
+    }
+}
+
+/// Whether the field that keeps the array stands at a place, where there is one.
+fn names_field(fetch: Fetch, uses: &[Use], class: &[u8], place: u16) -> bool
+    ensures { IsTrue result ↔ NamesField fetch uses.now class.now place }
+{
+    match fetch {
+        Fetch::Member => match what_used(uses, place) {
+            Some(field) => is_data_field(field, class),
+            None => false,
+        },
+        Fetch::Constant => true,
+    }
+}
+
+/// Whether the method names the field and the method that it uses.
+fn names_members(fetch: Fetch, uses: &[Use], class: &[u8], asked: &Asked) -> bool
+    ensures { IsTrue result ↔ NamesMembers fetch uses.now class.now asked.now }
+{
+    let Some(call) = what_used(uses, asked.fetch) else {
         return false;
     };
-    let Some(fetch) = what_used(uses, asked.fetch) else {
-        return false;
-    };
-    is_data_field(field, class) && is_fetch(fetch)
+    is_fetch(call) && names_field(fetch, uses, class, asked.field)
 }
 
 /// The id of the class, at its place.
@@ -212,55 +167,75 @@ fn id_at(uses: &[Use], place: u16) -> Option<u64>
 }
 
 /// Whether the code is that of the method, with these places and this number.
-fn has_init_code(alloc: Global, code: &List<Insn>, asked: &Asked) -> Result<bool, Memory>
-    requires { asked.now.count ≤ most_probes }
-    ensures { IfOk result (λ same. IsTrue same ↔ (code.now ≡ init_code (places_of asked.now) asked.now.count)) }
+fn has_added_code(
+    alloc: Global,
+    fetch: Fetch,
+    code: &List<Insn>,
+    asked: &Asked,
+    count: u32,
+) -> Result<bool, Memory>
+    ensures { IfOk result (λ same. IsTrue same ↔ (code.now ≡ added_code fetch (places_of asked.now) count)) }
 {
-    let made = init_code(alloc, asked)?;
+    let made = added_code(alloc, fetch, asked, count)?;
     Ok(is_same_code(code, &made))
 }
 
 /// The probes that the code asks for, and the place of the class's name.
-fn code_asks(alloc: Global, class: &[u8], body: &Body) -> Result<Option<(ProbeInit, u16)>, Memory>
-    ensures asks { IfOk result (λ found. IfSome found (λ a. CodeAsks class.now body.now a.0 a.1)) }
-    ensures none { IfOk result (λ found. IfNone found ((init : Init) (text : ℕ) → CodeAsks class.now body.now init text → ⊥)) }
+fn code_asks(
+    alloc: Global,
+    fetch: Fetch,
+    class: &[u8],
+    body: &Body,
+) -> Result<Option<Known>, Memory>
+    ensures asks { IfOk result (λ found. IfSome found (λ k. CodeAsks fetch class.now body.now k.id k.count k.name)) }
+    ensures none { IfOk result (λ found. IfNone found ((id count text : ℕ) → CodeAsks fetch class.now body.now id count text → ⊥)) }
 {
-    let Some(asked) = asked_in(&body.code) else {
+    let Some(asked) = asked_in(fetch, &body.code) else {
         return Ok(None);
     };
-    if asked.count > MOST_PROBES || !has_init_code(alloc, &body.code, &asked)? {
+    let Some(count) = number_in(&body.uses, asked.count) else {
+        return Ok(None);
+    };
+    if count > MOST_PROBES || !has_added_code(alloc, fetch, &body.code, &asked, count)? {
         return Ok(None);
     }
-    if !names_members(&body.uses, class, &asked) {
+    if !names_members(fetch, &body.uses, class, &asked) {
         return Ok(None);
     }
     match id_at(&body.uses, asked.id) {
-        Some(id) => {
-            let init = ProbeInit {
-                id,
-                count: asked.count,
-                bootstrap: None,
-            };
-            Ok(Some((init, asked.name)))
-        }
+        Some(id) => Ok(Some(Known {
+            id,
+            count,
+            name: asked.name,
+        })),
         None => Ok(None),
     }
 }
 
-/// Whether the method has the name and the descriptor of the one that gives the probe array.
-fn is_init(body: &Body) -> bool
-    ensures { result ≡ is_init body.now }
+/// The descriptor of the method that instrumentation adds.
+fn added_type(fetch: Fetch) -> &'static [u8]
+    ensures { result.now ≡ added_type fetch }
 {
-    body.name.as_slice() == INIT_NAME && body.desc.as_slice() == INIT_TYPE
+    match fetch {
+        Fetch::Member => INIT_TYPE,
+        Fetch::Constant => BOOTSTRAP_TYPE,
+    }
+}
+
+/// Whether the method has the name and the descriptor of the added one.
+fn is_added(fetch: Fetch, body: &Body) -> bool
+    ensures { result ≡ is_added fetch body.now }
+{
+    body.name.as_slice() == INIT_NAME && body.desc.as_slice() == added_type(fetch)
 }
 
 /// The first method with that name and descriptor.
-fn init_of(bodies: &[Body]) -> Option<&Body>
-    ensures { option_copied result ≡ init_of bodies.now }
+fn added_of(fetch: Fetch, bodies: &[Body]) -> Option<&Body>
+    ensures { option_copied result ≡ added_of fetch bodies.now }
 {
     let mut rest = bodies;
     'bodies: while let [body, after @ ..] = rest {
-        if is_init(body) {
+        if is_added(fetch, body) {
             return Some(body);
         }
         rest = after;
@@ -268,24 +243,52 @@ fn init_of(bodies: &[Body]) -> Option<&Body>
     None
 }
 
-/// The id and the number of probes that the class asks for, if its method with that name and descriptor is the one that
-/// instrumentation adds.
+/// Whether the String at a place is this text.
+fn is_string(pool: &Pool, place: u16, text: &[u8]) -> bool
+    ensures { IsTrue result ↔ (string_of pool.now place ≡ Some text.now) }
+{
+    match pool.string_at(place) {
+        Ok(there) => there == text,
+        Err(_) => false,
+    }
+}
+
+/// What the code asks for, with the number of the bootstrap method, where the class gets its array by a constant and has that method.
+fn init_with(fetch: Fetch, class: &ClassFile, name: &[u8], known: Known) -> Option<ProbeInit>
+    ensures asked { IfSome result (λ init. (init.id ≡ known.id) × (init.count ≡ known.count)) }
+    ensures some { IfSome result (λ init. HasBootstrap fetch class.now name.now init.bootstrap) }
+    ensures none { IfNone result ((number : Maybe ℕ) → HasBootstrap fetch class.now name.now number → ⊥) }
+{
+    let bootstrap = match fetch {
+        Fetch::Member => None,
+        Fetch::Constant => Some(last_number(class, name)?),
+    };
+    Some(ProbeInit {
+        id: known.id,
+        count: known.count,
+        bootstrap,
+    })
+}
+
+/// The id, the number of probes and the bootstrap method that the class asks for, if its method with that name and descriptor is the
+/// one that instrumentation adds.
 pub fn probes_of(
     alloc: Global,
-    pool: &Pool,
-    class: &[u8],
+    class: &ClassFile,
+    name: &[u8],
     bodies: &[Body],
 ) -> Result<Option<ProbeInit>, Memory>
-    ensures { IfOk result (AreProbes pool.now class.now bodies.now) }
+    ensures { IfOk result (AreProbes class.now name.now bodies.now) }
 {
-    let Some(body) = init_of(bodies) else {
+    let fetch = fetch_of(class.major);
+    let Some(body) = added_of(fetch, bodies) else {
         return Ok(None);
     };
-    let Some((init, name)) = code_asks(alloc, class, body)? else {
+    let Some(known) = code_asks(alloc, fetch, name, body)? else {
         return Ok(None);
     };
-    match pool.string_at(name) {
-        Ok(text) => Ok(if text == class { Some(init) } else { None }),
-        Err(_) => Ok(None),
+    if !is_string(&class.pool, known.name, name) {
+        return Ok(None);
     }
+    Ok(init_with(fetch, class, name, known))
 }

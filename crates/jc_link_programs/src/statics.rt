@@ -36,7 +36,7 @@ fn place_in(bytes: &[u8]) -> Option<u16>
 }
 
 /// What the one attribute of a name holds, if there is no other of this name.
-fn single_named<'a>(pool: &Pool, name: &[u8], attributes: &'a [Attribute]) -> Option<&'a [u8]>
+pub fn single_named<'a>(pool: &Pool, name: &[u8], attributes: &'a [Attribute]) -> Option<&'a [u8]>
     ensures { option_copied result ≡ single (bodies_of pool.now name.now attributes.now) }
 {
     let mut found = None;
