@@ -197,6 +197,8 @@ class World:
             self.static(frame, name, insn[1:], stack)
         elif name == "invokestatic":
             self.call(thread, frame, insn[1:], stack)
+        elif name == "checkcast":
+            self.cast(frame, insn[1], stack)
         elif name in ("invokevirtual", "invokespecial"):
             self.special(frame, name, insn[1:], stack)
         elif name in ("new", "newarray", "arraylength"):
@@ -235,9 +237,18 @@ class World:
         if kind == "long":
             return Long(value)
         linked = self.program.classes[frame.method[0]]
+        if constant == linked.given and frame.at == 0:
+            return Word("probes", frame.method[0])
         if kind == "string" and (frame.body.name, frame.body.desc) == (INIT, "()[Z") and linked.probes:
             return Word("text", frame.method[0])
         raise Stuck
+
+    def cast(self, frame, name, stack):
+        """The array that the constant gave stays on top."""
+        first, given = frame.body.code[0], self.program.classes[frame.method[0]].given
+        if frame.at != 1 or name != "[Z" or given is None or first != ["ldc", given] or stack[-1] != Word("probes", frame.method[0]):
+            raise Stuck
+        self.go(frame)
 
     def local(self, frame, name, slot):
         if name[0] not in "ila":
@@ -299,7 +310,7 @@ class World:
         place = None if number is None else self.program.classes[number].body(name, desc)
         if place is None or not self.program.is_enterable((number, place)):
             raise Stuck
-        if name == INIT and (frame.at != 0 or frame.method[0] != number):
+        if name == INIT and (frame.at != 0 or frame.method[0] != number or self.program.classes[number].given is not None):
             raise Stuck
         counted = sum(not self.program.is_init(each.method) for each in thread.frames)
         if name != INIT and counted >= MOST_FRAMES:

@@ -42,6 +42,8 @@ class Linked:
         self.has_clinit = any(method.name == "<clinit>" for method in file.methods)
         self.slots = MOST_SLOTS + (4 if any(body.name == INIT for body in self.bodies) else 0)
         self.probes = self.found_probes()
+        # The constant by which its methods get the array of probes; no class file that is read has one.
+        self.given = None
 
     def found_probes(self):
         for body in self.bodies:

@@ -20,6 +20,7 @@ counters, where nothing was thrown by the edges taken, and FOLDER/texts with the
 import os
 import random
 import sys
+from types import SimpleNamespace
 
 sys.path.insert(0, os.path.join(os.path.dirname(os.path.abspath(__file__)), "..", "lib"))
 
@@ -121,11 +122,15 @@ class Twin:
     """The body that instrumentation makes: for each instruction whether it is an image, where it belongs, and how many
     values of a probe stand on the stack before it."""
 
-    def __init__(self, owner, body, probes, wide):
+    def __init__(self, owner, body, probes, wide, constant=None):
         self.body, self.probes, self.wide = body, probes, wide
         self.slots = sum(2 if kind in "JD" else 1 for kind in class_reader.parameters(body.desc)[0]) + (0 if body.flags & 8 else 1)
         self.code, self.own, self.at, self.extra, self.lead, self.land = [], [], [], [], [], []
-        self.put(["invokestatic", owner, slow_programs.INIT, "()[Z"], False, 0, 0)
+        if constant is None:
+            self.put(["invokestatic", owner, slow_programs.INIT, "()[Z"], False, 0, 0)
+        else:
+            self.put(["ldc", constant], False, 0, 0)
+            self.put(["checkcast", "[Z"], False, 0, 1)
         self.put(["astore", self.slots], False, 0, 1)
         for i, insn in enumerate(body.code):
             self.lead.append(len(self.code))
@@ -191,11 +196,15 @@ class Twin:
             if insn[0].endswith("switch"):
                 insn[2] = [(key, aimed(to)) for key, to in insn[2]]
 
+    def as_body(self):
+        handlers = [(self.lead[start], self.lead[end], self.land[target], caught) for start, end, target, caught in self.body.handlers]
+        same = {"name": self.body.name, "desc": self.body.desc, "flags": self.body.flags, "lines": []}
+        return SimpleNamespace(code=self.code, handlers=handlers, max_stack=self.body.max_stack + 3, max_locals=self.body.max_locals + 1, **same)
+
     def differs(self, found):
         """Whether another body was written."""
-        handlers = [(self.lead[start], self.lead[end], self.land[target], caught) for start, end, target, caught in self.body.handlers]
-        limits = (self.body.max_stack + 3, self.body.max_locals + 1)
-        return (self.code, handlers, limits) != (found.code, found.handlers, (found.max_stack, found.max_locals))
+        ours = self.as_body()
+        return any(getattr(ours, what) != getattr(found, what) for what in ("code", "handlers", "max_stack", "max_locals"))
 
 
 class Pair:
