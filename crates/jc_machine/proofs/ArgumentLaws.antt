@@ -152,6 +152,7 @@ slots_of types numbers = length (spread_values (argument_values types numbers))
 -- Behind k numbers: what is left to lay leads to what all lay, and finds room.
 pub record Putting (parameters : List (Option ComputationalType)) (numbers : List ℤ) (first : ThreadFrames) (k slot : ℕ) (now : ThreadFrames) : Type 0 where
   pub waiting : now.waiting ≡ first.waiting
+  pub memory : now.memory ≡ first.memory
   pub method : now.top.method ≡ first.top.method
   pub place : now.top.place ≡ first.top.place
   pub stack : now.top.stack ≡ first.top.stack
@@ -187,6 +188,7 @@ module _ (parameters : List (Option ComputationalType)) (numbers : List ℤ) (fi
     pub one_put : Putting parameters numbers first (k + 1) (slot + width v) next
     one_put = record {
       waiting = ap (λ (f : ThreadFrames). f.waiting) is ∙ so_far.waiting;
+      memory = ap (λ (f : ThreadFrames). f.memory) is ∙ so_far.memory;
       method = ap (λ (f : ThreadFrames). f.top.method) is ∙ so_far.method;
       place = ap (λ (f : ThreadFrames). f.top.place) is ∙ so_far.place;
       stack = ap (λ (f : ThreadFrames). f.top.stack) is ∙ so_far.stack;
@@ -211,4 +213,4 @@ module _ (parameters : List (Option ComputationalType)) (numbers : List ℤ) (fi
       let locals : now.top.locals ≡ locals_for (length first.top.locals) (argument_values types numbers) =
       sym (ap (λ values. laid slot values now.top.locals) left)
       ∙ (put.locals types are ∙ laid_all (argument_values types numbers) first.top.locals empty within) in
-      λ i. record { top = record { method = put.method i; place = put.place i; locals = locals i; stack = put.stack i }; waiting = put.waiting i }
+      λ i. record { top = record { method = put.method i; place = put.place i; locals = locals i; stack = put.stack i }; waiting = put.waiting i; memory = put.memory i }

@@ -72,10 +72,10 @@ module _ (program : Program) (prepared : PreparedProgram) (method : Entry) (numb
       few = subst (λ n. n ≤ 1004) (sym as_many) locals_few;
     }
 
-  pub run_is : (first now : ThreadFrames) → first ≡ record { top = new_frame method (replicate m.max_locals None); waiting = [] }
+  pub run_is : (before first now : ThreadFrames) → first ≡ record before { top = new_frame method (replicate m.max_locals None); waiting = [] }
       → now ≡ record first { top = record first.top { locals = locals_for (length first.top.locals) (argument_values (types_of of.body) numbers) } }
       → running now.top now.waiting ≡ first_thread program method numbers
-  run_is first now first_is now_is =
+  run_is before first now first_is now_is =
       let count : length (nothing m.max_locals) ≡ of.body.max_locals = length-replicate m.max_locals None ∙ of.prepared.max_locals in
       ap (λ (f : ThreadFrames). running f.top f.waiting) now_is
       ∙ (ap (λ (f : ThreadFrames). running (record f.top { locals = locals_for (length f.top.locals) (argument_values (types_of of.body) numbers) }) f.waiting)

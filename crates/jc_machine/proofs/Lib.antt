@@ -1,3 +1,4 @@
+mod StackLaws
 pub mod SinkLaws
 pub mod HitLaws
 pub mod RunLaws

@@ -1,5 +1,5 @@
 -- The world in memory, and the turn of one of its threads.
-use Rattle.std.proofs.Common.{◌≡◌, ℕ, ◌<◌, ◌≤◌, List, [], ◌∷◌, length, take, Some, refl, sym, ap, ◌∙◌, subst, arith, slice_get, slice_set}
+use Rattle.std.proofs.Common.{◌≡◌, ℕ, zero, suc, ◌<◌, ◌≤◌, List, [], ◌∷◌, length, take, Some, refl, sym, ap, ◌∙◌, subst, arith, slice_get, slice_set}
 use Rattle.std.proofs.Common.{slice_index_or}
 use Rattle.std.specs.List.{AllByRecursion}
 use Rattle.std.proofs.lemmas.List.{append-nil, length-take-le, get_or-take}
@@ -22,8 +22,8 @@ use Rattle.jc_machine.specs.declared.world.World.TheInside.{Inside}
 use Rattle.jc_machine.specs.declared.thread_turn.ThreadTurn.{ThreadTurn}
 use Rattle.jc_machine.specs.Threads.{ThreadFrames, thread_of, threads_of}
 use Rattle.jc_machine.specs.Turned.{without_hits, alone, after_of, hits_in}
-use Rattle.jc_machine.specs.Machines.{Machine, world_of, Fits}
-use Rattle.jc_machine.specs.Kept.{machine_of, IsMachine}
+use Rattle.jc_machine.specs.Machines.{Machine, world_of, Fits, KeepsMemory}
+use Rattle.jc_machine.specs.Kept.{memories_of, machine_of, IsMachine}
 use Rattle.jc_machine.proofs.ThreadLaws.{length-threads_of, thread_at, threads_of-set, ends_are}
 
 -- ---- worlds that fit
@@ -54,6 +54,19 @@ next_fits program m next t p fits is prepared fields = record {
 pub hits_probes : (program : Program) (m : Machine) (t : ℕ) (hit : Hit) → IsProgram program → Fits program m → hit ∷ [] ≡ (step program (world_of m) t).hits
     → IsProbe program hit
 hits_probes program m t hit p fits is = (subst (AllByRecursion (IsProbe program)) (sym is) (step_hits program (world_of m) t p fits.world tt)).0
+
+-- ---- memory
+
+pub memories_set : (stacks : List ThreadFrames) (t : ℕ) (frames next : ThreadFrames) → frames ≡ slice_index_or stacks t frames
+    → next.memory ≡ frames.memory → memories_of (slice_set stacks t next) ≡ memories_of stacks
+memories_set [] t frames next is same = refl
+memories_set (s ∷ stacks) zero frames next is same =
+    ap (λ m. m ∷ memories_of stacks) (same ∙ ap (λ (f : ThreadFrames). f.memory) is)
+memories_set (s ∷ stacks) (suc t) frames next is same = ap (λ ms. s.memory ∷ ms) (memories_set stacks t frames next is same)
+
+-- one turn or more behind others
+pub keeps_on : (first before after : Machine) → KeepsMemory first before → KeepsMemory before after → KeepsMemory first after
+keeps_on first before after so_far more = (more.0 ∙ so_far.0, more.1 ∙ so_far.1)
 
 -- ---- the threads
 
@@ -107,7 +120,7 @@ module _ (w : Inside) (is : IsMachine w) where
     -- the world with the turn of a thread that runs
     module _ (program : Program) (frames : ThreadFrames) (running_is : slice_index_or w.ends t ends.Running ≡ ends.Running)
         (frames_is : frames ≡ slice_index_or w.stacks.items t frames)
-        (turn : ThreadTurn) (next : ThreadFrames) (s : Shared) (turned : after_of turn next s ≡ turn_of program w.shared (running frames.top frames.waiting))
+        (turn : ThreadTurn) (next : ThreadFrames) (s : Shared) (turned : after_of turn next s ≡ turn_of program w.shared.content (running frames.top frames.waiting))
       where
         moved : step program (world_of (machine_of w)) t ≡ with_after t (world_of (machine_of w)) (after_of turn next s)
         unfolding step

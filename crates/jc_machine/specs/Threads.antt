@@ -3,19 +3,26 @@ use Rattle.std.specs.Prelude.{ℕ, List, [], ◌∷◌}
 use Rattle.jc_programs.specs.declared.run_end.Entry.{Entry}
 use Rattle.jc_programs.specs.declared.run_end.End.{End}
 use Rattle.jc_programs.specs.declared.run_end.End.TheVariants as ends
+use Rattle.jc_region.specs.Memory.{Allocation}
 use Rattle.jc_machine_model.specs.World.{Frame, Thread, running, returned, threw, stuck}
 use Rattle.jc_machine_model.specs.Calls.{Arguments, locals_for}
 use Rattle.jc_machine_model.specs.Step.{new_frame}
 
--- the frame on top, and those that wait, the nearest first
+-- the memory of the list of those frames that aren't on top, and of the cells of each frame, the lowest frame first
+pub record FramesMemory : Type 0 where
+  pub others : Allocation
+  pub cells : List Allocation
+
+-- the frame on top, those that wait, the nearest first, and the memory in which they lie
 pub record ThreadFrames : Type 0 where
   pub top : Frame
   pub waiting : List Frame
+  pub memory : FramesMemory
 
 -- The frames behind a call: that of the method that is called, whose first local variables are the arguments, above the one
 -- that calls, from whose stack they are gone.
 abbrev pub called : Entry → ℕ → Arguments → ThreadFrames → ThreadFrames
-called callee max_locals arguments frames = record {
+called callee max_locals arguments frames = record frames {
   top = new_frame callee (locals_for max_locals arguments.values);
   waiting = record frames.top { stack = arguments.rest } ∷ frames.waiting;
 }

@@ -4,7 +4,7 @@ ghost use Rattle.std.specs.List.{AllByRecursion};
 ghost use Rattle.jc_programs.specs.declared.program.Program.{Program as ProgramSeen};
 ghost use Rattle.jc_programs.specs.Members.{body_of};
 ghost use Rattle.jc_machine_code.specs.Prepared.{IsPrepared};
-ghost use Rattle.jc_machine_model.specs.World.{Shared as SharedSeen};
+ghost use Rattle.jc_machine_model.specs.World as world;
 ghost use Rattle.jc_machine_model.specs.Programs.{IsProgram};
 ghost use Rattle.jc_machine_model.specs.Step.{after, after_result, left, counted_frames, overflows};
 ghost use Rattle.jc_machine_memory.specs.Values.{value_of};
@@ -23,7 +23,8 @@ use jc_programs::{End, Entry, Program, Thrown};
 /// Leaves the frame on top, with a value or without.
 pub fn leave(frames: &mut ThreadStack, value: Option<Value>) -> ThreadTurn
     requires { AllByRecursion IsBounded frames.old.waiting }
-    ensures { (s : SharedSeen) → after_of result frames.new s ≡ after (left (option_map value_of value) frames.old.waiting) s }
+    ensures turn { (s : world.Shared) → after_of result frames.new s ≡ after (left (option_map value_of value) frames.old.waiting) s }
+    ensures memory { frames.new.memory ≡ frames.old.memory }
 {
     if frames.leave() {
         frames.give_back(value);
@@ -63,9 +64,11 @@ pub fn call(
     requires bounds { AreBounded frames.old.top frames.old.waiting }
     requires counted { counted_frames program.now frames.old.waiting ≡ length frames.old.waiting }
     requires fits { FitsAfter program.now
-        (after_result program.now (call_of (body_of program.now callee) callee frames.old.top) shared.old frames.old.top frames.old.waiting) }
-    ensures { after_of result frames.new shared.new
-        ≡ after_result program.now (call_of (body_of program.now callee) callee frames.old.top) shared.old frames.old.top frames.old.waiting }
+        (after_result program.now (call_of (body_of program.now callee) callee frames.old.top) shared.old.content frames.old.top frames.old.waiting) }
+    ensures turn { after_of result frames.new shared.new.content
+        ≡ after_result program.now (call_of (body_of program.now callee) callee frames.old.top) shared.old.content frames.old.top frames.old.waiting }
+    ensures memory { frames.new.memory ≡ frames.old.memory }
+    ensures shared_memory { shared.new.memory ≡ shared.old.memory }
 {
     let Some(method) = prepared.method(callee) else {
         return ThreadTurn::to(End::Stuck);

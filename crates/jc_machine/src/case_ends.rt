@@ -30,7 +30,7 @@ fn number(value: Value) -> i64
 
 /// The number that a static field of an integral type holds.
 fn number_at(shared: &Shared, at: &IntegralField) -> i64
-    ensures { result ≡ number_of (value_at shared.now.statics at.now) }
+    ensures { result ≡ number_of (value_at shared.now.content.statics at.now) }
 {
     match shared.static_value(at.class, at.field) {
         Some(value) => number(value),
@@ -44,7 +44,7 @@ fn static_ends(
     shared: &Shared,
     fields: &[IntegralField],
 ) -> Result<Vec<StaticEnd>, Memory>
-    ensures { IfOk result (λ ends. ends.items ≡ ends_at shared.now.statics fields.now) }
+    ensures { IfOk result (λ ends. ends.items ≡ ends_at shared.now.content.statics fields.now) }
 {
     let mut ends = Vec::with_capacity(alloc, fields.len())?;
     'fields: for at in fields {

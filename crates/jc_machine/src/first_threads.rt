@@ -46,9 +46,10 @@ fn put_arguments(
 )
     requires fit { FitParameters parameters.now numbers.now frames.old.top.locals }
     requires empty { frames.old.top.locals ≡ replicate (length frames.old.top.locals) None }
-    ensures { (types : List FieldType) → AreParameters types parameters.now
+    ensures arguments { (types : List FieldType) → AreParameters types parameters.now
         → length (spread_values (argument_values types numbers.now)) ≤ length frames.old.top.locals
         → frames.new ≡ with_arguments types numbers.now frames.old }
+    ensures memory { frames.new.memory ≡ frames.old.memory }
 {
     let mut slot = 0;
     'putting: for (k, number) in numbers.iter().enumerate() {
@@ -66,7 +67,8 @@ pub fn begin_thread(
     numbers: &[i64],
 ) -> End
     requires { (program : Program) × BeginsWith program prepared.now method numbers.now }
-    ensures { (program : Program) → BeginsWith program prepared.now method numbers.now → thread_of result frames.new ≡ first_thread program method numbers.now }
+    ensures thread { (program : Program) → BeginsWith program prepared.now method numbers.now → thread_of result frames.new ≡ first_thread program method numbers.now }
+    ensures memory { frames.new.memory ≡ frames.old.memory }
 {
     frames.begin(method, 0);
     let Some(found) = prepared.method(method) else {

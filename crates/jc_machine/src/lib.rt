@@ -15,6 +15,6 @@ mod throwing;
 mod turns;
 mod world;
 
-pub use jc_programs::entry;
+pub use jc_programs::{ProbeSink, entry};
 pub use sink::BitSink;
 pub use world::World;

@@ -35,12 +35,14 @@ fn act(
 ) -> Next
     requires program { IsProgram program.now }
     requires prepared { IsPrepared program.now prepared.now }
-    requires fits { FitsWorld program.now (alone shared.old frames.old) }
-    ensures result { ComesTo result shared.new frames.new.top (operation_at program.now (located program.now frames.old.top.method frames.old.top.place))
-        shared.old frames.old.top }
+    requires fits { FitsWorld program.now (alone shared.old.content frames.old) }
+    ensures result { ComesTo result shared.new.content frames.new.top (operation_at program.now (located program.now frames.old.top.method frames.old.top.place))
+        shared.old.content frames.old.top }
     ensures frame_kept { KeepsFrame result frames.old.top frames.new.top }
     ensures waiting_kept { frames.new.waiting ≡ frames.old.waiting }
-    ensures shared_kept { KeepsShared result shared.old shared.new }
+    ensures shared_kept { KeepsShared result shared.old.content shared.new.content }
+    ensures memory { frames.new.memory ≡ frames.old.memory }
+    ensures shared_memory { shared.new.memory ≡ shared.old.memory }
 {
     let method = frames.method();
     let place = frames.place();
@@ -60,8 +62,10 @@ pub fn turn_thread(
 ) -> ThreadTurn
     requires program { IsProgram program.now }
     requires prepared { IsPrepared program.now prepared.now }
-    requires fits { FitsWorld program.now (alone shared.old frames.old) }
-    ensures { after_of result frames.new shared.new ≡ turn_of program.now shared.old (running frames.old.top frames.old.waiting) }
+    requires fits { FitsWorld program.now (alone shared.old.content frames.old) }
+    ensures turn { after_of result frames.new shared.new.content ≡ turn_of program.now shared.old.content (running frames.old.top frames.old.waiting) }
+    ensures memory { frames.new.memory ≡ frames.old.memory }
+    ensures shared_memory { shared.new.memory ≡ shared.old.memory }
 {
     match act(prepared, program, shared, frames) {
         Next::Goes => ThreadTurn::to(End::Running),

@@ -4,7 +4,7 @@ ghost use Rattle.jc_programs.specs.Turns.{AreThreads, turns_around, turns_drawn,
 ghost use Rattle.jc_machine_model.specs.Programs.{IsProgram};
 ghost use Rattle.jc_machine_model.specs.Run.{run_from};
 ghost use Rattle.jc_machine.specs.Hits.{Gained, probe_counts};
-ghost use Rattle.jc_machine.specs.Machines.{world_of, Fits};
+ghost use Rattle.jc_machine.specs.Machines.{world_of, Fits, KeepsMemory};
 ghost use Rattle.jc_machine.specs.Turned.{without_hits};
 
 use crate::world::World;
@@ -38,6 +38,7 @@ impl World {
         ensures counts { S.counts sink.new ≡ S.counts sink.old }
         ensures threads { length self.new.threads ≡ length self.old.threads }
         ensures fits { Fits program.now self.new }
+        ensures memory { KeepsMemory self.old self.new }
     {
         'turning: for t in turns {
             self.turn(program, u32::from(*t), sink);
@@ -55,6 +56,7 @@ impl World {
         ensures counts { S.counts sink.new ≡ S.counts sink.old }
         ensures threads { length self.new.threads ≡ length self.old.threads }
         ensures fits { Fits program.now self.new }
+        ensures memory { KeepsMemory self.old self.new }
     {
         let threads = self.thread_count();
         'turning: for k in 0..turns {
@@ -73,6 +75,7 @@ impl World {
         ensures counts { S.counts sink.new ≡ S.counts sink.old }
         ensures threads { length self.new.threads ≡ length self.old.threads }
         ensures fits { Fits program.now self.new }
+        ensures memory { KeepsMemory self.old self.new }
     {
         let threads = self.thread_count();
         let mut x = seed;
@@ -94,6 +97,7 @@ impl World {
         ensures counts { S.counts sink.new ≡ S.counts sink.old }
         ensures threads { length self.new.threads ≡ length self.old.threads }
         ensures fits { Fits program.now self.new }
+        ensures memory { KeepsMemory self.old self.new }
     {
         match schedule {
             Schedule::Listed(turns) => self.run_listed(program, turns.as_slice(), sink),

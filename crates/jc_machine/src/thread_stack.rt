@@ -120,7 +120,8 @@ impl ThreadStack {
 
     /// Leaves the frame on top. Says whether a frame waited, which is then on top; where none did nothing changes.
     pub fn leave(&mut self) -> bool
-        ensures { MatchBool result (self.old.waiting ≡ self.new.top ∷ self.new.waiting) ((self.old.waiting ≡ []) × (self.new ≡ self.old)) }
+        ensures left { MatchBool result (self.old.waiting ≡ self.new.top ∷ self.new.waiting) ((self.old.waiting ≡ []) × (self.new ≡ self.old)) }
+        ensures memory { self.new.memory ≡ self.old.memory }
     {
         if self.waiting == 0 {
             return false;
@@ -128,6 +129,14 @@ impl ThreadStack {
         self.waiting -= 1;
         mem::swap(&mut self.top, &mut self.others[self.waiting]);
         true
+    }
+
+    // Leaves all frames but the lowest.
+    fn leave_all(&mut self)
+        ensures waiting { self.new.waiting ≡ [] }
+        ensures memory { self.new.memory ≡ self.old.memory }
+    {
+        'leaving: while self.leave() {}
     }
 
     /// The method of the frame on top.
@@ -172,11 +181,13 @@ impl ThreadStack {
         requires insn { IsWellFormed insn.now }
         requires bounds { IsBounded self.old.top }
         ensures result { (d : operations.Operation) → Shows operation d
-            → (IsSwitch operation → GoesByKey d insn.now shared.old self.old.top)
-            → ComesTo result shared.new self.new.top d shared.old self.old.top }
+            → (IsSwitch operation → GoesByKey d insn.now shared.old.content self.old.top)
+            → ComesTo result shared.new.content self.new.top d shared.old.content self.old.top }
         ensures frame_kept { KeepsFrame result self.old.top self.new.top }
         ensures waiting_kept { self.new.waiting ≡ self.old.waiting }
-        ensures shared_kept { KeepsShared result shared.old shared.new }
+        ensures shared_kept { KeepsShared result shared.old.content shared.new.content }
+        ensures memory { self.new.memory ≡ self.old.memory }
+        ensures shared_memory { shared.new.memory ≡ shared.old.memory }
     {
         perform(operation, insn, shared, &mut self.top)
     }
@@ -184,10 +195,10 @@ impl ThreadStack {
     /// One frame, of a method with so many local variables, none of which has a value.
     pub fn begin(&mut self, method: Entry, locals: u16)
         requires { locals ≤ 1004 }
-        ensures { self.new ≡ record { top = new_frame method (replicate locals None); waiting = [] } }
+        ensures { self.new ≡ record self.old { top = new_frame method (replicate locals None); waiting = [] } }
     {
+        self.leave_all();
         self.top.enter(method, locals);
-        self.waiting = 0;
     }
 
     /// Puts a value into a local variable of the frame on top.

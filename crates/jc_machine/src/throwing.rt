@@ -25,8 +25,9 @@ pub struct Throwable {
 /// Leaves frames until one has a handler, and goes on there. Says whether one was found; else the thread has ended.
 fn unwind(prepared: &PreparedProgram, frames: &mut ThreadStack, throwable: Throwable) -> bool
     requires { AreBounded frames.old.top frames.old.waiting }
-    ensures { (program : Program) → IsPrepared program prepared.now
+    ensures thread { (program : Program) → IsPrepared program prepared.now
         → thrown_to result throwable.thrown frames.new ≡ unwound program throwable.thrown (value_of throwable.value) (frames.old.top ∷ frames.old.waiting) }
+    ensures memory { frames.new.memory ≡ frames.old.memory }
 {
     'leaving: loop {
         let handler = prepared.handler(frames.method(), frames.place(), throwable.thrown);
@@ -48,9 +49,11 @@ pub fn throw(
     throwable: Throwable,
 ) -> ThreadTurn
     requires { AreBounded frames.old.top frames.old.waiting }
-    ensures { (program : Program) → IsPrepared program prepared.now
-        → after_of result frames.new shared.new
-        ≡ thrown_in program (raised_with throwable shared.old) (frames.old.top ∷ frames.old.waiting) }
+    ensures turn { (program : Program) → IsPrepared program prepared.now
+        → after_of result frames.new shared.new.content
+        ≡ thrown_in program (raised_with throwable shared.old.content) (frames.old.top ∷ frames.old.waiting) }
+    ensures memory { frames.new.memory ≡ frames.old.memory }
+    ensures shared_memory { shared.new.memory ≡ shared.old.memory }
 {
     shared.set_raised();
     if unwind(prepared, frames, throwable) {
@@ -62,7 +65,8 @@ pub fn throw(
 
 /// The throwable of a class that is raised: a new one, or the one OutOfMemoryError where no room is left.
 fn place(shared: &mut Shared, thrown: Thrown) -> Throwable
-    ensures { raised_with result shared.new ≡ placed thrown shared.old }
+    ensures throwable { raised_with result shared.new.content ≡ placed thrown shared.old.content }
+    ensures memory { shared.new.memory ≡ shared.old.memory }
 {
     let memory_error = Throwable {
         thrown: Thrown::OutOfMemoryError,
@@ -88,8 +92,10 @@ pub fn raise(
     thrown: Thrown,
 ) -> ThreadTurn
     requires { AreBounded frames.old.top frames.old.waiting }
-    ensures { (program : Program) → IsPrepared program prepared.now
-        → after_of result frames.new shared.new ≡ thrown_in program (placed thrown shared.old) (frames.old.top ∷ frames.old.waiting) }
+    ensures turn { (program : Program) → IsPrepared program prepared.now
+        → after_of result frames.new shared.new.content ≡ thrown_in program (placed thrown shared.old.content) (frames.old.top ∷ frames.old.waiting) }
+    ensures memory { frames.new.memory ≡ frames.old.memory }
+    ensures shared_memory { shared.new.memory ≡ shared.old.memory }
 {
     let throwable = place(shared, thrown);
     throw(prepared, shared, frames, throwable)

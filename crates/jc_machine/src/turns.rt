@@ -3,7 +3,7 @@ ghost use Rattle.std.specs.Prelude.{◌≡◌, ◌<◌, length};
 ghost use Rattle.jc_machine_model.specs.Programs.{IsProgram};
 ghost use Rattle.jc_machine_model.specs.Step.{step};
 ghost use Rattle.jc_machine.specs.Hits.{Gained, probe_counts};
-ghost use Rattle.jc_machine.specs.Machines.{world_of, Fits};
+ghost use Rattle.jc_machine.specs.Machines.{world_of, Fits, KeepsMemory};
 ghost use Rattle.jc_machine.specs.Turned.{without_hits, hits_in};
 
 use crate::running::turn_thread;
@@ -21,6 +21,7 @@ impl World {
         ensures hits { hits_in result ≡ (step program.now (world_of self.old) thread).hits }
         ensures prepared { self.new.prepared ≡ self.old.prepared }
         ensures fields { self.new.fields ≡ self.old.fields }
+        ensures memory { self.new.memory ≡ self.old.memory }
     {
         let t = thread as usize;
         if let End::Running = self.ends[t] {
@@ -44,6 +45,7 @@ impl World {
         ensures counts { S.counts sink.new ≡ S.counts sink.old }
         ensures threads { length self.new.threads ≡ length self.old.threads }
         ensures fits { Fits program.now self.new }
+        ensures memory { KeepsMemory self.old self.new }
     {
         if let Some(hit) = self.step(program, thread) {
             sink.hit(hit.class, hit.id);

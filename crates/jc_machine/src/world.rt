@@ -60,7 +60,7 @@ fn stacks(alloc: Global) -> Result<Vec<ThreadStack>, Memory>
 }
 
 impl World {
-    ghost use Rattle.jc_machine.specs.Machines.{world_of, Fits};
+    ghost use Rattle.jc_machine.specs.Machines.{world_of, Fits, KeepsMemory};
 
     /// The world in which a case begins, whose threads begin with these methods. No later call but `end` takes memory.
     ///
@@ -118,6 +118,7 @@ impl World {
         ensures world { world_of self.new ≡ begin program.now case.now.threads entries.now }
         ensures threads { length self.new.threads ≡ length case.now.threads }
         ensures fits { Fits program.now self.new }
+        ensures memory { KeepsMemory self.old self.new }
     {
         self.shared.reset(self.prepared.classes.as_slice());
         self.begin_threads(program, case.threads.as_slice(), entries);

@@ -9,7 +9,7 @@ use Rattle.jc_machine_memory.specs.declared.cell.Cell.{Cell}
 use Rattle.jc_machine_memory.specs.declared.cell.Cell.TheVariants.{Empty}
 use Rattle.jc_machine_memory.specs.declared.frame.Frame.TheInside.{Inside}
 use Rattle.jc_machine_memory.specs.Cells.{held, on_stack}
-use Rattle.jc_machine_memory.specs.Frames.{frame_of, IsFrame}
+use Rattle.jc_machine_memory.specs.Frames.{content_of, IsFrame}
 use Rattle.jc_machine_memory.proofs.ReadLaws.{got_mapped}
 
 -- ---- a list from its end
@@ -27,7 +27,7 @@ frame_with method place locals stack = record { method = method; place = place; 
 
 pub pushed : (f : Inside) (cells : List Cell) (c : Cell) → IsFrame f → f.locals + f.height < 1010 → cells ≡ slice_set f.cells.items (f.locals + f.height) c
     → frame_with f.method f.place (map held (take f.locals cells)) (map on_stack (reverse (take (f.height + 1) (drop f.locals cells))))
-    ≡ record (frame_of f) { stack = on_stack c ∷ (frame_of f).stack }
+    ≡ record (content_of f) { stack = on_stack c ∷ (content_of f).stack }
 pushed f cells c sound room set =
     let locals : take f.locals cells ≡ take f.locals f.cells.items = ap (take f.locals) set
     ∙ take-set-le f.locals f.cells.items (f.locals + f.height) c (omega arith) in
@@ -41,7 +41,7 @@ pushed f cells c sound room set =
 
 pub cut : (f : Inside) (count : ℕ) → IsFrame f
     → frame_with f.method f.place (map held (take f.locals f.cells.items))
-    (map on_stack (reverse (take (f.height - count) (drop f.locals f.cells.items)))) ≡ record (frame_of f) { stack = drop count (frame_of f).stack }
+    (map on_stack (reverse (take (f.height - count) (drop f.locals f.cells.items)))) ≡ record (content_of f) { stack = drop count (content_of f).stack }
 cut f count sound =
     let most : f.height ≤ length (drop f.locals f.cells.items) = omega (arith, length-drop f.locals f.cells.items, sound.cells, sound.within) in
     ap (frame_with f.method f.place (map held (take f.locals f.cells.items)))
@@ -49,7 +49,7 @@ cut f count sound =
     ∙ sym (drop-map on_stack count (reverse (take f.height (drop f.locals f.cells.items)))))
 
 pub peeked : (f : Inside) (depth : ℕ) (d : Cell) → IsFrame f → depth < f.height
-    → Some (on_stack (slice_index_or f.cells.items (f.locals + f.height - 1 - depth) d)) ≡ slice_get (frame_of f).stack depth
+    → Some (on_stack (slice_index_or f.cells.items (f.locals + f.height - 1 - depth) d)) ≡ slice_get (content_of f).stack depth
 peeked f depth d sound less =
     let cells = take f.height (drop f.locals f.cells.items) in
     let most : f.height ≤ length (drop f.locals f.cells.items) = omega (arith, length-drop f.locals f.cells.items, sound.cells, sound.within) in
@@ -62,19 +62,19 @@ peeked f depth d sound less =
     ∙ (get_or-drop f.locals f.cells.items (length cells - 1 - depth) d ∙ ap (λ n. slice_index_or f.cells.items n d) place)) in
     ap (λ c. Some (on_stack c)) (sym read) ∙ sym (got_mapped on_stack (reverse cells) depth d inside)
 
-pub height_is : (f : Inside) → IsFrame f → length (frame_of f).stack ≡ f.height
+pub height_is : (f : Inside) → IsFrame f → length (content_of f).stack ≡ f.height
 height_is f sound =
     let cells = take f.height (drop f.locals f.cells.items) in
     length-map (reverse cells) on_stack
     ∙ (length-reverse cells ∙ length-take-le f.height (drop f.locals f.cells.items)
     (omega (arith, length-drop f.locals f.cells.items, sound.cells, sound.within)))
 
-pub locals_is : (f : Inside) → IsFrame f → length (frame_of f).locals ≡ f.locals
+pub locals_is : (f : Inside) → IsFrame f → length (content_of f).locals ≡ f.locals
 locals_is f sound = length-map (take f.locals f.cells.items) held ∙ length-take-le f.locals f.cells.items (omega (arith, sound.cells, sound.within))
 
 pub local_set : (f : Inside) (cells : List Cell) (slot : ℕ) (c : Cell) → IsFrame f → slot < f.locals → cells ≡ slice_set f.cells.items slot c
     → frame_with f.method f.place (map held (take f.locals cells)) (map on_stack (reverse (take f.height (drop f.locals cells))))
-    ≡ record (frame_of f) { locals = slice_set (frame_of f).locals slot (held c) }
+    ≡ record (content_of f) { locals = slice_set (content_of f).locals slot (held c) }
 local_set f cells slot c sound less set =
     let locals : map held (take f.locals cells) ≡ slice_set (map held (take f.locals f.cells.items)) slot (held c) =
     ap (λ cs. map held (take f.locals cs)) set

@@ -16,11 +16,12 @@ use Rattle.jc_programs.specs.declared.run_end.Thrown.{Thrown}
 use Rattle.jc_programs.specs.declared.run_end.Thrown.TheVariants.{Throwable}
 use Rattle.jc_programs.specs.Throwables.{throwables}
 use Rattle.jc_region.specs.declared.region.Block.{Block}
+use Rattle.jc_region.specs.Memory.{RegionMemory}
 use Rattle.jc_region.specs.Blocks.{Blocks, words_in, IsBlock, IsLive, number_at, words_at, with_word, with_block}
 use Rattle.jc_machine_memory.specs.declared.element.Element.{Element}
 use Rattle.jc_machine_memory.specs.declared.element.Element.TheVariants as elements
 use Rattle.jc_machine_memory.specs.declared.heap.HeapObject.TheVariants as tolds
-use Rattle.jc_machine_memory.specs.Heaps.{element_type, element_at, number_in, class_in, object_with, object_of, objects_of, object_at, AreObjects, IsHeap, TellsOf, HasElement, HasIntElement, element_in, with_number, with_element_at}
+use Rattle.jc_machine_memory.specs.Heaps.{element_type, element_at, number_in, class_in, object_with, object_of, objects_of, HeapSeen, heap_of, object_at, AreObjects, IsHeap, TellsOf, HasElement, HasIntElement, element_in, with_number, with_element_at}
 use Rattle.jc_machine_memory.proofs.ReadLaws.{got_mapped}
 
 -- ---- blocks by their places
@@ -164,14 +165,16 @@ objects-append (b ∷ blocks) block all one = (all.0, objects-append blocks bloc
 -- an object stands behind the others
 pub record Makes (heap heap' : Blocks) (object : HeapObject) : Type 0 where
   pub sound : IsHeap heap'
+  pub memory : heap'.memory ≡ heap.memory
   pub objects : objects_of heap' ≡ objects_of heap ++ object ∷ []
 
 makes : (heap heap' : Blocks) (block : List ℕ) (object : HeapObject) → IsHeap heap → heap'.most ≡ heap.most → heap'.blocks ≡ heap.blocks ++ block ∷ []
-    → object_of block ≡ object → words_of object ≡ length block → Makes heap heap' object
-makes heap heap' block object sound most blocks is words =
+    → heap'.memory ≡ heap.memory → object_of block ≡ object → words_of object ≡ length block → Makes heap heap' object
+makes heap heap' block object sound most blocks memory is words =
     let all : AreObjects (heap.blocks ++ block ∷ []) = objects-append heap.blocks block sound.objects (ap words_of is ∙ words) in
     record {
       sound = record { most = most ∙ sound.most; objects = subst AreObjects (sym blocks) all };
+      memory = memory;
       objects = ap (map object_of) blocks ∙ (map-append object_of heap.blocks (block ∷ []) ∙ ap (λ o. map object_of heap.blocks ++ o ∷ []) is);
     }
 
@@ -193,7 +196,7 @@ pub array_made : (heap : Blocks) (n word : ℕ) (type : FieldType) → IsHeap he
     → Makes heap (with_word (with_block heap (n + 1)) (words_in heap.blocks) 0 word) (array type (replicate n (pos 0)))
 array_made heap n word type sound is =
     makes heap _ (word ∷ replicate n 0) (array type (replicate n (pos 0))) sound refl
-    (blocks_made heap (n + 1) word sound ∙ ap (λ b. heap.blocks ++ b ∷ []) (array_block n word))
+    (blocks_made heap (n + 1) word sound ∙ ap (λ b. heap.blocks ++ b ∷ []) (array_block n word)) refl
     (ap (λ o. object_with o word (replicate n 0)) is ∙ ap (array type) (zero_numbers type n))
     (omega (arith, integers-length n, zeros-length n))
 
@@ -205,7 +208,7 @@ pub throwable_made : (heap : Blocks) (n : ℕ) (c : Thrown) → IsHeap heap → 
 throwable_made heap n c sound is =
     let number : n + 16 - 16 ≡ n = omega arith in
     makes heap _ ((n + 16) ∷ []) (throwable c) sound refl
-    (blocks_made heap 1 (n + 16) sound)
+    (blocks_made heap 1 (n + 16) sound) refl
     (ap (λ o. object_with o (n + 16) []) (no_element (n + 16) (omega arith)) ∙ ap throwable (ap (λ m. slice_index_or throwables m Throwable) number ∙ is))
     refl
 
@@ -305,6 +308,7 @@ objects_at (b ∷ blocks) (suc k) all some = objects_at blocks k all.1 some
 -- an element is another number, and nothing else is
 pub record Sets (heap heap' : Blocks) (k i : ℕ) (n : ℤ) : Type 0 where
   pub sound : IsHeap heap'
+  pub memory : heap'.memory ≡ heap.memory
   pub objects : objects_of heap' ≡ with_element_at (objects_of heap) k i n
 
 pub sets : (heap heap' : Blocks) (at len k : ℕ) (t : FieldType) (i word : ℕ) (n : ℤ) → IsHeap heap → IsBlock heap.blocks at len k
@@ -323,6 +327,7 @@ sets heap heap' at len k t i word n sound block has is set =
     let P : Blocks → Type 0 = λ h. Sets heap h k i n in
     subst P (sym (set ∙ here)) (record {
       sound = record { most = sound.most; objects = set_objects heap.blocks k (slice_set words (i + 1) word) sound.objects one };
+      memory = refl;
       objects = map-set object_of heap.blocks k (slice_set words (i + 1) word)
           ∙ (ap (slice_set (map object_of heap.blocks) k) new
           ∙ ap (λ o. slice_set (map object_of heap.blocks) k (with_number o i n)) (sym (object_is heap.blocks k)));
@@ -348,6 +353,12 @@ element_there (b ∷ blocks) (suc k) t i has =
 pub index_within : (blocks : List (List ℕ)) (at len k : ℕ) (t : FieldType) (i : ℕ) → IsBlock blocks at len k
     → HasElement (object_at (map object_of blocks) k) t i → i + 1 < len
 index_within blocks at len k t i block has = omega (arith, (element_there blocks k t i has).1, block_long blocks at len k block)
+
+-- ---- a heap by its parts
+
+pub same_heap : (heap : Blocks) (h : HeapSeen) → objects_of heap ≡ h.objects → heap.memory ≡ h.memory → heap_of heap ≡ h
+same_heap heap h objects memory =
+    ap (λ (os : List HeapObject). record { objects = os; memory = heap.memory }) objects ∙ ap (λ (m : RegionMemory). record { objects = h.objects; memory = m }) memory
 
 -- ---- numbers in words
 

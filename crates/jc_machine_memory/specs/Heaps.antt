@@ -6,6 +6,7 @@ use Rattle.jc_bytes.specs.Descriptor.{FieldType, Byte, Char, Int, Long, Short, B
 use Rattle.jc_programs.specs.declared.run_end.Thrown.{Thrown}
 use Rattle.jc_programs.specs.declared.run_end.Thrown.TheVariants.{Throwable}
 use Rattle.jc_programs.specs.Throwables.{throwables}
+use Rattle.jc_region.specs.Memory.{RegionMemory}
 use Rattle.jc_region.specs.Blocks.{Blocks}
 use Rattle.jc_machine_memory.specs.declared.element.Element.{Element}
 use Rattle.jc_machine_memory.specs.declared.element.Element.TheVariants as elements
@@ -53,6 +54,14 @@ object_of (head ∷ words) = object_with (element_at head) head words
 -- the arrays and throwables in the order of their blocks
 abbrev pub objects_of : Blocks → List HeapObject
 objects_of heap = map object_of heap.blocks
+
+-- they, and the memory of the blocks
+pub record HeapSeen : Type 0 where
+  pub objects : List HeapObject
+  pub memory : RegionMemory
+
+abbrev pub heap_of : Blocks → HeapSeen
+heap_of heap = record { objects = objects_of heap; memory = heap.memory }
 
 -- each block has as many words as its object takes
 abbrev pub AreObjects : List (List ℕ) → Type 0

@@ -25,9 +25,9 @@ pub struct Frame {
 }
 
 impl Model for Frame {
-    ghost use Rattle.jc_machine_model.specs.World as world;
+    ghost use Rattle.jc_machine_memory.specs.Frames.{FrameSeen};
 
-    ghost Value = { world.Frame };
+    ghost Value = { FrameSeen };
 
     ghost use Rattle.jc_machine_memory.specs.Frames.{frame_of, IsFrame};
 
@@ -51,7 +51,7 @@ impl Frame {
     ///
     /// `Memory` where memory was refused.
     pub fn new(alloc: Global, method: Entry) -> Result<Frame, Memory>
-        ensures { IfOk result (λ frame. frame ≡ record { method = method; place = 0; locals = []; stack = [] }) }
+        ensures { IfOk result (λ frame. frame.content ≡ record { method = method; place = 0; locals = []; stack = [] }) }
     {
         let cells = vec![in alloc; Cell::Empty; MOST_CELLS]?;
         Ok(Frame {
@@ -66,7 +66,7 @@ impl Frame {
     /// The frame of a method that is called: so many local variables without a value, and no operands.
     pub fn enter(&mut self, method: Entry, locals: u16)
         requires { locals ≤ 1010 }
-        ensures { self.new ≡ record { method = method; place = 0; locals = replicate locals None; stack = [] } }
+        ensures { self.new ≡ record self.old { content = record { method = method; place = 0; locals = replicate locals None; stack = [] } } }
     {
         self.method = method;
         self.place = 0;
@@ -77,42 +77,42 @@ impl Frame {
 
     /// The body of its method.
     pub fn method(&self) -> Entry
-        ensures { result ≡ self.now.method }
+        ensures { result ≡ self.now.content.method }
     {
         self.method
     }
 
     /// The instruction that comes next.
     pub fn place(&self) -> u32
-        ensures { result ≡ self.now.place }
+        ensures { result ≡ self.now.content.place }
     {
         self.place
     }
 
     /// Goes on at an instruction.
     pub fn go_to(&mut self, place: u32)
-        ensures { self.new ≡ record self.old { place = place } }
+        ensures { self.new ≡ record self.old { content = record self.old.content { place = place } } }
     {
         self.place = place;
     }
 
     /// How many values the operand stack has.
     pub fn height(&self) -> usize
-        ensures { result ≡ length self.now.stack }
+        ensures { result ≡ length self.now.content.stack }
     {
         self.height
     }
 
     /// How many local variables there are.
     pub fn locals(&self) -> usize
-        ensures { result ≡ length self.now.locals }
+        ensures { result ≡ length self.now.content.locals }
     {
         self.locals
     }
 
     /// The value that begins in a local variable, if one does. There is none past the last.
     pub fn local(&self, slot: usize) -> Option<Value>
-        ensures { option_map value_of result ≡ slice_index_or self.now.locals slot None }
+        ensures { option_map value_of result ≡ slice_index_or self.now.content.locals slot None }
     {
         if slot >= self.locals {
             return None;
@@ -122,7 +122,7 @@ impl Frame {
 
     /// Puts a value into a local variable, or empties it. Nothing changes past the last.
     pub fn set_local(&mut self, slot: usize, value: Option<Value>)
-        ensures { self.new ≡ record self.old { locals = slice_set self.old.locals slot (option_map value_of value) } }
+        ensures { self.new ≡ record self.old { content = record self.old.content { locals = slice_set self.old.content.locals slot (option_map value_of value) } } }
     {
         if slot < self.locals {
             let cell = Cell::of_local(value);
@@ -132,7 +132,7 @@ impl Frame {
 
     /// The value so far below the top of the operand stack, if there is one.
     pub fn peek(&self, depth: usize) -> Option<Value>
-        ensures { option_map value_of result ≡ slice_get self.now.stack depth }
+        ensures { option_map value_of result ≡ slice_get self.now.content.stack depth }
     {
         if depth >= self.height {
             return None;
@@ -143,8 +143,8 @@ impl Frame {
 
     /// Puts a value on the operand stack.
     pub fn push(&mut self, value: Value)
-        requires { length self.old.locals + length self.old.stack < 1010 }
-        ensures { self.new ≡ record self.old { stack = value_of value ∷ self.old.stack } }
+        requires { length self.old.content.locals + length self.old.content.stack < 1010 }
+        ensures { self.new ≡ record self.old { content = record self.old.content { stack = value_of value ∷ self.old.content.stack } } }
     {
         let top = self.locals + self.height;
         let cell = Cell::of(value);
@@ -154,7 +154,7 @@ impl Frame {
 
     /// Takes so many values off the operand stack, or all that there are.
     pub fn cut(&mut self, count: usize)
-        ensures { self.new ≡ record self.old { stack = drop count self.old.stack } }
+        ensures { self.new ≡ record self.old { content = record self.old.content { stack = drop count self.old.content.stack } } }
     {
         self.height = self.height.saturating_sub(count);
     }

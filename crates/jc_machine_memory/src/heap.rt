@@ -31,19 +31,18 @@ pub struct Heap {
 }
 
 impl Model for Heap {
-    ghost use Rattle.std.specs.Prelude.{List};
-    ghost use Rattle.jc_machine_model.specs.Heap as world;
+    ghost use Rattle.jc_machine_memory.specs.Heaps.{HeapSeen};
 
-    ghost Value = { List world.HeapObject };
+    ghost Value = { HeapSeen };
 
     ghost use Rattle.std.specs.Coded.{codes};
     ghost use Rattle.jc_machine_memory.specs.Codes.{field_type_code};
 
     ghost coded = { Prim.hlevel (codes, field_type_code) };
 
-    ghost use Rattle.jc_machine_memory.specs.Heaps.{objects_of, IsHeap};
+    ghost use Rattle.jc_machine_memory.specs.Heaps.{heap_of, IsHeap};
 
-    ghost view = { λ h. objects_of h.region };
+    ghost view = { λ h. heap_of h.region };
 
     ghost invariant = { λ h. IsHeap h.region };
 }
@@ -58,7 +57,7 @@ impl Heap {
     ///
     /// `Memory` where memory was refused.
     pub fn new(alloc: Global) -> Result<Heap, Memory>
-        ensures { IfOk result (λ heap. heap ≡ []) }
+        ensures { IfOk result (λ heap. heap.objects ≡ []) }
     {
         Ok(Heap {
             region: Region::with_words(alloc, MOST_WORDS)?,
@@ -67,14 +66,14 @@ impl Heap {
 
     /// No object is left.
     pub fn reset(&mut self)
-        ensures { self.new ≡ [] }
+        ensures { self.new ≡ record self.old { objects = [] } }
     {
         self.region.reset();
     }
 
     /// The object with a number, if the heap has one.
     pub fn object(&self, number: u32) -> Option<HeapObject>
-        ensures told { TellsOf result (slice_get self.now number) }
+        ensures told { TellsOf result (slice_get self.now.objects number) }
         ensures few { IfSome result HasFewElements }
     {
         if number >= self.region.count() {
@@ -95,10 +94,11 @@ impl Heap {
     /// room is left for it, and then nothing changed.
     pub fn make_array(&mut self, element: Element, count: u32) -> Option<u32>
         requires { count < 2 ^ 31 }
-        ensures room { IsSome result ↔ IsTrue (has_room self.old (count + 1)) }
-        ensures made { OnSome result (self.new ≡ self.old ++ array (element_type element) (replicate count (pos 0)) ∷ []) }
-        ensures number { IfSome result (λ number. number ≡ length self.old) }
+        ensures room { IsSome result ↔ IsTrue (has_room self.old.objects (count + 1)) }
+        ensures made { OnSome result (self.new.objects ≡ self.old.objects ++ array (element_type element) (replicate count (pos 0)) ∷ []) }
+        ensures number { IfSome result (λ number. number ≡ length self.old.objects) }
         ensures none { IfNone result (self.new ≡ self.old) }
+        ensures memory { self.new.memory ≡ self.old.memory }
     {
         let number = self.region.count();
         let block = self.region.alloc(count + 1)?;
@@ -109,10 +109,11 @@ impl Heap {
     /// A new throwable behind the other objects, and its number. `None` exactly where no room is left for it, and then
     /// nothing changed.
     pub fn make_throwable(&mut self, thrown: Thrown) -> Option<u32>
-        ensures room { IsSome result ↔ IsTrue (has_room self.old 1) }
-        ensures made { OnSome result (self.new ≡ self.old ++ throwable thrown ∷ []) }
-        ensures number { IfSome result (λ number. number ≡ length self.old) }
+        ensures room { IsSome result ↔ IsTrue (has_room self.old.objects 1) }
+        ensures made { OnSome result (self.new.objects ≡ self.old.objects ++ throwable thrown ∷ []) }
+        ensures number { IfSome result (λ number. number ≡ length self.old.objects) }
         ensures none { IfNone result (self.new ≡ self.old) }
+        ensures memory { self.new.memory ≡ self.old.memory }
     {
         let number = self.region.count();
         let block = self.region.alloc(1)?;
@@ -122,8 +123,8 @@ impl Heap {
 
     /// Element `i` of the array with a number.
     pub fn element(&self, number: u32, element: Element, i: u32) -> Value
-        requires { HasElement (object_at self.now number) (element_type element) i }
-        ensures { value_of result ≡ element_value (element_type element) (element_in (object_at self.now number) i) }
+        requires { HasElement (object_at self.now.objects number) (element_type element) i }
+        ensures { value_of result ≡ element_value (element_type element) (element_in (object_at self.now.objects number) i) }
     {
         let block = self.region.block(number);
         let word = self.region.get(block, i + 1);
@@ -135,8 +136,8 @@ impl Heap {
 
     /// Makes a number element `i` of an array of another type than long. All else stays as it is.
     pub fn set_int(&mut self, number: u32, i: u32, value: i32)
-        requires { HasIntElement (object_at self.old number) i }
-        ensures { self.new ≡ with_element_at self.old number i value }
+        requires { HasIntElement (object_at self.old.objects number) i }
+        ensures { self.new ≡ record self.old { objects = with_element_at self.old.objects number i value } }
     {
         let block = self.region.block(number);
         self.region.set(block, i + 1, value.cast_unsigned() as u64);
@@ -144,8 +145,8 @@ impl Heap {
 
     /// Makes a number element `i` of an array of longs. All else stays as it is.
     pub fn set_long(&mut self, number: u32, i: u32, value: i64)
-        requires { HasElement (object_at self.old number) Long i }
-        ensures { self.new ≡ with_element_at self.old number i value }
+        requires { HasElement (object_at self.old.objects number) Long i }
+        ensures { self.new ≡ record self.old { objects = with_element_at self.old.objects number i value } }
     {
         let block = self.region.block(number);
         self.region.set(block, i + 1, value.cast_unsigned());

@@ -1,3 +1,4 @@
+mod OutputLaws
 pub mod CallLaws
 pub mod StackLaws
 pub mod EffectLaws

@@ -6,6 +6,8 @@ use Rattle.jc_machine_model.specs.Results.{Result, goes, hits, leaves, raises, t
 use Rattle.jc_machine_model.specs.Operations.{Operation, invokes}
 use Rattle.jc_machine_model.specs.Perform.{perform}
 use Rattle.jc_machine_memory.specs.Values.{value_of}
+use Rattle.jc_machine_memory.specs.Frames.{FrameSeen}
+use Rattle.jc_machine_turn.specs.Contents.{SharedSeen}
 use Rattle.jc_machine_turn.specs.declared.next.Next.{Next}
 use Rattle.jc_machine_turn.specs.declared.next.Next.TheVariants as nexts
 
@@ -19,6 +21,10 @@ result_of (nexts.Leaves v) s f = leaves (option_map value_of v)
 result_of (nexts.Raises c) s f = raises c
 result_of (nexts.Throws c v) s f = throws c (value_of v)
 result_of nexts.Stuck s f = gets_stuck
+
+-- with what is kept of both
+abbrev pub left_by : Next → SharedSeen → FrameSeen → Result
+left_by next s f = result_of next s.content f.content
 
 -- A frame changes only where it goes on, and what all threads share only where no probe is hit beside.
 abbrev pub KeepsFrame : Next → world.Frame → world.Frame → Type 0

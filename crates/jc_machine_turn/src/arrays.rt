@@ -1,6 +1,7 @@
 //! Arrays of integral types, and the probe arrays of classes (JVM Specification 6.5).
 ghost use Rattle.std.specs.Prelude.{◌≡◌, ◌+◌, ◌<◌, ◌≤◌, ◌^◌, drop, length, slice_get, if◌then◌else◌};
 ghost use Rattle.jc_bytes.specs.Descriptor as fields;
+ghost use Rattle.jc_bytes.specs.Descriptor.{Boolean};
 ghost use Rattle.jc_machine_model.specs.Values as values;
 ghost use Rattle.jc_machine_model.specs.World as world;
 ghost use Rattle.jc_machine_model.specs.Results.{gets_stuck};
@@ -9,7 +10,7 @@ ghost use Rattle.jc_machine_numbers.specs.Narrowings.{narrowing_of};
 ghost use Rattle.jc_machine_code.specs.Types.{primitive, element_types};
 ghost use Rattle.jc_machine_memory.specs.Values.{value_of};
 ghost use Rattle.jc_machine_memory.specs.Heaps.{element_type};
-ghost use Rattle.jc_machine_turn.specs.Nexts.{result_of, Settles, KeepsShared};
+ghost use Rattle.jc_machine_turn.specs.Nexts.{result_of, left_by, Settles, KeepsShared};
 ghost use Rattle.jc_machine_turn.specs.Founds.{Finds, HasElementAt, IsElementStored};
 
 use crate::frames::{replace, take};
@@ -56,7 +57,7 @@ fn index_within(index: i32, count: u32) -> Option<u32>
 
 /// The element at an index of an object. An array of other elements comes before an index out of range.
 fn find_element(types: ElementTypes, number: u32, index: i32, shared: &Shared) -> Found
-    ensures { Finds result shared.now.heap number (find_element (element_types types) shared.now.heap (values.object number) index) }
+    ensures { Finds result shared.now.content.heap number (find_element (element_types types) shared.now.content.heap (values.object number) index) }
 {
     let Some(object) = shared.object(number) else {
         return Found::Unsuited;
@@ -81,11 +82,13 @@ fn read_object(
     shared: &Shared,
     frame: &mut Frame,
 ) -> Next
-    requires place { frame.old.place + 1 < 2 ^ 32 }
-    requires room { length frame.old.locals + length frame.old.stack ≤ 1004 }
-    ensures result { result_of result shared.now frame.new
-        ≡ read_found (find_element (element_types types) shared.now.heap (values.object number) index) (drop 2 frame.old.stack) shared.now frame.old }
-    ensures kept { Settles result frame.old frame.new }
+    requires place { frame.old.content.place + 1 < 2 ^ 32 }
+    requires room { length frame.old.content.locals + length frame.old.content.stack ≤ 1004 }
+    ensures result { result_of result shared.now.content frame.new.content
+        ≡ read_found (find_element (element_types types) shared.now.content.heap (values.object number) index)
+        (drop 2 frame.old.content.stack) shared.now.content frame.old.content }
+    ensures kept { Settles result frame.old.content frame.new.content }
+    ensures memory { frame.new.memory ≡ frame.old.memory }
 {
     match find_element(types, number, index, shared) {
         Found::Within { element, index: i } => {
@@ -100,10 +103,12 @@ fn read_object(
 
 /// Loads an element of an array. The index stands above the array.
 pub fn read(types: ElementTypes, shared: &Shared, frame: &mut Frame) -> Next
-    requires place { frame.old.place + 1 < 2 ^ 32 }
-    requires room { length frame.old.locals + length frame.old.stack ≤ 1004 }
-    ensures result { result_of result shared.now frame.new ≡ by_read (element_types types) frame.old.stack shared.now frame.old }
-    ensures kept { Settles result frame.old frame.new }
+    requires place { frame.old.content.place + 1 < 2 ^ 32 }
+    requires room { length frame.old.content.locals + length frame.old.content.stack ≤ 1004 }
+    ensures result { result_of result shared.now.content frame.new.content
+        ≡ by_read (element_types types) frame.old.content.stack shared.now.content frame.old.content }
+    ensures kept { Settles result frame.old.content frame.new.content }
+    ensures memory { frame.new.memory ≡ frame.old.memory }
 {
     let Some(top) = frame.peek(0) else {
         return Next::Stuck;
@@ -136,12 +141,14 @@ fn narrowing_in(element: Element) -> Narrowing
 
 /// Stores a number into an element of an array of longs, if it is a long.
 fn write_long(number: u32, index: u32, value: Value, shared: &mut Shared, frame: &mut Frame) -> Next
-    requires place { frame.old.place + 1 < 2 ^ 32 }
-    requires element { HasElementAt shared.old.heap number fields.Long index }
-    ensures result { IsElementStored fields.Long number index (value_of value) shared.old frame.old
-        (result_of result shared.new frame.new) }
-    ensures kept { Settles result frame.old frame.new }
-    ensures shared_kept { KeepsShared result shared.old shared.new }
+    requires place { frame.old.content.place + 1 < 2 ^ 32 }
+    requires element { HasElementAt shared.old.content.heap number fields.Long index }
+    ensures result { IsElementStored fields.Long number index (value_of value) shared.old.content frame.old.content
+        (result_of result shared.new.content frame.new.content) }
+    ensures kept { Settles result frame.old.content frame.new.content }
+    ensures shared_kept { KeepsShared result shared.old.content shared.new.content }
+    ensures memory { frame.new.memory ≡ frame.old.memory }
+    ensures shared_memory { shared.new.memory ≡ shared.old.memory }
 {
     let Value::Long(x) = value else {
         return Next::Stuck;
@@ -160,13 +167,15 @@ fn write_int(
     shared: &mut Shared,
     frame: &mut Frame,
 ) -> Next
-    requires place { frame.old.place + 1 < 2 ^ 32 }
+    requires place { frame.old.content.place + 1 < 2 ^ 32 }
     requires int { element_type element ≡ fields.Long → ⊥ }
-    requires element { HasElementAt shared.old.heap number (element_type element) index }
-    ensures result { IsElementStored (element_type element) number index (value_of value) shared.old frame.old
-        (result_of result shared.new frame.new) }
-    ensures kept { Settles result frame.old frame.new }
-    ensures shared_kept { KeepsShared result shared.old shared.new }
+    requires element { HasElementAt shared.old.content.heap number (element_type element) index }
+    ensures result { IsElementStored (element_type element) number index (value_of value) shared.old.content frame.old.content
+        (result_of result shared.new.content frame.new.content) }
+    ensures kept { Settles result frame.old.content frame.new.content }
+    ensures shared_kept { KeepsShared result shared.old.content shared.new.content }
+    ensures memory { frame.new.memory ≡ frame.old.memory }
+    ensures shared_memory { shared.new.memory ≡ shared.old.memory }
 {
     let Value::Int(x) = value else {
         return Next::Stuck;
@@ -186,12 +195,14 @@ fn write_object(
     shared: &mut Shared,
     frame: &mut Frame,
 ) -> Next
-    requires { frame.old.place + 1 < 2 ^ 32 }
-    ensures result { result_of result shared.new frame.new
-        ≡ write_found (find_element (element_types types) shared.old.heap (values.object number) index) (value_of value) number
-        (drop 3 frame.old.stack) shared.old frame.old }
-    ensures kept { Settles result frame.old frame.new }
-    ensures shared_kept { KeepsShared result shared.old shared.new }
+    requires { frame.old.content.place + 1 < 2 ^ 32 }
+    ensures result { left_by result shared.new frame.new
+        ≡ write_found (find_element (element_types types) shared.old.content.heap (values.object number) index) (value_of value) number
+        (drop 3 frame.old.content.stack) shared.old.content frame.old.content }
+    ensures kept { Settles result frame.old.content frame.new.content }
+    ensures shared_kept { KeepsShared result shared.old.content shared.new.content }
+    ensures memory { frame.new.memory ≡ frame.old.memory }
+    ensures shared_memory { shared.new.memory ≡ shared.old.memory }
 {
     match find_element(types, number, index, shared) {
         Found::Within { element, index: i } => match element {
@@ -213,11 +224,12 @@ fn write_probe(
     value: Value,
     frame: &mut Frame,
 ) -> Next
-    requires { frame.old.place + 1 < 2 ^ 32 }
-    ensures result { (s : world.Shared) → result_of result s frame.new
-        ≡ (if has_elements (element_types types) fields.Boolean then by_probe class (index_within index count) (value_of value)
-        (drop 3 frame.old.stack) frame.old else gets_stuck) }
-    ensures kept { Settles result frame.old frame.new }
+    requires { frame.old.content.place + 1 < 2 ^ 32 }
+    ensures result { (s : world.Shared) → result_of result s frame.new.content
+        ≡ (if has_elements (element_types types) Boolean then by_probe class (index_within index count) (value_of value)
+        (drop 3 frame.old.content.stack) frame.old.content else gets_stuck) }
+    ensures kept { Settles result frame.old.content frame.new.content }
+    ensures memory { frame.new.memory ≡ frame.old.memory }
 {
     if !has_element(types, Element::Boolean) {
         return Next::Stuck;
@@ -239,10 +251,13 @@ fn write_probe(
 
 /// Stores an element of an array. The value stands above the index, and that above the array.
 pub fn write(types: ElementTypes, shared: &mut Shared, frame: &mut Frame) -> Next
-    requires { frame.old.place + 1 < 2 ^ 32 }
-    ensures result { result_of result shared.new frame.new ≡ by_write (element_types types) frame.old.stack shared.old frame.old }
-    ensures kept { Settles result frame.old frame.new }
-    ensures shared_kept { KeepsShared result shared.old shared.new }
+    requires { frame.old.content.place + 1 < 2 ^ 32 }
+    ensures result { result_of result shared.new.content frame.new.content
+        ≡ by_write (element_types types) frame.old.content.stack shared.old.content frame.old.content }
+    ensures kept { Settles result frame.old.content frame.new.content }
+    ensures shared_kept { KeepsShared result shared.old.content shared.new.content }
+    ensures memory { frame.new.memory ≡ frame.old.memory }
+    ensures shared_memory { shared.new.memory ≡ shared.old.memory }
 {
     let Some(value) = frame.peek(0) else {
         return Next::Stuck;
@@ -280,11 +295,14 @@ fn element_of(kind: PrimitiveType) -> Element
 
 /// Makes an array of zeros. A negative length comes before the want of room.
 pub fn make_array(kind: PrimitiveType, shared: &mut Shared, frame: &mut Frame) -> Next
-    requires place { frame.old.place + 1 < 2 ^ 32 }
-    requires room { length frame.old.locals + length frame.old.stack ≤ 1004 }
-    ensures result { result_of result shared.new frame.new ≡ by_make_array (primitive kind) frame.old.stack shared.old frame.old }
-    ensures kept { Settles result frame.old frame.new }
-    ensures shared_kept { KeepsShared result shared.old shared.new }
+    requires place { frame.old.content.place + 1 < 2 ^ 32 }
+    requires room { length frame.old.content.locals + length frame.old.content.stack ≤ 1004 }
+    ensures result { result_of result shared.new.content frame.new.content
+        ≡ by_make_array (primitive kind) frame.old.content.stack shared.old.content frame.old.content }
+    ensures kept { Settles result frame.old.content frame.new.content }
+    ensures shared_kept { KeepsShared result shared.old.content shared.new.content }
+    ensures memory { frame.new.memory ≡ frame.old.memory }
+    ensures shared_memory { shared.new.memory ≡ shared.old.memory }
 {
     let Some(top) = frame.peek(0) else {
         return Next::Stuck;
@@ -306,10 +324,11 @@ pub fn make_array(kind: PrimitiveType, shared: &mut Shared, frame: &mut Frame) -
 
 /// Pushes the length of the array on top, in its place.
 pub fn measure(shared: &Shared, frame: &mut Frame) -> Next
-    requires place { frame.old.place + 1 < 2 ^ 32 }
-    requires room { length frame.old.locals + length frame.old.stack ≤ 1004 }
-    ensures result { result_of result shared.now frame.new ≡ by_measure frame.old.stack shared.now frame.old }
-    ensures kept { Settles result frame.old frame.new }
+    requires place { frame.old.content.place + 1 < 2 ^ 32 }
+    requires room { length frame.old.content.locals + length frame.old.content.stack ≤ 1004 }
+    ensures result { result_of result shared.now.content frame.new.content ≡ by_measure frame.old.content.stack shared.now.content frame.old.content }
+    ensures kept { Settles result frame.old.content frame.new.content }
+    ensures memory { frame.new.memory ≡ frame.old.memory }
 {
     let Some(top) = frame.peek(0) else {
         return Next::Stuck;
@@ -323,10 +342,12 @@ pub fn measure(shared: &Shared, frame: &mut Frame) -> Next
 
 /// Pushes the length of an array, in place of the reference to it.
 fn measure_object(number: u32, shared: &Shared, frame: &mut Frame) -> Next
-    requires place { frame.old.place + 1 < 2 ^ 32 }
-    requires room { length frame.old.locals + length frame.old.stack ≤ 1004 }
-    ensures result { result_of result shared.now frame.new ≡ measured (slice_get shared.now.heap number) (drop 1 frame.old.stack) shared.now frame.old }
-    ensures kept { Settles result frame.old frame.new }
+    requires place { frame.old.content.place + 1 < 2 ^ 32 }
+    requires room { length frame.old.content.locals + length frame.old.content.stack ≤ 1004 }
+    ensures result { result_of result shared.now.content frame.new.content
+        ≡ measured (slice_get shared.now.content.heap number) (drop 1 frame.old.content.stack) shared.now.content frame.old.content }
+    ensures kept { Settles result frame.old.content frame.new.content }
+    ensures memory { frame.new.memory ≡ frame.old.memory }
 {
     let Some(object) = shared.object(number) else {
         return Next::Stuck;

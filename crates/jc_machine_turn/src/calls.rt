@@ -31,7 +31,7 @@ fn is_argument(value: Option<Value>, parameter: Option<ComputationalType>) -> bo
 
 /// Whether the operands on top are arguments for these parameters, the last of which stands on top.
 pub fn arguments_fit(frame: &Frame, parameters: &[Option<ComputationalType>]) -> bool
-    ensures { (types : List FieldType) → AreParameters types parameters.now → result ≡ is_some (taken_for types frame.now.stack) }
+    ensures { (types : List FieldType) → AreParameters types parameters.now → result ≡ is_some (taken_for types frame.now.content.stack) }
 {
     match parameters {
         [] => true,
@@ -45,7 +45,8 @@ pub fn arguments_fit(frame: &Frame, parameters: &[Option<ComputationalType>]) ->
 /// Puts an argument into the local variables of a callee, and says which slot comes next.
 fn put_argument(frame: &mut Frame, slot: usize, value: Value) -> usize
     requires { slot < 1004 }
-    ensures put { frame.new ≡ record frame.old { locals = with_slots frame.old.locals slot (spread_value (value_of value)) } }
+    ensures put { frame.new
+        ≡ record frame.old { content = record frame.old.content { locals = with_slots frame.old.content.locals slot (spread_value (value_of value)) } } }
     ensures next { result ≡ slot + length (spread_value (value_of value)) }
 {
     frame.set_local(slot, Some(value));
@@ -60,9 +61,14 @@ fn put_argument(frame: &mut Frame, slot: usize, value: Value) -> usize
 /// Puts the arguments into the local variables of a callee, from a slot on. They are the values on top of the caller's
 /// stack, the last of them the topmost.
 fn put_arguments(caller: &Frame, frame: &mut Frame, count: usize, slot: usize)
-    requires there { count ≤ length caller.now.stack }
-    requires room { slot + length (spread_values (reverse (take count caller.now.stack))) ≤ 1004 }
-    ensures { frame.new ≡ record frame.old { locals = with_slots frame.old.locals slot (spread_values (reverse (take count caller.now.stack))) } }
+    requires there { count ≤ length caller.now.content.stack }
+    requires room { slot + length (spread_values (reverse (take count caller.now.content.stack))) ≤ 1004 }
+    ensures { frame.new
+        ≡ record frame.old {
+          content = record frame.old.content {
+            locals = with_slots frame.old.content.locals slot (spread_values (reverse (take count caller.now.content.stack)));
+          };
+        } }
 {
     if count == 0 {
         return;
@@ -84,12 +90,13 @@ pub fn enter_callee(
     max_locals: u16,
 )
     requires fit { (types : List FieldType) × (a : Arguments) × AreParameters types parameters.now
-        × (taken_for types caller.old.stack ≡ Some a) × (length (spread_values a.values) ≤ max_locals) }
+        × (taken_for types caller.old.content.stack ≡ Some a) × (length (spread_values a.values) ≤ max_locals) }
     requires few { max_locals ≤ 1004 }
-    ensures caller { (types : List FieldType) (a : Arguments) → AreParameters types parameters.now → taken_for types caller.old.stack ≡ Some a
-        → caller.new ≡ record caller.old { stack = a.rest } }
-    ensures callee { (types : List FieldType) (a : Arguments) → AreParameters types parameters.now → taken_for types caller.old.stack ≡ Some a
-        → frame.new ≡ new_frame callee (locals_for max_locals a.values) }
+    ensures caller { (types : List FieldType) (a : Arguments) → AreParameters types parameters.now → taken_for types caller.old.content.stack ≡ Some a
+        → caller.new.content ≡ record caller.old.content { stack = a.rest } }
+    ensures callee { (types : List FieldType) (a : Arguments) → AreParameters types parameters.now → taken_for types caller.old.content.stack ≡ Some a
+        → frame.new.content ≡ new_frame callee (locals_for max_locals a.values) }
+    ensures memory { (caller.new.memory ≡ caller.old.memory) × (frame.new.memory ≡ frame.old.memory) }
 {
     frame.enter(callee, max_locals);
     put_arguments(caller, frame, parameters.len(), 0);
@@ -99,8 +106,8 @@ pub fn enter_callee(
 /// Returns the top value, if it is of the type; an int as the type has it that the method returns.
 pub fn return_top(kind: ComputationalType, narrowing: Narrowing, frame: &Frame) -> Next
     ensures result { (type : Option FieldType) (s : Shared) → return_narrowing type ≡ narrowing
-        → result_of result s frame.now ≡ by_return (computational kind) type frame.now.stack }
-    ensures kept { Settles result frame.now frame.now }
+        → result_of result s frame.now.content ≡ by_return (computational kind) type frame.now.content.stack }
+    ensures kept { Settles result frame.now.content frame.now.content }
 {
     let Some(value) = frame.peek(0) else {
         return Next::Stuck;

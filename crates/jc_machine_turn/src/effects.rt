@@ -29,8 +29,13 @@ pub fn operand(value: Option<Value>) -> Operand
 /// Puts copies of the operands at these places, counted from the top, in place of so many operands. The first one stands
 /// on top.
 fn move_operands(frame: &mut Frame, taken: usize, places: &[u8])
-    requires { length frame.old.locals + (length places.now + length frame.old.stack) ≤ 1010 }
-    ensures { frame.new ≡ record frame.old { stack = results_at places.now frame.old.stack ++ drop taken frame.old.stack } }
+    requires { length frame.old.content.locals + (length places.now + length frame.old.content.stack) ≤ 1010 }
+    ensures { frame.new
+        ≡ record frame.old {
+          content = record frame.old.content {
+            stack = results_at places.now frame.old.content.stack ++ drop taken frame.old.content.stack;
+          };
+        } }
 {
     match places {
         [] => frame.cut(taken),
@@ -44,7 +49,7 @@ fn move_operands(frame: &mut Frame, taken: usize, places: &[u8])
 
 /// What the instruction with an opcode does with the operands on top, if it reads and writes the operand stack alone.
 fn effect_on_top(frame: &Frame, op: u8) -> Effect
-    ensures { effect_on result frame.now.stack ≡ effect op frame.now.stack }
+    ensures { effect_on result frame.now.content.stack ≡ effect op frame.now.content.stack }
 {
     let first = frame.peek(0);
     let second = frame.peek(1);
@@ -61,10 +66,11 @@ fn effect_on_top(frame: &Frame, op: u8) -> Effect
 
 /// Executes the instruction with an opcode, if it reads and writes the operand stack alone.
 pub fn compute(frame: &mut Frame, op: u8) -> Next
-    requires place { frame.old.place + 1 < 2 ^ 32 }
-    requires room { length frame.old.locals + length frame.old.stack ≤ 1004 }
-    ensures result { (s : Shared) → result_of result s frame.new ≡ by_effect (effect op frame.old.stack) s frame.old }
-    ensures kept { Settles result frame.old frame.new }
+    requires place { frame.old.content.place + 1 < 2 ^ 32 }
+    requires room { length frame.old.content.locals + length frame.old.content.stack ≤ 1004 }
+    ensures result { (s : Shared) → result_of result s frame.new.content ≡ by_effect (effect op frame.old.content.stack) s frame.old.content }
+    ensures kept { Settles result frame.old.content frame.new.content }
+    ensures memory { frame.new.memory ≡ frame.old.memory }
 {
     match effect_on_top(frame, op) {
         Effect::Int { taken, value } => {

@@ -3,7 +3,7 @@ ghost use Rattle.std.specs.Prelude.{◌≡◌, length, map, IfOk};
 ghost use Rattle.jc_machine_code.specs.declared.prepared.PreparedClass.{PreparedClass};
 ghost use Rattle.jc_machine_code.specs.Prepared.{value_of as first_value_of};
 ghost use Rattle.jc_machine_memory.specs.Values.{value_of};
-ghost use Rattle.jc_machine_turn.specs.Contents.{statics_of, first_statics_of};
+ghost use Rattle.jc_machine_turn.specs.Contents.{statics_of, memories_of, first_statics_of};
 
 use jc_bytes::Memory;
 use jc_machine_code::{FirstValue, PreparedClass};
@@ -57,10 +57,11 @@ fn set_values(values: &mut [Value], first: &[FirstValue])
     }
 }
 
-/// Puts the values with which the static fields of classes begin in place of as many others.
+/// Puts the values with which the static fields of classes begin in place of as many others, where they lie.
 pub fn set_first_statics(statics: &mut [Vec<Value>], classes: &[PreparedClass])
     requires { map length (statics_of statics.old) ≡ map (λ (c : PreparedClass). length c.statics) classes.now }
-    ensures { statics_of statics.new ≡ first_statics_of classes.now }
+    ensures values { statics_of statics.new ≡ first_statics_of classes.now }
+    ensures memory { memories_of statics.new ≡ memories_of statics.old }
 {
     for i in 0..classes.len() {
         set_values(statics[i].as_mut_slice(), classes[i].statics.as_slice());

@@ -10,8 +10,8 @@ use jc_machine_memory::{Frame, Value};
 
 /// Goes on at the next instruction.
 pub fn go_on(frame: &mut Frame)
-    requires { frame.old.place + 1 < 2 ^ 32 }
-    ensures { frame.new ≡ next_with frame.old frame.old.stack }
+    requires { frame.old.content.place + 1 < 2 ^ 32 }
+    ensures { frame.new ≡ record frame.old { content = next_with frame.old.content frame.old.content.stack } }
 {
     let place = frame.place();
     frame.go_to(place + 1);
@@ -19,8 +19,8 @@ pub fn go_on(frame: &mut Frame)
 
 /// Takes so many operands and goes on at the next instruction.
 pub fn take(frame: &mut Frame, count: usize)
-    requires { frame.old.place + 1 < 2 ^ 32 }
-    ensures { frame.new ≡ next_with frame.old (drop count frame.old.stack) }
+    requires { frame.old.content.place + 1 < 2 ^ 32 }
+    ensures { frame.new ≡ record frame.old { content = next_with frame.old.content (drop count frame.old.content.stack) } }
 {
     frame.cut(count);
     go_on(frame);
@@ -28,9 +28,9 @@ pub fn take(frame: &mut Frame, count: usize)
 
 /// Puts a value in place of so many operands and goes on at the next instruction.
 pub fn replace(frame: &mut Frame, count: usize, value: Value)
-    requires place { frame.old.place + 1 < 2 ^ 32 }
-    requires room { length frame.old.locals + length frame.old.stack ≤ 1004 }
-    ensures { frame.new ≡ next_with frame.old (value_of value ∷ drop count frame.old.stack) }
+    requires place { frame.old.content.place + 1 < 2 ^ 32 }
+    requires room { length frame.old.content.locals + length frame.old.content.stack ≤ 1004 }
+    ensures { frame.new ≡ record frame.old { content = next_with frame.old.content (value_of value ∷ drop count frame.old.content.stack) } }
 {
     frame.cut(count);
     frame.push(value);
@@ -39,10 +39,11 @@ pub fn replace(frame: &mut Frame, count: usize, value: Value)
 
 /// Pushes a value.
 pub fn push(value: Value, frame: &mut Frame) -> Next
-    requires place { frame.old.place + 1 < 2 ^ 32 }
-    requires room { length frame.old.locals + length frame.old.stack ≤ 1004 }
-    ensures result { (s : Shared) → result_of result s frame.new ≡ goes_with s frame.old (value_of value ∷ frame.old.stack) }
-    ensures kept { Settles result frame.old frame.new }
+    requires place { frame.old.content.place + 1 < 2 ^ 32 }
+    requires room { length frame.old.content.locals + length frame.old.content.stack ≤ 1004 }
+    ensures result { (s : Shared) → result_of result s frame.new.content ≡ goes_with s frame.old.content (value_of value ∷ frame.old.content.stack) }
+    ensures kept { Settles result frame.old.content frame.new.content }
+    ensures memory { frame.new.memory ≡ frame.old.memory }
 {
     replace(frame, 0, value);
     Next::Goes

@@ -1,5 +1,5 @@
 //! One instruction.
-ghost use Rattle.std.specs.Prelude.{◌+◌, ◌<◌, ◌≤◌, ◌^◌, length};
+ghost use Rattle.std.specs.Prelude.{◌≡◌, ◌+◌, ◌<◌, ◌≤◌, ◌^◌, length};
 ghost use Rattle.jc_methods.specs.Insn.{IsWellFormed};
 ghost use Rattle.jc_machine_model.specs.Operations as operations;
 ghost use Rattle.jc_machine_code.specs.Shown.{Shows};
@@ -25,13 +25,15 @@ use jc_methods::Insn;
 #[tactic(auto, unfolding(jc_machine_model::specs::Perform::perform))]
 pub fn perform(operation: Operation, insn: &Insn, shared: &mut Shared, frame: &mut Frame) -> Next
     requires insn { IsWellFormed insn.now }
-    requires place { frame.old.place + 1 < 2 ^ 32 }
-    requires room { length frame.old.locals + length frame.old.stack ≤ 1004 }
+    requires place { frame.old.content.place + 1 < 2 ^ 32 }
+    requires room { length frame.old.content.locals + length frame.old.content.stack ≤ 1004 }
     ensures result { (d : operations.Operation) → Shows operation d
-        → (IsSwitch operation → GoesByKey d insn.now shared.old frame.old)
-        → ComesTo result shared.new frame.new d shared.old frame.old }
-    ensures frame_kept { KeepsFrame result frame.old frame.new }
-    ensures shared_kept { KeepsShared result shared.old shared.new }
+        → (IsSwitch operation → GoesByKey d insn.now shared.old.content frame.old.content)
+        → ComesTo result shared.new.content frame.new.content d shared.old.content frame.old.content }
+    ensures frame_kept { KeepsFrame result frame.old.content frame.new.content }
+    ensures shared_kept { KeepsShared result shared.old.content shared.new.content }
+    ensures memory { frame.new.memory ≡ frame.old.memory }
+    ensures shared_memory { shared.new.memory ≡ shared.old.memory }
 {
     match operation {
         Operation::PushInt(x) => push(Value::Int(x), frame),

@@ -21,8 +21,9 @@ use jc_methods::Insn;
 
 /// Goes on where a jump leads.
 pub fn jump(frame: &mut Frame, to: u32) -> Next
-    ensures result { (s : Shared) → result_of result s frame.new ≡ goes s (record frame.old { place = to }) }
-    ensures kept { Settles result frame.old frame.new }
+    ensures result { (s : Shared) → result_of result s frame.new.content ≡ goes s (record frame.old.content { place = to }) }
+    ensures kept { Settles result frame.old.content frame.new.content }
+    ensures memory { frame.new.memory ≡ frame.old.memory }
 {
     frame.go_to(to);
     Next::Goes
@@ -44,9 +45,10 @@ fn is_one_on_top(first: Option<Value>, second: Option<Value>) -> bool
 
 /// Tests the operands on top, and goes on where the jump leads, or at the next instruction.
 pub fn branch(frame: &mut Frame, op: u8, to: u32) -> Next
-    requires { frame.old.place + 1 < 2 ^ 32 }
-    ensures result { (s : Shared) → result_of result s frame.new ≡ by_test (test_of op frame.old.stack) to s frame.old }
-    ensures kept { Settles result frame.old frame.new }
+    requires { frame.old.content.place + 1 < 2 ^ 32 }
+    ensures result { (s : Shared) → result_of result s frame.new.content ≡ by_test (test_of op frame.old.content.stack) to s frame.old.content }
+    ensures kept { Settles result frame.old.content frame.new.content }
+    ensures memory { frame.new.memory ≡ frame.old.memory }
 {
     let first = frame.peek(0);
     let second = frame.peek(1);
@@ -70,8 +72,9 @@ pub fn branch(frame: &mut Frame, op: u8, to: u32) -> Next
 /// Goes on where a switch leads with the key on top.
 pub fn switch(frame: &mut Frame, insn: &Insn) -> Next
     requires { IsWellFormed insn.now }
-    ensures result { (s : Shared) → result_of result s frame.new ≡ by_switch (key_target insn.now) frame.old.stack s frame.old }
-    ensures kept { Settles result frame.old frame.new }
+    ensures result { (s : Shared) → result_of result s frame.new.content ≡ by_switch (key_target insn.now) frame.old.content.stack s frame.old.content }
+    ensures kept { Settles result frame.old.content frame.new.content }
+    ensures memory { frame.new.memory ≡ frame.old.memory }
 {
     let Some(value) = frame.peek(0) else {
         return Next::Stuck;

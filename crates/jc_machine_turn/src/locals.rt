@@ -14,10 +14,12 @@ use jc_machine_memory::{Frame, Value};
 
 /// Pushes the value of a local variable, if it is of the type.
 pub fn load(frame: &mut Frame, kind: ComputationalType, slot: u16) -> Next
-    requires place { frame.old.place + 1 < 2 ^ 32 }
-    requires room { length frame.old.locals + length frame.old.stack ≤ 1004 }
-    ensures result { (s : Shared) → result_of result s frame.new ≡ by_load (computational kind) (slice_index_or frame.old.locals slot None) s frame.old }
-    ensures kept { Settles result frame.old frame.new }
+    requires place { frame.old.content.place + 1 < 2 ^ 32 }
+    requires room { length frame.old.content.locals + length frame.old.content.stack ≤ 1004 }
+    ensures result { (s : Shared) → result_of result s frame.new.content
+        ≡ by_load (computational kind) (slice_index_or frame.old.content.locals slot None) s frame.old.content }
+    ensures kept { Settles result frame.old.content frame.new.content }
+    ensures memory { frame.new.memory ≡ frame.old.memory }
 {
     let Some(value) = frame.local(slot as usize) else {
         return Next::Stuck;
@@ -31,7 +33,7 @@ pub fn load(frame: &mut Frame, kind: ComputationalType, slot: u16) -> Next
 
 /// A long that begins one slot before is lost.
 fn clear_before(frame: &mut Frame, slot: usize)
-    ensures { frame.new ≡ record frame.old { locals = clear_before slot frame.old.locals } }
+    ensures { frame.new ≡ record frame.old { content = record frame.old.content { locals = clear_before slot frame.old.content.locals } } }
 {
     if slot == 0 {
         return;
@@ -46,7 +48,7 @@ fn clear_before(frame: &mut Frame, slot: usize)
 
 /// Puts a value into a local variable.
 fn put_local(frame: &mut Frame, slot: u16, value: Value)
-    ensures { frame.new ≡ record frame.old { locals = put_local slot (value_of value) frame.old.locals } }
+    ensures { frame.new ≡ record frame.old { content = record frame.old.content { locals = put_local slot (value_of value) frame.old.content.locals } } }
 {
     clear_before(frame, slot as usize);
     frame.set_local(slot as usize, Some(value));
@@ -57,9 +59,10 @@ fn put_local(frame: &mut Frame, slot: u16, value: Value)
 
 /// Takes the top value, if it is of the type, into a local variable.
 pub fn store(frame: &mut Frame, kind: ComputationalType, slot: u16) -> Next
-    requires { frame.old.place + 1 < 2 ^ 32 }
-    ensures result { (s : Shared) → result_of result s frame.new ≡ by_store (computational kind) slot frame.old.stack s frame.old }
-    ensures kept { Settles result frame.old frame.new }
+    requires { frame.old.content.place + 1 < 2 ^ 32 }
+    ensures result { (s : Shared) → result_of result s frame.new.content ≡ by_store (computational kind) slot frame.old.content.stack s frame.old.content }
+    ensures kept { Settles result frame.old.content frame.new.content }
+    ensures memory { frame.new.memory ≡ frame.old.memory }
 {
     let Some(value) = frame.peek(0) else {
         return Next::Stuck;
@@ -75,9 +78,11 @@ pub fn store(frame: &mut Frame, kind: ComputationalType, slot: u16) -> Next
 
 /// Adds to an int in a local variable.
 pub fn count(frame: &mut Frame, slot: u16, by: i16) -> Next
-    requires { frame.old.place + 1 < 2 ^ 32 }
-    ensures result { (s : Shared) → result_of result s frame.new ≡ by_count slot by (slice_index_or frame.old.locals slot None) s frame.old }
-    ensures kept { Settles result frame.old frame.new }
+    requires { frame.old.content.place + 1 < 2 ^ 32 }
+    ensures result { (s : Shared) → result_of result s frame.new.content
+        ≡ by_count slot by (slice_index_or frame.old.content.locals slot None) s frame.old.content }
+    ensures kept { Settles result frame.old.content frame.new.content }
+    ensures memory { frame.new.memory ≡ frame.old.memory }
 {
     let Some(value) = frame.local(slot as usize) else {
         return Next::Stuck;

@@ -15,11 +15,14 @@ use jc_programs::{ProbeInit, Thrown};
 
 /// Makes a throwable.
 pub fn make(thrown: Thrown, shared: &mut Shared, frame: &mut Frame) -> Next
-    requires place { frame.old.place + 1 < 2 ^ 32 }
-    requires room { length frame.old.locals + length frame.old.stack ≤ 1004 }
-    ensures result { result_of result shared.new frame.new ≡ made 1 (throwable thrown) frame.old.stack shared.old frame.old }
-    ensures kept { Settles result frame.old frame.new }
-    ensures shared_kept { KeepsShared result shared.old shared.new }
+    requires place { frame.old.content.place + 1 < 2 ^ 32 }
+    requires room { length frame.old.content.locals + length frame.old.content.stack ≤ 1004 }
+    ensures result { result_of result shared.new.content frame.new.content
+        ≡ made 1 (throwable thrown) frame.old.content.stack shared.old.content frame.old.content }
+    ensures kept { Settles result frame.old.content frame.new.content }
+    ensures shared_kept { KeepsShared result shared.old.content shared.new.content }
+    ensures memory { frame.new.memory ≡ frame.old.memory }
+    ensures shared_memory { shared.new.memory ≡ shared.old.memory }
 {
     match shared.make_throwable(thrown) {
         Some(number) => {
@@ -32,7 +35,7 @@ pub fn make(thrown: Thrown, shared: &mut Shared, frame: &mut Frame) -> Next
 
 /// The class of the throwable with a number, if the object is one.
 fn thrown_at(number: u32, shared: &Shared) -> Option<Thrown>
-    ensures { result ≡ thrown_of shared.now.heap (values.object number) }
+    ensures { result ≡ thrown_of shared.now.content.heap (values.object number) }
 {
     match shared.object(number) {
         Some(HeapObject::Throwable(thrown)) => Some(thrown),
@@ -43,7 +46,7 @@ fn thrown_at(number: u32, shared: &Shared) -> Option<Thrown>
 
 /// The class of the throwable that a value is a reference to, if it is one.
 fn thrown_of(value: Value, shared: &Shared) -> Option<Thrown>
-    ensures { result ≡ thrown_of shared.now.heap (value_of value) }
+    ensures { result ≡ thrown_of shared.now.content.heap (value_of value) }
 {
     match value {
         Value::Object(number) => thrown_at(number, shared),
@@ -61,9 +64,10 @@ fn is_one(class: Thrown, other: Thrown) -> bool
 
 /// Calls the constructor of a class, which does nothing to a throwable of just this class.
 pub fn build(class: Thrown, shared: &Shared, frame: &mut Frame) -> Next
-    requires { frame.old.place + 1 < 2 ^ 32 }
-    ensures result { result_of result shared.now frame.new ≡ by_build class frame.old.stack shared.now frame.old }
-    ensures kept { Settles result frame.old frame.new }
+    requires { frame.old.content.place + 1 < 2 ^ 32 }
+    ensures result { result_of result shared.now.content frame.new.content ≡ by_build class frame.old.content.stack shared.now.content frame.old.content }
+    ensures kept { Settles result frame.old.content frame.new.content }
+    ensures memory { frame.new.memory ≡ frame.old.memory }
 {
     let Some(value) = frame.peek(0) else {
         return Next::Stuck;
@@ -82,8 +86,8 @@ pub fn build(class: Thrown, shared: &Shared, frame: &mut Frame) -> Next
 
 /// Throws the throwable on top; null becomes an exception of its own.
 pub fn throw_top(shared: &Shared, frame: &Frame) -> Next
-    ensures result { result_of result shared.now frame.now ≡ by_throw frame.now.stack shared.now }
-    ensures kept { Settles result frame.now frame.now }
+    ensures result { result_of result shared.now.content frame.now.content ≡ by_throw frame.now.content.stack shared.now.content }
+    ensures kept { Settles result frame.now.content frame.now.content }
 {
     let Some(value) = frame.peek(0) else {
         return Next::Stuck;
@@ -106,10 +110,11 @@ fn is_fetched(class: u32, init: ProbeInit, id: i64, of: u32, count: i32) -> bool
 
 /// Puts the probe array of a class in place of its id, its text and the number of its probes.
 pub fn fetch(class: u32, init: ProbeInit, frame: &mut Frame) -> Next
-    requires place { frame.old.place + 1 < 2 ^ 32 }
-    requires room { length frame.old.locals + length frame.old.stack ≤ 1004 }
-    ensures result { (s : world.Shared) → result_of result s frame.new ≡ by_fetch class init frame.old.stack s frame.old }
-    ensures kept { Settles result frame.old frame.new }
+    requires place { frame.old.content.place + 1 < 2 ^ 32 }
+    requires room { length frame.old.content.locals + length frame.old.content.stack ≤ 1004 }
+    ensures result { (s : world.Shared) → result_of result s frame.new.content ≡ by_fetch class init frame.old.content.stack s frame.old.content }
+    ensures kept { Settles result frame.old.content frame.new.content }
+    ensures memory { frame.new.memory ≡ frame.old.memory }
 {
     let Some(first) = frame.peek(0) else {
         return Next::Stuck;
@@ -155,9 +160,10 @@ fn is_array_of(class: u32, value: Value) -> bool
 
 /// Goes on with the probe array of a class on top.
 pub fn cast(class: u32, frame: &mut Frame) -> Next
-    requires { frame.old.place + 1 < 2 ^ 32 }
-    ensures result { (s : world.Shared) → result_of result s frame.new ≡ by_cast class frame.old.stack s frame.old }
-    ensures kept { Settles result frame.old frame.new }
+    requires { frame.old.content.place + 1 < 2 ^ 32 }
+    ensures result { (s : world.Shared) → result_of result s frame.new.content ≡ by_cast class frame.old.content.stack s frame.old.content }
+    ensures kept { Settles result frame.old.content frame.new.content }
+    ensures memory { frame.new.memory ≡ frame.old.memory }
 {
     let Some(value) = frame.peek(0) else {
         return Next::Stuck;

@@ -16,10 +16,13 @@ use jc_programs::Thrown;
 
 /// Prints a text and a line feed, where the stream is there, and takes so many operands.
 fn print(text: &[u8], stream: Value, taken: usize, shared: &mut Shared, frame: &mut Frame) -> Next
-    requires { frame.old.place + 1 < 2 ^ 32 }
-    ensures result { result_of result shared.new frame.new ≡ by_print text.now (value_of stream) (drop taken frame.old.stack) shared.old frame.old }
-    ensures kept { Settles result frame.old frame.new }
-    ensures shared_kept { KeepsShared result shared.old shared.new }
+    requires { frame.old.content.place + 1 < 2 ^ 32 }
+    ensures result { result_of result shared.new.content frame.new.content
+        ≡ by_print text.now (value_of stream) (drop taken frame.old.content.stack) shared.old.content frame.old.content }
+    ensures kept { Settles result frame.old.content frame.new.content }
+    ensures shared_kept { KeepsShared result shared.old.content shared.new.content }
+    ensures memory { frame.new.memory ≡ frame.old.memory }
+    ensures shared_memory { shared.new.memory ≡ shared.old.memory }
 {
     match stream {
         Value::Null => Next::Raises(Thrown::NullPointerException),
@@ -36,10 +39,13 @@ fn print(text: &[u8], stream: Value, taken: usize, shared: &mut Shared, frame: &
 
 /// Prints the decimal number of the int on top.
 fn print_int(shared: &mut Shared, frame: &mut Frame) -> Next
-    requires { frame.old.place + 1 < 2 ^ 32 }
-    ensures result { result_of result shared.new frame.new ≡ by_println an_int_line frame.old.stack shared.old frame.old }
-    ensures kept { Settles result frame.old frame.new }
-    ensures shared_kept { KeepsShared result shared.old shared.new }
+    requires { frame.old.content.place + 1 < 2 ^ 32 }
+    ensures result { result_of result shared.new.content frame.new.content
+        ≡ by_println an_int_line frame.old.content.stack shared.old.content frame.old.content }
+    ensures kept { Settles result frame.old.content frame.new.content }
+    ensures shared_kept { KeepsShared result shared.old.content shared.new.content }
+    ensures memory { frame.new.memory ≡ frame.old.memory }
+    ensures shared_memory { shared.new.memory ≡ shared.old.memory }
 {
     let Some(top) = frame.peek(0) else {
         return Next::Stuck;
@@ -57,10 +63,13 @@ fn print_int(shared: &mut Shared, frame: &mut Frame) -> Next
 
 /// Prints the decimal number of the long on top.
 fn print_long(shared: &mut Shared, frame: &mut Frame) -> Next
-    requires { frame.old.place + 1 < 2 ^ 32 }
-    ensures result { result_of result shared.new frame.new ≡ by_println a_long_line frame.old.stack shared.old frame.old }
-    ensures kept { Settles result frame.old frame.new }
-    ensures shared_kept { KeepsShared result shared.old shared.new }
+    requires { frame.old.content.place + 1 < 2 ^ 32 }
+    ensures result { result_of result shared.new.content frame.new.content
+        ≡ by_println a_long_line frame.old.content.stack shared.old.content frame.old.content }
+    ensures kept { Settles result frame.old.content frame.new.content }
+    ensures shared_kept { KeepsShared result shared.old.content shared.new.content }
+    ensures memory { frame.new.memory ≡ frame.old.memory }
+    ensures shared_memory { shared.new.memory ≡ shared.old.memory }
 {
     let Some(top) = frame.peek(0) else {
         return Next::Stuck;
@@ -85,10 +94,13 @@ fn boolean_text(x: i32) -> &'static [u8]
 
 /// Prints the boolean of the int on top.
 fn print_boolean(shared: &mut Shared, frame: &mut Frame) -> Next
-    requires { frame.old.place + 1 < 2 ^ 32 }
-    ensures result { result_of result shared.new frame.new ≡ by_println a_boolean_line frame.old.stack shared.old frame.old }
-    ensures kept { Settles result frame.old frame.new }
-    ensures shared_kept { KeepsShared result shared.old shared.new }
+    requires { frame.old.content.place + 1 < 2 ^ 32 }
+    ensures result { result_of result shared.new.content frame.new.content
+        ≡ by_println a_boolean_line frame.old.content.stack shared.old.content frame.old.content }
+    ensures kept { Settles result frame.old.content frame.new.content }
+    ensures shared_kept { KeepsShared result shared.old.content shared.new.content }
+    ensures memory { frame.new.memory ≡ frame.old.memory }
+    ensures shared_memory { shared.new.memory ≡ shared.old.memory }
 {
     let Some(top) = frame.peek(0) else {
         return Next::Stuck;
@@ -104,10 +116,13 @@ fn print_boolean(shared: &mut Shared, frame: &mut Frame) -> Next
 
 /// Prints nothing but the line feed.
 fn print_empty(shared: &mut Shared, frame: &mut Frame) -> Next
-    requires { frame.old.place + 1 < 2 ^ 32 }
-    ensures result { result_of result shared.new frame.new ≡ by_println an_empty_line frame.old.stack shared.old frame.old }
-    ensures kept { Settles result frame.old frame.new }
-    ensures shared_kept { KeepsShared result shared.old shared.new }
+    requires { frame.old.content.place + 1 < 2 ^ 32 }
+    ensures result { result_of result shared.new.content frame.new.content
+        ≡ by_println an_empty_line frame.old.content.stack shared.old.content frame.old.content }
+    ensures kept { Settles result frame.old.content frame.new.content }
+    ensures shared_kept { KeepsShared result shared.old.content shared.new.content }
+    ensures memory { frame.new.memory ≡ frame.old.memory }
+    ensures shared_memory { shared.new.memory ≡ shared.old.memory }
 {
     let Some(stream) = frame.peek(0) else {
         return Next::Stuck;
@@ -117,10 +132,13 @@ fn print_empty(shared: &mut Shared, frame: &mut Frame) -> Next
 
 /// Prints what stands above the stream: a decimal number, a boolean, or nothing.
 pub fn print_top(line: Printed, shared: &mut Shared, frame: &mut Frame) -> Next
-    requires { frame.old.place + 1 < 2 ^ 32 }
-    ensures result { result_of result shared.new frame.new ≡ by_println (printed line) frame.old.stack shared.old frame.old }
-    ensures kept { Settles result frame.old frame.new }
-    ensures shared_kept { KeepsShared result shared.old shared.new }
+    requires { frame.old.content.place + 1 < 2 ^ 32 }
+    ensures result { result_of result shared.new.content frame.new.content
+        ≡ by_println (printed line) frame.old.content.stack shared.old.content frame.old.content }
+    ensures kept { Settles result frame.old.content frame.new.content }
+    ensures shared_kept { KeepsShared result shared.old.content shared.new.content }
+    ensures memory { frame.new.memory ≡ frame.old.memory }
+    ensures shared_memory { shared.new.memory ≡ shared.old.memory }
 {
     match line {
         Printed::IntLine => print_int(shared, frame),

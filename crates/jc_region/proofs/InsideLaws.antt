@@ -2,8 +2,9 @@
 use Rattle.std.proofs.Common.{◌≡◌, ℕ, ◌+◌, ◌-◌, ◌<◌, ◌≤◌, List, [], ◌∷◌, ◌++◌, length, take, drop, replicate, arith, slice_index_or, slice_set, ◌∙◌, ap, sym, subst}
 use Rattle.std.proofs.lemmas.List.{length-set, length-take-le, length-drop, length-append, length-replicate, get_or-take, get_or-drop, take_at, drop_at, take_more_set}
 use Rattle.jc_region.specs.declared.region.Region.TheInside.{Inside}
-use Rattle.jc_region.specs.Blocks.{words_in, IsBlock, IsLive, number_at, words_at, with_word, with_block}
-use Rattle.jc_region.specs.Places.{lengths_from, cut, AreEnds, used_ends, blocks_of, IsSound}
+use Rattle.jc_region.specs.Memory.{RegionMemory}
+use Rattle.jc_region.specs.Blocks.{Blocks, words_in, IsBlock, IsLive, number_at, words_at, with_word, with_block}
+use Rattle.jc_region.specs.Places.{lengths_from, cut, AreEnds, used_ends, memory_of, blocks_of, IsSound}
 use Rattle.jc_region.proofs.PlaceLaws.{total, ArePositive, words_in-cut, length-cut, lengths_positive, total-lengths_from, length-lengths_from, few_ends, ends-append, lengths_from-append, begin_of, begins_before, block_between, cut-append, cut_same, Lies, lies, cut-set}
 
 abbrev pub lens_of : Inside → List ℕ
@@ -63,6 +64,15 @@ block_at r at len k sound less begin long =
     let P : ℕ → Type 0 = λ m. IsBlock (blocks_of r).blocks m (slice_index_or (used_ends r) k 0 - begin_of 0 (used_ends r) k) k in
     subst (λ m. IsBlock (blocks_of r).blocks at m k) size (subst P before there)
 
+-- ---- a region by its parts
+
+same_region : (r : Inside) (b : Blocks) → length r.words.items ≡ b.most → cut (lens_of r) r.words.items ≡ b.blocks → memory_of r ≡ b.memory
+    → blocks_of r ≡ b
+same_region r b most blocks memory =
+    ap (λ n. record { most = n; blocks = cut (lens_of r) r.words.items; memory = memory_of r }) most
+    ∙ (ap (λ (bs : List (List ℕ)). record { most = b.most; blocks = bs; memory = memory_of r }) blocks
+    ∙ ap (λ (m : RegionMemory). record { most = b.most; blocks = b.blocks; memory = m }) memory)
+
 -- ---- a word
 
 pub word_is : (r : Inside) (at len i : ℕ) → IsSound r → IsLive (blocks_of r).blocks at len → i < len
@@ -81,13 +91,14 @@ set_is r at len i word sound live less =
     ∙ ap (λ k. slice_set (blocks_of r).blocks k (slice_set (slice_index_or (blocks_of r).blocks k []) i word)) (sym it.number)
 
 pub set_blocks : (r r' : Inside) (at len i word : ℕ) → IsSound r → IsLive (blocks_of r).blocks at len → i < len
-    → r'.words.items ≡ slice_set r.words.items (at + i) word → r'.ends.items ≡ r.ends.items → r'.count ≡ r.count
+    → r'.words.items ≡ slice_set r.words.items (at + i) word → r'.ends.items ≡ r.ends.items → r'.count ≡ r.count → memory_of r' ≡ memory_of r
     → blocks_of r' ≡ with_word (blocks_of r) at i word
-set_blocks r r' at len i word sound live less words ends count =
+set_blocks r r' at len i word sound live less words ends count memory =
     let same : lens_of r' ≡ lens_of r = ap (λ n. lengths_from 0 (take n r'.ends.items)) count ∙ ap (λ ls. lengths_from 0 (take r.count ls)) ends in
-    ap (λ n. record { most = n; blocks = cut (lens_of r') r'.words.items }) (ap length words ∙ length-set r.words.items (at + i) word)
-    ∙ ap (λ bs. record { most = length r.words.items; blocks = bs })
-    (ap (λ ls. cut ls r'.words.items) same ∙ (ap (cut (lens_of r)) words ∙ set_is r at len i word sound live less))
+    let blocks : cut (lens_of r') r'.words.items
+    ≡ slice_set (blocks_of r).blocks (number_at (blocks_of r).blocks at) (slice_set (words_at (blocks_of r).blocks at) i word) =
+    ap (λ ls. cut ls r'.words.items) same ∙ (ap (cut (lens_of r)) words ∙ set_is r at len i word sound live less) in
+    same_region r' (with_word (blocks_of r) at i word) (ap length words ∙ length-set r.words.items (at + i) word) blocks memory
 
 -- ---- one block more
 
@@ -119,6 +130,7 @@ pub record Grown (r r' : Inside) (len : ℕ) : Type 0 where
   pub ends : r'.ends.items ≡ slice_set r.ends.items r.count (r.used + len)
   pub some : 0 < len
   pub room : r.used + len ≤ length r.words.items
+  pub memory : memory_of r' ≡ memory_of r
 
 grown-used_ends : (r r' : Inside) (len : ℕ) → IsSound r → Grown r r' len → used_ends r' ≡ used_ends r ++ (r.used + len) ∷ []
 grown-used_ends r r' len sound g =
@@ -165,5 +177,4 @@ grown_blocks r r' len sound g =
     ∙ (cut-append (lens_of r) (take r.used r.words.items ++ behind) len
     ∙ (ap (λ bs. bs ++ take len (drop (total (lens_of r)) (take r.used r.words.items ++ behind)) ∷ []) before
     ∙ ap (λ b. cut (lens_of r) r.words.items ++ b ∷ []) new))) in
-    ap (λ n. record { most = n; blocks = cut (lens_of r') r'.words.items }) (grown-words r r' len g)
-    ∙ ap (λ bs. record { most = length r.words.items; blocks = bs }) all
+    same_region r' (with_block (blocks_of r) len) (grown-words r r' len g) all g.memory

@@ -1,10 +1,12 @@
 -- Blocks of words, each known by the number of words in the blocks before it.
 use Rattle.std.specs.Prelude.{◌≡◌, ℕ, zero, suc, ◌+◌, ◌-◌, List, [], ◌∷◌, ◌++◌, length, take, replicate, slice_get, slice_set, slice_index_or, IsSomeAnd}
+use Rattle.jc_region.specs.Memory.{RegionMemory}
 
--- so many words in blocks at most, and the blocks in the order in which they were made
+-- so many words in blocks at most, the blocks in the order in which they were made, and the memory in which all lies
 pub record Blocks : Type 0 where
   pub most : ℕ
   pub blocks : List (List ℕ)
+  pub memory : RegionMemory
 
 -- how many words the blocks have together
 abbrev pub words_in : List (List ℕ) → ℕ

@@ -13,7 +13,7 @@ pub struct Block {
     pub len: u32,
 }
 
-/// Blocks of words, seen as a list of lists, and the most words that they may have together.
+/// Blocks of words, seen as a list of lists, the most words that they may have together, and the memory in which they lie.
 #[derive(Drop)]
 pub struct Region {
     words: Vec<u64>,
@@ -43,13 +43,13 @@ fn clear(words: &mut [u64], from: usize, count: usize)
 }
 
 impl Region {
-    /// No block, and room for `n` words. No later call takes memory.
+    /// No block, and room for `n` words. No later call takes memory: each leaves the region in the memory that it has here.
     ///
     /// # Errors
     ///
     /// `Memory` where memory was refused.
     pub fn with_words(alloc: Global, n: u32) -> Result<Region, Memory>
-        ensures { IfOk result (λ region. region ≡ record { most = n; blocks = [] }) }
+        ensures { IfOk result (λ region. (region.most ≡ n) × (region.blocks ≡ [])) }
     {
         Ok(Region {
             words: vec![in alloc; 0; n as usize]?,
@@ -89,13 +89,14 @@ impl Region {
     }
 
     /// A new block of `len` words, all 0, behind the others, which stay as they are. `None` exactly where no room is
-    /// left for so many words, and then nothing changed.
+    /// left for so many words, and then nothing changed. Takes no memory.
     pub fn alloc(&mut self, len: u32) -> Option<Block>
         requires { 0 < len }
         ensures room { IsNone result ↔ (self.old.most < words_in self.old.blocks + len) }
         ensures none { IfNone result (self.new ≡ self.old) }
         ensures place { IfSome result (λ block. block ≡ record { at = words_in self.old.blocks; len = len }) }
         ensures block { OnSome result (self.new ≡ with_block self.old len) }
+        ensures memory { self.new.memory ≡ self.old.memory }
     {
         if self.words.len() < self.used as usize + len as usize {
             return None;
@@ -117,7 +118,7 @@ impl Region {
         self.words[block.at as usize + i as usize]
     }
 
-    /// Writes word `i` of a block. All other words stay as they are.
+    /// Writes word `i` of a block. All other words stay as they are, and so does the memory in which they lie.
     pub fn set(&mut self, block: Block, i: u32, word: u64)
         requires live { IsLive self.old.blocks block.at block.len }
         requires within { i < block.len }
@@ -126,7 +127,7 @@ impl Region {
         self.words[block.at as usize + i as usize] = word;
     }
 
-    /// No block is left. The room is as it was.
+    /// No block is left. The room is as it was, in the same memory.
     pub fn reset(&mut self)
         ensures { self.new ≡ record self.old { blocks = [] } }
     {

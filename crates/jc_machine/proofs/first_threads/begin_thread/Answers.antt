@@ -22,13 +22,13 @@ put_arguments-requires-clause-fit c =
     (parameters_fit c.requires.0 c.args.prepared.now c.args.method c.args.numbers.now c.in-Some.found.now begins of c.if-not-found.false locals
     (ap (λ (f : ThreadFrames). f.top.locals) c.begin-2.ensures))
 
-pub returns : goal.returns
-returns c = λ program begins.
+pub returns-clause-thread : goal.returns-clause-thread
+returns-clause-thread c = λ program begins.
     let of = c.in-Some.ensures program begins.prepared_is in
     let locals = c.begin-2.new.self.top.locals in
     let parameters = subst (λ (ps : List (Option ComputationalType)). AreParameters (types_of of.body) ps) (sym c.as_slice.ensures) of.prepared.parameters in
     let within = slots_within program c.args.prepared.now c.args.method c.args.numbers.now c.in-Some.found.now begins of c.if-not-found.false locals
     (ap (λ (f : ThreadFrames). f.top.locals) c.begin-2.ensures) in
-    run_is program c.args.prepared.now c.args.method c.args.numbers.now c.in-Some.found.now begins of c.if-not-found.false c.begin-2.new.self
+    run_is program c.args.prepared.now c.args.method c.args.numbers.now c.in-Some.found.now begins of c.if-not-found.false c.begin.new.self c.begin-2.new.self
     c.put_arguments.new.frames c.begin-2.ensures
-    (c.put_arguments.ensures (types_of of.body) parameters within)
+    (c.put_arguments.ensures.arguments (types_of of.body) parameters within)

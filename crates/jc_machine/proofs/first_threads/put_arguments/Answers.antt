@@ -25,7 +25,7 @@ putting-preserved c =
     (slice_get-get_or parameters k None (omega arith)) (slice_get-get_or numbers k (pos 0) (omega arith)) c.argument-value.ensures c.set_local.ensures in
     subst (λ n. Putting parameters numbers c.args.frames.now (k + 1) (c.putting.slot + n) c.set_local.new.self) (sym c.width-slot.ensures) put
 
-pub returns : goal.returns
-returns c = λ types are within.
+pub returns-clause-arguments : goal.returns-clause-arguments
+returns-clause-arguments c = λ types are within.
     all_put c.args.parameters.now c.args.numbers.now c.args.frames.now c.putting.k c.putting.slot c.putting.frames c.putting.invariant (omega arith)
     c.requires.empty types are within

@@ -12,6 +12,7 @@ invariant-leaving l = record {
       → unwound program l.throwable.thrown (value_of l.throwable.value) (l.frames.top ∷ l.frames.waiting)
       ≡ unwound program l.throwable.thrown (value_of l.throwable.value) (l.initial.frames.top ∷ l.initial.frames.waiting);
   bounds : AreBounded l.frames.top l.frames.waiting;
+  memory : l.frames.memory ≡ l.initial.frames.memory;
 }
 
 abbrev pub decreases-leaving : goal.decreases-leaving

@@ -11,8 +11,8 @@ use Rattle.jc_machine_turn.proofs.arrays.write.Goals as goal
 
 pub returns-in-Probes-clause-result : goal.returns-in-Probes-clause-result
 returns-in-Probes-clause-result c =
-    let f = c.args.frame.now in
-    let s = c.args.shared.now in
+    let f = c.args.frame.now.content in
+    let s = c.args.shared.now.content in
     let shape = top_three f.stack (value_of c.in-Some.value) (int c.in-Int.index)
     (probes c.in-Probes.class c.in-Probes.count) c.in-Some.ensures (ap (λ v. Some (value_of v)) (sym c.in-Int.is)
     ∙ c.in-Some-peek.ensures) (ap (λ v. Some (value_of v)) (sym c.in-Probes.is) ∙ c.in-Some-peek-2.ensures) in

@@ -24,7 +24,7 @@ taken b r s is = ap (λ (x : Bool). if x then r else s) is
 
 pub returns-clause-result : goal.returns-clause-result
 returns-clause-result c = λ type s is.
-    let stack = c.args.frame.now.stack in
+    let stack = c.args.frame.now.content.stack in
     let v = value_of c.in-Some.value in
     let fits : is_of (computational c.args.kind) v ≡ true = search rules in
     ap (λ (r : Value). leaves (Some r)) (returned c.args.narrowing v (value_of c.stored.result) type c.stored.ensures is)

@@ -2,7 +2,7 @@ use Rattle.std.proofs.Common.{List, length, sym, ap, ◌∙◌, subst}
 use Rattle.jc_programs.specs.declared.run_plan.ThreadLine.{ThreadLine}
 use Rattle.jc_machine_code.specs.declared.prepared.PreparedClass.{PreparedClass}
 use Rattle.jc_machine_code.specs.Prepared.{IsPrepared}
-use Rattle.jc_machine_turn.specs.Contents.{first_shared}
+use Rattle.jc_machine_turn.specs.Contents.{SharedSeen, first_shared}
 use Rattle.jc_machine_model.specs.Begin.{first_threads}
 use Rattle.jc_machine.specs.Machines.{Machine}
 use Rattle.jc_machine.proofs.FirstLaws.{as_many_entries, length-first_threads}
@@ -16,7 +16,7 @@ returns-clause-world c =
     world_begins program c.args.case.now c.args.entries.now c.begin_threads.new.self is
     (ap (λ (m : Machine). m.threads) c.begin_threads.ensures ∙ ap (λ (ts : List ThreadLine). first_threads program ts c.args.entries.now) c.as_slice-2.ensures)
     (ap (λ (m : Machine). m.shared) c.begin_threads.ensures
-    ∙ (c.shared.view_is ∙
+    ∙ (ap (λ (s : SharedSeen). s.content) c.shared.view_is ∙
     (c.in_ok-shared.ensures
     ∙ (ap (λ (classes : List PreparedClass). first_shared classes) c.as_slice.ensures
     ∙ sym (ap (λ (m : Machine). first_shared m.prepared.classes) c.begin_threads.ensures)))))
@@ -30,7 +30,7 @@ returns-clause-fits c =
     (world_begins program c.args.case.now c.args.entries.now c.begin_threads.new.self is
     (ap (λ (m : Machine). m.threads) c.begin_threads.ensures ∙ ap (λ (ts : List ThreadLine). first_threads program ts c.args.entries.now) c.as_slice-2.ensures)
     (ap (λ (m : Machine). m.shared) c.begin_threads.ensures
-    ∙ (c.shared.view_is ∙
+    ∙ (ap (λ (s : SharedSeen). s.content) c.shared.view_is ∙
     (c.in_ok-shared.ensures
     ∙ (ap (λ (classes : List PreparedClass). first_shared classes) c.as_slice.ensures
     ∙ sym (ap (λ (m : Machine). first_shared m.prepared.classes) c.begin_threads.ensures))))))

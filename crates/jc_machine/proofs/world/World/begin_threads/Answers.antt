@@ -8,7 +8,11 @@ use Rattle.jc_machine_model.specs.Begin.{first_thread, first_threads}
 use Rattle.jc_machine.specs.declared.integral_fields.IntegralField.{IntegralField}
 use Rattle.jc_machine.specs.Threads.{thread_of, threads_of}
 use Rattle.jc_machine.specs.FirstThreads.{BeginsWith}
+use Rattle.jc_region.specs.Memory.{allocation_of}
+use Rattle.jc_machine_turn.specs.Contents.{SharedSeen}
 use Rattle.jc_machine.specs.Machines.{Machine}
+use Rattle.jc_machine.specs.Kept.{memory_of}
+use Rattle.jc_machine.proofs.MachineLaws.{memories_set}
 use Rattle.jc_machine.proofs.FirstLaws.{as_many_entries, thread_begins, first_more, first_all}
 use Rattle.jc_machine.proofs.ThreadLaws.{threads_of-more}
 use Rattle.jc_machine.proofs.world.World.begin_threads.Goals as goal
@@ -47,7 +51,7 @@ beginning-preserved c =
     (thread_begins program prepared threads entries k c.index-threads-k.result none c.requires.program is c.requires.entries c.beginning-test.true) in
     let begun : thread_of c.begin_thread.result c.begin_thread.new.frames
     ≡ first_thread program entry (slice_index_or threads k c.index-threads-k.result).args =
-    c.begin_thread.ensures program begins ∙ ap (first_thread program entry) c.as_slice-numbers.ensures in
+    c.begin_thread.ensures.thread program begins ∙ ap (first_thread program entry) c.as_slice-numbers.ensures in
     let in_ends : k < length c.beginning.self-inside.ends = let many = c.beginning.invariant.ends in omega (arith, many, most) in
     let in_stacks : k < length c.beginning.self-inside.stacks.items = let many = c.beginning.invariant.stacks in omega (arith, many, most) in
     record {
@@ -61,6 +65,9 @@ beginning-preserved c =
       fields = c.beginning.invariant.fields;
       shared = c.beginning.invariant.shared;
       stacks = length-set c.beginning.self-inside.stacks.items k c.begin_thread.new.frames ∙ c.beginning.invariant.stacks;
+      place = c.beginning.invariant.place;
+      frames = memories_set c.beginning.self-inside.stacks.items k c.index_mut.result.now c.begin_thread.new.frames c.index_mut.ensures.value
+          c.begin_thread.ensures.memory ∙ c.beginning.invariant.frames;
     }
 
 pub returns : goal.returns
@@ -74,5 +81,12 @@ returns c =
     ∙ (c.beginning.invariant.begun ∙ first_all program threads c.args.entries.now c.beginning.k c.requires.entries c.beginning-test.false) in
     let prepared = c.beginning.invariant.prepared ∙ ap (λ (m : Machine). m.prepared) c.self.view_is in
     let fields = ap (λ (f : Vec IntegralField). f.items) c.beginning.invariant.fields ∙ ap (λ (m : Machine). m.fields) c.self.view_is in
-    let shared = c.beginning.invariant.shared ∙ ap (λ (m : Machine). m.shared) c.self.view_is in
-    λ i. record { prepared = prepared i; fields = fields i; threads = begun i; shared = shared i }
+    let shared = ap (λ (s : SharedSeen). s.content) c.beginning.invariant.shared ∙ ap (λ (m : Machine). m.shared) c.self.view_is in
+    let same : memory_of inside ≡ memory_of c.self.inside = λ i. record {
+      fields = allocation_of (c.beginning.invariant.fields i);
+      stacks = c.beginning.invariant.place i;
+      frames = c.beginning.invariant.frames i;
+      shared = (c.beginning.invariant.shared i).memory;
+    } in
+    let memory = same ∙ ap (λ (m : Machine). m.memory) c.self.view_is in
+    λ i. record { prepared = prepared i; fields = fields i; threads = begun i; shared = shared i; memory = memory i }

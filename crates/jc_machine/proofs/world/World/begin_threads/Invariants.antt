@@ -1,6 +1,8 @@
 use Rattle.std.proofs.Common.{◌≡◌, length, take}
 use Rattle.jc_machine_model.specs.Begin.{first_threads}
+use Rattle.jc_region.specs.Memory.{allocation_of}
 use Rattle.jc_machine.specs.Threads.{threads_of}
+use Rattle.jc_machine.specs.Kept.{memories_of}
 use Rattle.jc_machine.proofs.world.World.begin_threads.Given as goal
 
 abbrev pub invariant-beginning : goal.invariant-beginning
@@ -11,4 +13,6 @@ invariant-beginning l = record {
   fields : l.self-inside.fields ≡ l.initial.self-inside.fields;
   shared : l.self-inside.shared ≡ l.initial.self-inside.shared;
   stacks : length l.self-inside.stacks.items ≡ 8;
+  place : allocation_of l.self-inside.stacks ≡ allocation_of l.initial.self-inside.stacks;
+  frames : memories_of l.self-inside.stacks.items ≡ memories_of l.initial.self-inside.stacks.items;
 }

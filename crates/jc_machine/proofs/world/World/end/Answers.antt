@@ -14,7 +14,7 @@ returns c = λ program fits.
     let statics : c.from_vec-2.result ≡ static_ends program (world_of c.args.self.now) =
     c.from_vec-2.ensures
     ∙ (c.in_ok-static_ends.ensures
-    ∙ (ap (ends_at c.self.inside.shared.statics) c.deref.ensures.value
+    ∙ (ap (ends_at c.self.inside.shared.content.statics) c.deref.ensures.value
     ∙ (ap (λ (m : Machine). ends_at m.shared.statics m.fields) c.self.view_is
     ∙ (ap (ends_at c.args.self.now.shared.statics) fits.fields ∙ ends_at-integral_fields program c.args.self.now.shared.statics fits.world.statics)))) in
     let raised = c.raised.ensures in

@@ -1,6 +1,7 @@
 use Rattle.std.proofs.Common.{◌≡◌, ℕ, ◌+◌, ◌-◌, ◌%◌, List, ◌∷◌, length, ap, ◌∙◌, subst}
 use Rattle.jc_programs.specs.Turns.{turns_around}
 use Rattle.jc_machine.specs.Machines.{world_of}
+use Rattle.jc_machine.proofs.MachineLaws.{keeps_on}
 use Rattle.jc_machine.proofs.RunLaws.{Underway, one_more, next_around}
 use Rattle.jc_machine.proofs.world.World.run_around.Goals as goal
 
@@ -22,5 +23,6 @@ turning-preserved g c =
           (g.S.ProbeSink.hits c.turning.sink)) split u)
           (world_of c.turn.new.self) (g.S.ProbeSink.hits c.turn.new.sink) c.turn.ensures.world c.turn.ensures.hits;
       fits = c.turn.ensures.fits;
+      memory = keeps_on c.args.self.now c.turning.self c.turn.new.self c.turning.invariant.memory c.turn.ensures.memory;
       counts = c.turn.ensures.counts ∙ c.turning.invariant.counts;
     }

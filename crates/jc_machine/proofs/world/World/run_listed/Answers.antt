@@ -1,5 +1,6 @@
 use Rattle.std.proofs.Common.{◌≡◌, ℕ, ◌+◌, List, ◌∷◌, drop, length, slice_index_or, ◌∙◌, subst, rules}
 use Rattle.jc_machine.specs.Machines.{world_of}
+use Rattle.jc_machine.proofs.MachineLaws.{keeps_on}
 use Rattle.jc_machine.proofs.RunLaws.{Underway, one_more, next_listed}
 use Rattle.jc_machine.proofs.world.World.run_listed.Goals as goal
 
@@ -20,5 +21,6 @@ turning-preserved g c =
           (g.S.ProbeSink.hits c.turning.sink)) split u)
           (world_of c.turn.new.self) (g.S.ProbeSink.hits c.turn.new.sink) c.turn.ensures.world c.turn.ensures.hits;
       fits = c.turn.ensures.fits;
+      memory = keeps_on c.args.self.now c.turning.self c.turn.new.self c.turning.invariant.memory c.turn.ensures.memory;
       counts = c.turn.ensures.counts ∙ c.turning.invariant.counts;
     }

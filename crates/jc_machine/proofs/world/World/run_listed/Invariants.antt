@@ -1,5 +1,5 @@
 use Rattle.std.proofs.Common.{◌≡◌, drop}
-use Rattle.jc_machine.specs.Machines.{world_of, Fits}
+use Rattle.jc_machine.specs.Machines.{world_of, Fits, KeepsMemory}
 use Rattle.jc_machine.proofs.RunLaws.{Underway}
 use Rattle.jc_machine.proofs.world.World.run_listed.Given as goal
 
@@ -8,5 +8,6 @@ invariant-turning g l = record {
   underway : Underway l.program (world_of l.initial.self) l.turns (g.S.ProbeSink.hits l.initial.sink) (world_of l.self) (drop l.t-index l.turns)
       (g.S.ProbeSink.hits l.sink);
   fits : Fits l.program l.self;
+  memory : KeepsMemory l.initial.self l.self;
   counts : g.S.ProbeSink.counts l.sink ≡ g.S.ProbeSink.counts l.initial.sink;
 }

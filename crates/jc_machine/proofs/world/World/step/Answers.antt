@@ -1,9 +1,12 @@
-use Rattle.std.proofs.Common.{◌≡◌, ◌<◌, length, arith, sym, ap, ◌∙◌, subst, refl}
+use Rattle.std.proofs.Common.{◌≡◌, ◌<◌, List, length, arith, sym, ap, ◌∙◌, subst, refl}
 use Rattle.jc_machine_model.specs.Step.{step}
 use Rattle.jc_machine.specs.Machines.{Machine, world_of, Fits}
-use Rattle.jc_machine.specs.Kept.{machine_of}
+use Rattle.jc_region.specs.Memory.{allocation_of}
+use Rattle.jc_machine_turn.specs.Contents.{SharedMemory}
+use Rattle.jc_machine.specs.Threads.{FramesMemory}
+use Rattle.jc_machine.specs.Kept.{memory_of, machine_of}
 use Rattle.jc_machine.specs.Turned.{without_hits}
-use Rattle.jc_machine.proofs.MachineLaws.{thread_below, alone_fits, runs_at, idle, step_world, step_hits_are}
+use Rattle.jc_machine.proofs.MachineLaws.{memories_set, thread_below, alone_fits, runs_at, idle, step_world, step_hits_are}
 use Rattle.jc_machine.proofs.world.World.step.Goals as goal
 
 pub bounds : goal.bounds
@@ -33,7 +36,7 @@ returns-in-Running-clause-world c =
     let less = subst (λ (m : Machine). c.args.thread < length m.threads) (sym c.self.view_is) c.requires.thread in
     step_world c.self.inside c.self.invariant c.args.thread less c.args.program.now c.index_mut-frames.result.now c.in-Running.is
     c.index_mut-frames.ensures.value c.turn_thread-turn.result c.turn_thread-turn.new.frames
-    c.turn_thread-turn.new.shared c.turn_thread-turn.ensures
+    c.turn_thread-turn.new.shared.content c.turn_thread-turn.ensures.turn
     ∙ ap (λ (m : Machine). without_hits (step c.args.program.now (world_of m) c.args.thread)) c.self.view_is
 
 pub returns-in-Running-clause-hits : goal.returns-in-Running-clause-hits
@@ -41,8 +44,18 @@ returns-in-Running-clause-hits c =
     let less = subst (λ (m : Machine). c.args.thread < length m.threads) (sym c.self.view_is) c.requires.thread in
     step_hits_are c.self.inside c.self.invariant c.args.thread less c.args.program.now c.index_mut-frames.result.now c.in-Running.is
     c.index_mut-frames.ensures.value c.turn_thread-turn.result c.turn_thread-turn.new.frames
-    c.turn_thread-turn.new.shared c.turn_thread-turn.ensures
+    c.turn_thread-turn.new.shared.content c.turn_thread-turn.ensures.turn
     ∙ ap (λ (m : Machine). (step c.args.program.now (world_of m) c.args.thread).hits) c.self.view_is
+
+pub returns-in-Running-clause-memory : goal.returns-in-Running-clause-memory
+returns-in-Running-clause-memory c =
+    let w = c.self.inside in
+    let stacks = memories_set w.stacks.items c.args.thread c.index_mut-frames.result.now c.turn_thread-turn.new.frames
+    c.index_mut-frames.ensures.value c.turn_thread-turn.ensures.memory in
+    ap (λ (fs : List FramesMemory). record { fields = allocation_of w.fields; stacks = allocation_of w.stacks; frames = fs; shared = c.turn_thread-turn.new.shared.memory })
+    stacks
+    ∙ (ap (λ (s : SharedMemory). record (memory_of w) { shared = s }) c.turn_thread-turn.ensures.shared_memory
+    ∙ ap (λ (m : Machine). m.memory) c.self.view_is)
 
 pub returns : goal.returns
 returns c =
@@ -50,4 +63,4 @@ returns c =
     let same : step c.args.program.now (world_of c.args.self.now) c.args.thread ≡ world_of c.args.self.now =
     subst (λ (m : Machine). step c.args.program.now (world_of m) c.args.thread ≡ world_of m) c.self.view_is
     (idle c.self.inside c.self.invariant c.args.thread less c.args.program.now c.in_default.not-Running) in
-    record { world = sym (ap without_hits same); hits = sym (ap (λ w. w.hits) same); prepared = refl; fields = refl }
+    record { world = sym (ap without_hits same); hits = sym (ap (λ w. w.hits) same); prepared = refl; fields = refl; memory = refl }

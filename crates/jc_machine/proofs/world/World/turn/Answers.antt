@@ -33,3 +33,9 @@ returns-in-Some-clause-threads g c =
 pub returns-in_default-clause-threads : goal.returns-in_default-clause-threads
 returns-in_default-clause-threads g c =
     ap (λ (w : World). length w.threads) c.step.ensures.world ∙ step_threads c.args.program.now (world_of c.args.self.now) c.args.thread
+
+pub returns-in-Some-clause-memory : goal.returns-in-Some-clause-memory
+returns-in-Some-clause-memory g c = (c.step.ensures.prepared, c.step.ensures.memory)
+
+pub returns-in_default-clause-memory : goal.returns-in_default-clause-memory
+returns-in_default-clause-memory g c = (c.step.ensures.prepared, c.step.ensures.memory)

@@ -1,8 +1,8 @@
-use Rattle.std.proofs.Common.{◌≡◌, ◌+◌, List, [], ◌∷◌, ◌++◌, IsTrue, length, refl, ◌∙◌, ap, sym, subst}
+use Rattle.std.proofs.Common.{◌≡◌, ◌+◌, [], ◌∷◌, ◌++◌, IsTrue, length, refl, ◌∙◌, ap, sym, subst}
 use Rattle.std.proofs.lemmas.List.{length-map}
 use Rattle.jc_region.specs.Blocks.{Blocks, words_in, with_block, with_word}
-use Rattle.jc_machine_model.specs.Heap.{HeapObject, throwable, has_room}
-use Rattle.jc_machine_memory.specs.Heaps.{object_of}
+use Rattle.jc_machine_model.specs.Heap.{throwable, has_room}
+use Rattle.jc_machine_memory.specs.Heaps.{HeapSeen, object_of}
 use Rattle.jc_machine_memory.proofs.HeapLaws.{Makes, throwable_made, full, roomy, live_made, first_set, is_none_some}
 use Rattle.jc_machine_memory.proofs.heap.Heap.make_throwable.Goals as goal
 
@@ -10,13 +10,13 @@ pub returns-in_err-block-clause-room : goal.returns-in_err-block-clause-room
 returns-in_err-block-clause-room c = (
   λ some. absurd (is_none_some _ c.from_residual.ensures some),
   λ room.
-      let before = subst (λ (h : List HeapObject). IsTrue (has_room h 1)) (sym c.self.view_is) room in
+      let before = subst (λ (h : HeapSeen). IsTrue (has_room h.objects 1)) (sym c.self.view_is) room in
       absurd (full c.self.inside.region 1 c.self.invariant (c.in_err-block.ensures.room.0 refl) before),
 )
 
 pub returns-clause-room : goal.returns-clause-room
 returns-clause-room c = (
-  λ some. subst (λ (h : List HeapObject). IsTrue (has_room h 1)) c.self.view_is
+  λ some. subst (λ (h : HeapSeen). IsTrue (has_room h.objects 1)) c.self.view_is
       (roomy c.self.inside.region 1 c.self.invariant (λ less. let wrong = c.in_ok-block.ensures.room.1 less in absurd (cc))),
   λ room. refl,
 )
@@ -37,7 +37,10 @@ pub invariant_of-self-2 : goal.invariant_of-self-2
 invariant_of-self-2 c = (made c).sound
 
 pub returns-clause-made : goal.returns-clause-made
-returns-clause-made c = (made c).objects ∙ ap (λ (h : List HeapObject). h ++ throwable c.args.thrown ∷ []) c.self.view_is
+returns-clause-made c = (made c).objects ∙ ap (λ (h : HeapSeen). h.objects ++ throwable c.args.thrown ∷ []) c.self.view_is
 
 pub returns-clause-number : goal.returns-clause-number
-returns-clause-number c = c.count-number.ensures ∙ (sym (length-map c.self.inside.region.blocks object_of) ∙ ap length c.self.view_is)
+returns-clause-number c = c.count-number.ensures ∙ (sym (length-map c.self.inside.region.blocks object_of) ∙ ap (λ (h : HeapSeen). length h.objects) c.self.view_is)
+
+pub returns-clause-memory : goal.returns-clause-memory
+returns-clause-memory c = (made c).memory ∙ ap (λ (h : HeapSeen). h.memory) c.self.view_is

@@ -52,6 +52,7 @@ grown c =
       ends = refl;
       some = c.requires;
       room = omega arith;
+      memory = refl;
     }
 
 pub invariant_of-self : goal.invariant_of-self

@@ -2,6 +2,7 @@ use Rattle.std.proofs.Common.{◌≡◌, ◌+◌, slice_set, refl, arith, ◌∙
 use Rattle.std.specs.Vec.{with_item}
 use Rattle.jc_region.specs.declared.region.Region.TheInside.{Inside}
 use Rattle.jc_region.specs.Blocks.{Blocks, IsLive, with_word}
+use Rattle.jc_region.specs.Places.{memory_of}
 use Rattle.jc_region.proofs.InsideLaws.{live_below, set_blocks}
 use Rattle.jc_region.proofs.region.Region.set.Goals as goal
 
@@ -24,5 +25,6 @@ returns c =
     let words : inside.words.items ≡ slice_set c.self.inside.words.items (c.args.block.at + c.args.i) c.args.word = refl in
     let ends : inside.ends.items ≡ c.self.inside.ends.items = refl in
     let count : inside.count ≡ c.self.inside.count = refl in
-    set_blocks c.self.inside inside c.args.block.at c.args.block.len c.args.i c.args.word c.self.invariant live c.requires.within words ends count
+    let memory : memory_of inside ≡ memory_of c.self.inside = refl in
+    set_blocks c.self.inside inside c.args.block.at c.args.block.len c.args.i c.args.word c.self.invariant live c.requires.within words ends count memory
     ∙ ap (λ (r : Blocks). with_word r c.args.block.at c.args.i c.args.word) c.self.view_is
