@@ -5,6 +5,7 @@ ghost use Rattle.jc_machine_model.specs.Programs.{IsProgram};
 ghost use Rattle.jc_machine_model.specs.Begin.{entries_of};
 ghost use Rattle.jc_workers.specs.Cases.{HaveEntries, IsRunnable};
 
+use crate::Gate;
 use crate::runner::CaseRunner;
 use jc_bytes::{List, Memory};
 use jc_machine::{World, entry};
@@ -110,10 +111,11 @@ impl<'a> CaseRunner for PlanRunner<'a> {
         World::begin(alloc, self.program, &self.plan.cases[0], &self.entries[0])
     }
 
-    fn run<S: ProbeSink>(
+    fn run<S: ProbeSink, G: Gate>(
         &self,
         alloc: Global,
         world: &mut World,
+        _gate: &G,
         case: usize,
         sink: &mut S,
     ) -> Result<CaseEnd, Memory> {

@@ -1,7 +1,7 @@
 //! Workers that draw cases and run them.
 ghost use Rattle.std.specs.Prelude.{◌≡◌, ℕ, ◌+◌, ◌*◌, ◌<◌, ◌≤◌, [], length, Contains, IfOk, vec_len};
 ghost use Rattle.jc_workers.specs.Ran.{EndsOf, HitsOf};
-ghost use Rattle.jc_workers.specs.Drawing.{IsTurn, AreTurns, DidDraw, Passed};
+ghost use Rattle.jc_workers.specs.Drawing.{IsTurn, AreTurns, DidDraw, GoesPast, HavePassed};
 
 use crate::runner::CaseRunner;
 use crate::{Claims, Drawer, Gate, Place, SeatSink};
@@ -51,9 +51,10 @@ where
     requires counts { work.now.board.now.counts ≡ C.counts runner.now }
     ensures seat { IfOk result (λ d. (d.seat.table ≡ P.table) × (d.seat.part ≡ P.part)) }
     ensures drawer { IfOk result (λ d. (d.drawer.table ≡ work.now.claims.now.table) × (length d.drawer.numbers + d.drawer.budget ≡ work.now.cases + 1)
-        × Passed work.now.cases d.drawer.numbers) }
+        × GoesPast work.now.cases d.drawer.numbers) }
     ensures ends { IfOk result (λ d. EndsOf work.now.cases (C.end_of runner.now) (Contains d.drawer.numbers) d.ends.items) }
     ensures hits { IfOk result (λ d. HitsOf work.now.cases (C.hits runner.now) (Contains d.drawer.numbers) d.seat.hits) }
+    ensures passed { IfOk result (λ d. HavePassed work.now.cases (G.passed gate.now) (Contains d.drawer.numbers)) }
 {
     let Turn { seat, mut drawer } = turn;
     let cases = work.cases;
@@ -67,7 +68,7 @@ where
         }
         let case = number as usize;
         gate.pass(case as u32 + 1);
-        let end = runner.run(alloc, &mut world, case, &mut sink)?;
+        let end = runner.run(alloc, &mut world, gate, case, &mut sink)?;
         ends.push((case, end))?;
     }
     let seat = sink.into_seat();
@@ -89,7 +90,8 @@ where
     requires runner { C.runnable runner.now }
     requires cases { (work.now.cases ≡ C.cases runner.now) × (work.now.cases ≤ 256) }
     requires counts { work.now.board.now.counts ≡ C.counts runner.now }
-    ensures { IfOk result (DidDraw work.now.board.now.table work.now.claims.now.table work.now.cases (C.end_of runner.now) (C.hits runner.now)) }
+    ensures { IfOk result (DidDraw work.now.board.now.table work.now.claims.now.table work.now.cases (C.end_of runner.now) (C.hits runner.now)
+        (G.passed gate.now)) }
 {
     draw_all::<Brand, C, G>(alloc, runner, gate, work, turn)
 }

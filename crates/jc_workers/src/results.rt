@@ -2,11 +2,11 @@
 ghost use Rattle.std.specs.Prelude.{◌≡◌, ℕ, ◌+◌, ◌*◌, ◌<◌, [], length, Contains, IfOk, Some, None, replicate, slice_get, vec_len};
 ghost use Rattle.std.specs.List.{filter_map};
 ghost use Rattle.jc_workers.specs.Ran.{HitsOf, AreEnds};
-ghost use Rattle.jc_workers.specs.Drawing.{AllDrew};
+ghost use Rattle.jc_workers.specs.Drawing.{AllDrew, HavePassed};
 
-use crate::Claims;
 use crate::pool::{Drew, Turn};
 use crate::runner::CaseRunner;
+use crate::{Claims, Gate};
 use jc_board::{Board, Seat};
 use jc_bytes::Memory;
 use std::alloc::Global;
@@ -51,9 +51,10 @@ fn all_ends<E: Drop>(alloc: Global, ends: Vec<Option<E>>) -> Result<Vec<E>, Memo
 }
 
 /// Joins the seats and the drawers with what the workers gave back, and puts the ends in the order of the cases.
-pub fn collect<C: CaseRunner>(
+pub fn collect<C: CaseRunner, G: Gate>(
     alloc: Global,
     runner: &C,
+    _gate: &G,
     board: &Board,
     claims: Claims,
     own: Turn,
@@ -61,13 +62,15 @@ pub fn collect<C: CaseRunner>(
 ) -> Result<(Vec<C::End>, Seat), Memory>
 where
     C::End: Drop,
-    requires gave { (0 < vec_len gave) × AllDrew board.now.table claims.table (C.cases runner.now) (C.end_of runner.now) (C.hits runner.now) gave.items }
+    requires gave { (0 < vec_len gave) × AllDrew board.now.table claims.table (C.cases runner.now) (C.end_of runner.now) (C.hits runner.now)
+        (G.passed _gate.now) gave.items }
     requires seat { (own.seat.table ≡ board.now.table) × (own.seat.hits ≡ []) × (own.seat.part + 2048 * vec_len gave ≡ 65536) }
     requires drawer { (own.drawer.table ≡ claims.table) × (own.drawer.numbers ≡ []) × (own.drawer.budget ≡ 0)
         × (claims.budget ≡ vec_len gave * (C.cases runner.now + 1)) }
     ensures ends { IfOk result (λ r. AreEnds (C.cases runner.now) (C.end_of runner.now) r.0.items) }
     ensures seat { IfOk result (λ r. (r.1.table ≡ board.now.table) × (r.1.part ≡ 65536)
         × HitsOf (C.cases runner.now) (C.hits runner.now) (λ _. Unit {0}) r.1.hits) }
+    ensures passed { IfOk result (λ _. HavePassed (C.cases runner.now) (G.passed _gate.now) (λ _. Unit {0})) }
 {
     let Turn {
         mut seat,

@@ -1,13 +1,14 @@
 //! Cases that workers run, one at a time.
 ghost use Rattle.std.specs.Prelude.{ℕ};
 
+use crate::Gate;
 use jc_bytes::Memory;
 use jc_programs::ProbeSink;
 use std::alloc::Global;
 
-/// Runs the cases of a run plan.
+/// Runs the cases of a run plan, each of which has passed a gate before.
 pub trait CaseRunner {
-    ghost use Rattle.std.specs.Prelude.{◌≡◌, ℕ, ◌<◌, ◌⊎◌, List, IfOk};
+    ghost use Rattle.std.specs.Prelude.{◌≡◌, ℕ, ◌+◌, ◌<◌, ◌⊎◌, List, IfOk};
 
     /// What a worker keeps from one case to the next.
     type World;
@@ -40,15 +41,17 @@ pub trait CaseRunner {
         requires { runnable self.now }
         ensures { IfOk result (λ w. fits self.now w) };
 
-    fn run<S: ProbeSink>(
+    fn run<S: ProbeSink, G: Gate>(
         &self,
         alloc: Global,
         world: &mut Self::World,
+        gate: &G,
         case: usize,
         sink: &mut S,
     ) -> Result<Self::End, Memory>
         requires runner { runnable self.now }
         requires case { case < cases self.now }
+        requires gate { G.passed gate.now (case + 1) }
         requires world { fits self.now world.old }
         requires sink { S.counts sink.old ≡ counts self.now }
         ensures world { fits self.now world.new }

@@ -1,5 +1,5 @@
 //! The cases of a run plan on workers.
-ghost use Rattle.std.specs.Prelude.{◌≡◌, ◌+◌, ◌*◌, ◌<◌, ◌≤◌, [], length, IfOk, vec_len};
+ghost use Rattle.std.specs.Prelude.{◌≡◌, ℕ, ◌+◌, ◌*◌, ◌<◌, ◌≤◌, [], length, IfOk, vec_len};
 ghost use Rattle.jc_programs.specs.Turns.{IsRunPlan};
 ghost use Rattle.jc_machine_model.specs.Programs.{IsProgram};
 ghost use Rattle.jc_machine.specs.Hits.{probe_counts};
@@ -32,7 +32,8 @@ fn take_turns<R: Threads + Sync, G: Gate + Sync>(
     requires cases { (work.now.cases ≡ length runner.now.plan.now.cases) × (work.now.cases ≤ 256) }
     requires counts { work.now.board.now.counts ≡ probe_counts runner.now.program.now }
     ensures { IfOk result (λ gave. (vec_len gave ≡ vec_len turns)
-        × AllRan work.now.board.now.table work.now.claims.now.table work.now.cases runner.now.program.now runner.now.plan.now gave.items) }
+        × AllRan work.now.board.now.table work.now.claims.now.table work.now.cases runner.now.program.now runner.now.plan.now
+        (G.passed gate.now) gave.items) }
 {
     Ok(thread::map_vec(
         rt,
@@ -70,6 +71,7 @@ pub fn run_cases<R: Threads + Sync, G: Gate + Sync>(
     ensures ends { IfOk result (λ r. r.0.items ≡ ends_under program.now plan.now) }
     ensures part { IfOk result (λ r. (r.1.table ≡ board.now.table) × (r.1.part ≡ 65536)) }
     ensures hits { IfOk result (λ r. AreHits program.now plan.now r.1.hits) }
+    ensures passed { IfOk result (λ _. (k : ℕ) → k < length plan.now.cases → G.passed gate.now (k + 1)) }
 {
     let workers = workers as usize;
     let cases = plan.cases.len();
@@ -83,5 +85,5 @@ pub fn run_cases<R: Threads + Sync, G: Gate + Sync>(
     let mut whole = Turn { seat, drawer };
     let turns = deal(alloc, &work, &mut whole, workers)?;
     let gave = take_turns(rt, alloc, &runner, gate, &work, turns)?;
-    collect(alloc, &runner, board, claims, whole, gave)
+    collect(alloc, &runner, gate, board, claims, whole, gave)
 }

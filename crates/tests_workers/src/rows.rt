@@ -2,7 +2,6 @@
 
 use crate::hold::Hold;
 use crate::runs::{Left, run_forty};
-use jc_workers::OpenGate;
 use std::alloc::{AllocError, Global};
 use std::process::Abort;
 use std::test::Fail;
@@ -29,7 +28,9 @@ fn expect_forty(rt: &impl Abort, alloc: Global, left: &Left) -> Result<(), Fail>
 fn each_number_of_workers_leaves_the_same(rt: HostRuntime) -> Result<(), Fail> {
     let alloc = rt.alloc();
     for workers in [1u32, 4, 16] {
-        let left = run_forty(&rt, alloc, workers, &OpenGate)?;
+        let gate = Hold::until(alloc, 40, 0)?;
+        let left = run_forty(&rt, alloc, workers, &gate)?;
+        assert!(rt; gate.each_once());
         expect_forty(&rt, alloc, &left)?;
     }
     Ok(())
@@ -38,19 +39,23 @@ fn each_number_of_workers_leaves_the_same(rt: HostRuntime) -> Result<(), Fail> {
 #[test]
 fn four_workers_pass_a_held_case(rt: HostRuntime) -> Result<(), Fail> {
     let alloc = rt.alloc();
-    let gate = Hold::until(2);
+    let gate = Hold::until(alloc, 40, 1)?;
     let left = run_forty(&rt, alloc, 4, &gate)?;
+    assert!(rt; gate.each_once());
     assert!(rt; !gate.gave_up());
+    assert!(rt; gate.passed_before() >= 1);
     expect_forty(&rt, alloc, &left)
 }
 
-// Each worker draws its next case where it has ended one, so the other one runs them all. With fixed shares of the cases it
-// would run half of them.
+// Each worker draws its next case where it has ended one, so the other one runs them all while case 1 is held. With fixed
+// shares of the cases it would run half of them, and one worker alone would run none.
 #[test]
 fn a_second_worker_runs_all_other_cases(rt: HostRuntime) -> Result<(), Fail> {
     let alloc = rt.alloc();
-    let gate = Hold::until(40);
+    let gate = Hold::until(alloc, 40, 39)?;
     let left = run_forty(&rt, alloc, 2, &gate)?;
+    assert!(rt; gate.each_once());
     assert!(rt; !gate.gave_up());
+    assert_eq!(rt; gate.passed_before(), 39);
     expect_forty(&rt, alloc, &left)
 }

@@ -1,9 +1,9 @@
-use Rattle.std.proofs.Common.{ℕ, ◌≡◌, ◌+◌, ◌<◌, ◌≤◌, ◌++◌, ◌∷◌, [], List, length, arith, ap, sym, ◌∙◌, subst, inr, ⊎_elim, length-append}
+use Rattle.std.proofs.Common.{rules, ℕ, ◌≡◌, ◌+◌, ◌<◌, ◌≤◌, ◌++◌, ◌∷◌, [], List, length, arith, ap, sym, ◌∙◌, subst, inr, ⊎_elim, length-append}
 use Rattle.std.specs.Prelude.{Contains}
 use Rattle.jc_board.specs.Seen.{SeatSeen}
 use Rattle.jc_workers.specs.Claims.{DrawerSeen}
 use Rattle.jc_workers.specs.Ran.{EndsOf, HitsOf}
-use Rattle.jc_workers.specs.Drawing.{Passed}
+use Rattle.jc_workers.specs.Drawing.{GoesPast, HavePassed}
 use Rattle.jc_workers.proofs.NumberLaws.{has_new, has_old, has_one}
 use Rattle.jc_workers.proofs.RanLaws.{same_ends, same_hits, more_ends, more_hits}
 use Rattle.jc_workers.proofs.pool.draw_all.Goals as goal
@@ -37,6 +37,8 @@ drawing-preserved g c =
           (more_hits cases (Contains numbers) (Contains (numbers ++ k ∷ [])) k there (λ n _ h. has_old numbers k n h) (λ n _ h. has_one numbers k n h)
           (has_new numbers k) hit_by c.drawing.sink.seat.hits _ i.6 run.gained run.kept run.others),
       run.world,
+      subst (λ (l : List ℕ). HavePassed cases (g.G.Gate.passed c.args.gate.now) (Contains l)) (sym new)
+          (λ n low h. ⊎_elim (λ old. i.8 n low old) (λ e. subst (λ m. g.G.Gate.passed c.args.gate.now (m + 1)) (sym e) (search rules)) (has_one numbers k n h)),
     )
 
 pub returns-clause-drawer : goal.returns-clause-drawer
@@ -44,7 +46,7 @@ returns-clause-drawer g c =
     let i = c.drawing.invariant in
     let n = c.args.work.now.cases in
     elim c.drawing-test.branch [
-      | else-drawing-test w ↦ subst (λ (d : DrawerSeen). (d.table ≡ c.args.work.now.claims.now.table) × (length d.numbers + d.budget ≡ n + 1) × Passed n d.numbers)
+      | else-drawing-test w ↦ subst (λ (d : DrawerSeen). (d.table ≡ c.args.work.now.claims.now.table) × (length d.numbers + d.budget ≡ n + 1) × GoesPast n d.numbers)
           (sym w.drawer-is) (
             i.1,
             omega (arith, i.2, i.3),
@@ -55,7 +57,7 @@ returns-clause-drawer g c =
           let k = w.draw-number.result in
           let numbers = c.drawing.drawer.numbers in
           let new = w.draw-number.ensures.numbers in
-          subst (λ (d : DrawerSeen). (d.table ≡ c.args.work.now.claims.now.table) × (length d.numbers + d.budget ≡ n + 1) × Passed n d.numbers) (sym w.drawer-is) (
+          subst (λ (d : DrawerSeen). (d.table ≡ c.args.work.now.claims.now.table) × (length d.numbers + d.budget ≡ n + 1) × GoesPast n d.numbers) (sym w.drawer-is) (
             w.draw-number.ensures.claims ∙ i.1,
             omega (arith, ap length new, length-append numbers (k ∷ []), i.3, i.2, w.draw-number.ensures.budget),
             (k, subst (λ (l : List ℕ). Contains l k) (sym new) (has_new numbers k), w.if-number-cases.true),
@@ -79,6 +81,18 @@ returns-clause-ends g c =
           (sym (ap (λ (d : DrawerSeen). d.numbers) w.drawer-is ∙ w.draw-number.ensures.numbers))
           (same_ends cases (Contains numbers) (Contains (numbers ++ k ∷ [])) (λ n _ h. has_old numbers k n h)
           (λ n low h. past cases numbers k n w.if-number-cases.true low h) end_of c.drawing.ends.items c.drawing.invariant.5)
+    ]
+
+pub returns-clause-passed : goal.returns-clause-passed
+returns-clause-passed g c =
+    let passed = g.G.Gate.passed c.args.gate.now in
+    let cases = c.args.work.now.cases in
+    let numbers = c.drawing.drawer.numbers in
+    elim c.drawing-test.branch [
+      | else-drawing-test w ↦ subst (λ (l : List ℕ). HavePassed cases passed (Contains l)) (sym (ap (λ (d : DrawerSeen). d.numbers) w.drawer-is)) c.drawing.invariant.8
+      | then-drawing-test+then-number-cases w ↦ let k = w.draw-number.result in
+          subst (λ (l : List ℕ). HavePassed cases passed (Contains l)) (sym (ap (λ (d : DrawerSeen). d.numbers) w.drawer-is ∙ w.draw-number.ensures.numbers))
+          (λ n low h. c.drawing.invariant.8 n low (past cases numbers k n w.if-number-cases.true low h))
     ]
 
 pub returns-clause-hits : goal.returns-clause-hits

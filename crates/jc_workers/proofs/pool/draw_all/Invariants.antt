@@ -1,6 +1,7 @@
 use Rattle.std.proofs.Common.{◌≡◌, ◌+◌, ◌≤◌, ◌⊎◌, ℕ, length}
 use Rattle.std.specs.Prelude.{Contains}
 use Rattle.jc_workers.specs.Ran.{EndsOf, HitsOf}
+use Rattle.jc_workers.specs.Drawing.{HavePassed}
 use Rattle.jc_workers.proofs.pool.draw_all.Given as goal
 
 abbrev pub invariant-drawing : goal.invariant-drawing
@@ -10,3 +11,4 @@ invariant-drawing g l = (l.sink.board.now.counts ≡ g.C.CaseRunner.counts l.run
     × EndsOf l.work.cases (g.C.CaseRunner.end_of l.runner) (Contains l.drawer.numbers) l.ends.items
     × HitsOf l.work.cases (g.C.CaseRunner.hits l.runner) (Contains l.drawer.numbers) l.sink.seat.hits
     × g.C.CaseRunner.fits l.runner l.world
+    × HavePassed l.work.cases (g.G.Gate.passed l.gate) (Contains l.drawer.numbers)

@@ -38,18 +38,20 @@ joining-init g c =
       inl i.gave.0,
       omega (arith, ap length c.in_ok-ends.ensures, length-replicate c.case_count.result empty, c.case_count.ensures, c.in_ok-ends.ends.ok.0),
       λ k lt h. absurd (none k h),
+      λ k lt h. absurd (none k h),
     )
 
 -- the last worker of the list
 did : (g : Over) (c : In_ok-done g) → DidDraw c.args.board.now.table c.args.claims.table (g.C.CaseRunner.cases c.args.runner.now)
-    (g.C.CaseRunner.end_of c.args.runner.now) (g.C.CaseRunner.hits c.args.runner.now) c.in_ok-done.field-0
+    (g.C.CaseRunner.end_of c.args.runner.now) (g.C.CaseRunner.hits c.args.runner.now) (g.G.Gate.passed c.args._gate.now) c.in_ok-done.field-0
 did g c =
     let xs = c.pop.new.self.items in
     let r = c.in-Some.result in
     let Did : Drew g.row.C-End.Denot → Type 0 = DidDraw c.args.board.now.table c.args.claims.table (g.C.CaseRunner.cases c.args.runner.now)
-    (g.C.CaseRunner.end_of c.args.runner.now) (g.C.CaseRunner.hits c.args.runner.now) in
+    (g.C.CaseRunner.end_of c.args.runner.now) (g.C.CaseRunner.hits c.args.runner.now) (g.G.Gate.passed c.args._gate.now) in
     let All : List (Result (Drew g.row.C-End.Denot) Memory) → Type 0 = AllDrew c.args.board.now.table c.args.claims.table
-    (g.C.CaseRunner.cases c.args.runner.now) (g.C.CaseRunner.end_of c.args.runner.now) (g.C.CaseRunner.hits c.args.runner.now) in
+    (g.C.CaseRunner.cases c.args.runner.now) (g.C.CaseRunner.end_of c.args.runner.now) (g.C.CaseRunner.hits c.args.runner.now)
+    (g.G.Gate.passed c.args._gate.now) in
     let all = subst All c.in-Some.ensures.items c.joining.invariant.3 in
     subst (λ (x : Result (Drew g.row.C-End.Denot) Memory). IfOk x Did) (at_end xs r r ∙ c.in_ok-done.was)
     (all (length xs) r (omega (arith, length-append xs (r ∷ []))))
@@ -96,7 +98,7 @@ joining-preserved g c =
       c.join.ensures.board ∙ i.0,
       omega (arith, c.join.ensures.part, d.1, i.1, less),
       subst (λ (x : List ℕ × List (ℕ × ℕ)). HitsOf cases hit_by (Contains x.0) x.1) (λ j. (sym nums j, sym c.join.ensures.hits j)) hits,
-      λ w x lt. subst (λ (r : Result (Drew g.row.C-End.Denot) Memory). IfOk r (DidDraw c.args.board.now.table c.args.claims.table cases end_of hit_by))
+      λ w x lt. subst (λ (r : Result (Drew g.row.C-End.Denot) Memory). IfOk r (DidDraw c.args.board.now.table c.args.claims.table cases end_of hit_by (g.G.Gate.passed c.args._gate.now)))
           (ap (λ l. get_or l w x) c.in-Some.ensures.items ∙ in_front xs c.in-Some.result x w lt)
           (i.3 w x (omega (arith, lt, less, c.pop.new.self.ok.0, c.joining.gave.ok.0))),
       c.join-in-Some.ensures.claims ∙ i.4,
@@ -107,6 +109,7 @@ joining-preserved g c =
           (λ was. c.place.ensures.kept k (i.8 k lt was))
           (λ is. c.place.ensures.placed k (end_of k) (d.5.all k lt is))
           (Contains-append_cases olds news k (subst (λ (l : List ℕ). Contains l k) nums h)),
+      λ k lt h. ⊎_elim (λ was. i.9 k lt was) (λ is. d.7 k lt is) (Contains-append_cases olds news k (subst (λ (l : List ℕ). Contains l k) nums h)),
     )
 
 pub close-requires : goal.close-requires
@@ -144,3 +147,6 @@ returns-clause-seat g c =
       same_hits (g.C.CaseRunner.cases c.args.runner.now) (Contains c.joining.drawer.numbers) (λ _. Unit {0}) (λ k _ _. tt)
           (λ k lt _. drawn g at k lt) (g.C.CaseRunner.hits c.args.runner.now) c.joining.seat.hits i.2,
     )
+
+pub returns-clause-passed : goal.returns-clause-passed
+returns-clause-passed g c = let at = (goal.at.returns-clause-passed g c).After-close in λ k lt all. c.joining.invariant.9 k lt (drawn g at k lt)

@@ -1,4 +1,4 @@
-use Rattle.std.proofs.Common.{◌≡◌, length, arith, sym, ap, ap₂, ◌∙◌, subst, subst₂}
+use Rattle.std.proofs.Common.{◌≡◌, ℕ, ◌+◌, ◌<◌, length, arith, sym, ap, ap₂, ◌∙◌, subst, subst₂}
 use Rattle.jc_programs.specs.declared.run_plan.RunPlan.{RunPlan}
 use Rattle.jc_programs.specs.declared.run_end.CaseEnd.{CaseEnd}
 use Rattle.jc_workers.specs.Cases.{case_at, end_under, ends_under, HitBy, AreHits}
@@ -14,7 +14,7 @@ collect-requires-clause-gave g c =
     c.len-cases.ensures ∙ sym (ap (λ (p : RunPlan). length p.cases) c.in_ok-runner.ensures.1) in (
       omega (arith, c.in_ok-gave.ensures.0, c.in_ok-turns.ensures.turns.1, c.requires.workers.0),
       subst (λ n. AllDrew {E = CaseEnd} c.args.board.now.table c.in_ok-claims.claims.table n (λ k. end_under runner.program.now (case_at runner.plan.now k))
-          (HitBy runner.program.now runner.plan.now) gave.items) cases c.in_ok-gave.ensures.1,
+          (HitBy runner.program.now runner.plan.now) (g.G.Gate.passed c.args.gate.now) gave.items) cases c.in_ok-gave.ensures.1,
     )
 
 pub returns-clause-ends : goal.returns-clause-ends
@@ -29,3 +29,9 @@ returns-clause-hits g c =
     then_ok c.collect.result _ _ c.collect.ensures.seat
     (λ r h. subst₂ (λ program plan. AreHits program plan r.1.hits) c.in_ok-runner.ensures.0 c.in_ok-runner.ensures.1
     (hits_of_all runner.program.now runner.plan.now r.1.hits h.2))
+
+pub returns-clause-passed : goal.returns-clause-passed
+returns-clause-passed g c =
+    let runner = c.in_ok-runner.runner in
+    then_ok c.collect.result _ _ c.collect.ensures.passed
+    (λ r h. subst (λ (p : RunPlan). (k : ℕ) → k < length p.cases → g.G.Gate.passed c.args.gate.now (k + 1)) c.in_ok-runner.ensures.1 (λ k lt. h k lt tt))
