@@ -1,6 +1,6 @@
 //! The laws of runs.
 ghost use Rattle.jc_twin_simulation.specs.Mid.{BeginsInMid, OneTurn};
-ghost use Rattle.jc_twin.specs.Runs.{EachSchedule, FewerProbeTurns, FewProbeTurns, SameRun};
+ghost use Rattle.jc_twin.specs.Runs.{EachSchedule, FewerProbeTurns, FewProbeTurns, PrintTheSame, SameRun, SameText};
 
 use jc_programs::{Case, Program};
 
@@ -9,6 +9,15 @@ use jc_programs::{Case, Program};
 /// where its thread stands at an instruction of the original; the others are probe turns.
 pub fn same_run(before: &Program, after: &Program, case: &Case)
     ensures { SameRun before.now after.now case.now }
+{}
+
+/// Nor does it change what is printed. Where `after` is the twin of `before`, and the threads of the case have entries: under each
+/// list of turns, the text of the case that the twin prints, whatever the case's number, is the text that the original prints under
+/// the kept ones of these turns [`text`]: the case's own output, a line for each thread, and a line for each static field of an integral
+/// type; the field that keeps a probe array has none. The same holds of all worlds that look the same [`worlds`].
+pub fn same_text(before: &Program, after: &Program, case: &Case)
+    ensures worlds { PrintTheSame before.now after.now }
+    ensures text { SameText before.now after.now case.now }
 {}
 
 /// No schedule of the original is lost. With probe turns put in front of its turns it is one of the twin, whose kept turns give
