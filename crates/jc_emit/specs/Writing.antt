@@ -1,6 +1,6 @@
 -- The code of an instrumented method as it is written.
 use Rattle.std.specs.Prelude.{◌≡◌, ℕ, ◌+◌, ◌≤◌, List, ◌++◌, map, length}
-use Rattle.jc_methods.specs.ProbeMembers.{most_ids, most_short}
+use Rattle.jc_methods.specs.ProbeMembers.{most_probes, most_short}
 use Rattle.jc_methods.specs.WellMade.{IsWellMadeOfAnySize}
 use Rattle.jc_methods.specs.declared.body.Body.{Body}
 use Rattle.jc_methods.specs.declared.insn.Flow.{Flow}
@@ -50,6 +50,6 @@ ShowsTwin source first written =
 pub record CanWrite (b : Body) (plan : Plan) (fetch : Fetch) (constants : List ℕ) (places : Places) : Type 0 where
   pub made : IsWellMadeOfAnySize b
   pub planned : HasPlan b plan
-  pub next : plan.next ≤ most_ids
+  pub next : plan.next ≤ most_probes
   pub enough : plan.next ≤ most_short + 1 + length constants
   pub placed : ArePlacesFor b plan fetch places

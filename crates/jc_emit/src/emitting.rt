@@ -2,7 +2,7 @@
 ghost use Rattle.std.specs.Prelude.{◌≡◌, ◌⊎◌, ⊤, ℕ, ◌+◌, ◌≤◌};
 ghost use Rattle.std.specs.Prelude.{Some, None, length, IfOk, OnOk, IfErr, IfSome, MatchResult};
 ghost use Rattle.std.specs.List.{sum_by};
-ghost use Rattle.jc_methods.specs.ProbeMembers.{most_ids, most_short};
+ghost use Rattle.jc_methods.specs.ProbeMembers.{most_probes, most_short};
 ghost use Rattle.jc_methods.specs.VerificationTypes.{Grows, AreNumberedFrames};
 ghost use Rattle.jc_methods.specs.Insn.{arm_count};
 ghost use Rattle.jc_bytes.specs.Names.{with_name};
@@ -71,7 +71,7 @@ fn instrumented(
 ) -> Result<Emitted, Memory>
     requires body { IsWellMade source.body.now }
     requires plan { HasPlan source.body.now source.plan.now }
-    requires next { source.plan.now.next ≤ most_ids }
+    requires next { source.plan.now.next ≤ most_probes }
     requires enough { source.plan.now.next ≤ most_short + 1 + length source.constants.now }
     requires places { ArePlacesFor source.body.now source.plan.now source.fetch source.places.now }
     requires states { ArePut source.body.now states.now }
@@ -152,7 +152,7 @@ pub fn emit(
 ) -> Result<Emitted, Fail<Refusal>>
     requires body { IsWellMade body.now }
     requires plan { HasPlan body.now plan.now }
-    requires next { plan.now.next ≤ most_ids }
+    requires next { plan.now.next ≤ most_probes }
     requires enough { plan.now.next ≤ most_short + 1 + length constants.now }
     requires states { AreStates names.old body.now states.now }
     requires frames { AreNumberedFrames (length names.old) body.now.frames }

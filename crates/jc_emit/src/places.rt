@@ -1,7 +1,7 @@
 //! Where the instructions of an instrumented method without wide jumps stand.
 ghost use Rattle.std.specs.Prelude.{◌≡◌, ◌≤◌, ◌+◌, ◌*◌, [], ◌∷◌, ◌++◌, ℕ, length, IfOk, OnOk};
 ghost use Rattle.std.specs.List.{sum_by};
-ghost use Rattle.jc_methods.specs.ProbeMembers.{most_ids};
+ghost use Rattle.jc_methods.specs.ProbeMembers.{most_probes};
 ghost use Rattle.jc_methods.specs.WellMade.{IsWellMadeOfAnySize};
 ghost use Rattle.jc_emit.specs.Branching.{early_in, late_in, behind_in};
 ghost use Rattle.jc_emit.specs.Marks.{prelude_size};
@@ -154,7 +154,7 @@ impl Places {
     ) -> Result<Places, Memory>
         requires made { IsWellMadeOfAnySize body.now }
         requires plan { HasPlan body.now plan.now }
-        requires next { plan.now.next ≤ most_ids }
+        requires next { plan.now.next ≤ most_probes }
         ensures places { (first : ℕ) → plan.now ≡ plan_of body.now first → IfOk result (ArePlaces body.now first fetch) }
         ensures small { IfOk result AreSmall }
     {

@@ -3,7 +3,7 @@ ghost use Rattle.std.specs.Prelude.{◌≡◌, ◌<◌, ◌≤◌, ◌+◌, ℕ,
 ghost use Rattle.jc_methods.specs.Flow.{flow_of};
 ghost use Rattle.jc_methods.specs.Insn.{IsWellFormed};
 ghost use Rattle.jc_methods.specs.InsnUse.{LeadsWithin};
-ghost use Rattle.jc_methods.specs.ProbeMembers.{most_ids, most_short};
+ghost use Rattle.jc_methods.specs.ProbeMembers.{most_probes, most_short};
 ghost use Rattle.jc_methods.specs.WellMade.{IsWellMadeOfAnySize};
 ghost use Rattle.jc_methods.specs.declared.body.Body.{Body as MethodBody};
 ghost use Rattle.jc_methods.specs.declared.insn.Flow.TheVariants as flows;
@@ -228,7 +228,7 @@ fn put_segment(
 pub(crate) fn write_code(alloc: Global, source: CodeSource<'_>) -> Result<Written, Memory>
     requires made { IsWellMadeOfAnySize source.body.now }
     requires plan { HasPlan source.body.now source.plan.now }
-    requires next { source.plan.now.next ≤ most_ids }
+    requires next { source.plan.now.next ≤ most_probes }
     requires enough { source.plan.now.next ≤ most_short + 1 + length source.constants.now }
     requires places { ArePlacesFor source.body.now source.plan.now source.fetch source.places.now }
     ensures { (first : ℕ) → source.entry.plan.now ≡ plan_of source.entry.body.now first

@@ -1,6 +1,6 @@
 //! The instrumented code of a method in stages: its code, and then its tables and the frames of the layout that is chosen.
 ghost use Rattle.std.specs.Prelude.{◌≡◌, ℕ, ◌+◌, ◌≤◌, length, IfOk, IfErr};
-ghost use Rattle.jc_methods.specs.ProbeMembers.{most_ids, most_short};
+ghost use Rattle.jc_methods.specs.ProbeMembers.{most_probes, most_short};
 ghost use Rattle.jc_methods.specs.VerificationTypes.{Grows, AreNumberedFrames};
 ghost use Rattle.jc_methods.specs.WellMade.{IsWellMade};
 ghost use Rattle.jc_bytes.specs.Failing.{Said};
@@ -47,7 +47,7 @@ pub fn emit_code(
 ) -> Result<EmittedCode, Fail<Refusal>>
     requires body { IsWellMade body.now }
     requires plan { HasPlan body.now plan.now }
-    requires next { plan.now.next ≤ most_ids }
+    requires next { plan.now.next ≤ most_probes }
     requires enough { plan.now.next ≤ most_short + 1 + length constants.now }
     ensures code { (first : ℕ) → plan.now ≡ plan_of body.now first
         → IfOk result (λ emitted. emitted.code ≡ emitted_code body.now first fetch (integer_in constants.now)) }
@@ -111,7 +111,7 @@ pub fn emit_parts(
 ) -> Result<EmittedParts, Memory>
     requires body { IsWellMade placed.now.body.now }
     requires plan { HasPlan placed.now.body.now placed.now.plan.now }
-    requires next { placed.now.plan.now.next ≤ most_ids }
+    requires next { placed.now.plan.now.next ≤ most_probes }
     requires room { HasRoom placed.now.body.now }
     requires places { ArePlacesFor placed.now.body.now placed.now.plan.now placed.now.fetch placed.now.places.now }
     requires states { AreStates names.old placed.now.body.now states.now }

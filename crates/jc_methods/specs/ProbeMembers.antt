@@ -47,20 +47,16 @@ bootstrap_type = codes "(Ljava/lang/invoke/MethodHandles$Lookup;Ljava/lang/Strin
 abbrev pub bootstraps_name : List ℕ
 bootstraps_name = codes "BootstrapMethods"
 
--- How the methods of a class of this major version get its array. No proof but that of the code looks at the number, which stands
--- above all versions that are taken until classes are written so.
+-- How the methods of a class of this major version get its array: from 55 on, Java 11, a constant may be dynamic. No proof but that of the
+-- code looks at the number.
 unfoldable pub fetch_of : (version : ℕ) → Fetch
-fetch_of version = if nat_le 66 version then fetches.Constant else fetches.Member
+fetch_of version = if nat_le 55 version then fetches.Constant else fetches.Member
 
 -- ---- how many
 
 -- the most probes of an instrumented class
 abbrev pub most_probes : ℕ
-most_probes = 32767
-
--- the most ids of the probes of a class
-abbrev pub most_ids : ℕ
-most_ids = 65535
+most_probes = 65535
 
 -- the most that sipush pushes (JVM Specification 6.5)
 abbrev pub most_short : ℕ

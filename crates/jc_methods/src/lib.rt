@@ -35,7 +35,7 @@ pub use kind::{Kind, State};
 pub use plan::{Edge, Plan};
 pub use probe_members::{
     BOOTSTRAP_TYPE, BOOTSTRAPS_NAME, CONSTANT_TYPE, DATA_NAME, FETCH_NAME, FETCH_TYPE,
-    FIRST_CONSTANT, Fetch, INIT_NAME, INIT_TYPE, MOST_IDS, MOST_PROBES, MOST_SHORT, PROBE_ARRAY,
+    FIRST_CONSTANT, Fetch, INIT_NAME, INIT_TYPE, MOST_PROBES, MOST_SHORT, PROBE_ARRAY,
     RUNTIME_CLASS, fetch_of,
 };
 pub use slots::{a_replaced_slot_is_a_mapped_one, mapped_locals_are_within};

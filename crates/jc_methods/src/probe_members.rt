@@ -35,13 +35,10 @@ pub const BOOTSTRAP_TYPE: &[u8] =
 pub const BOOTSTRAPS_NAME: &[u8] = b"BootstrapMethods";
 
 /// The first version whose classes get their probe array by a constant.
-pub const FIRST_CONSTANT: u16 = 66;
+pub const FIRST_CONSTANT: u16 = 55;
 
-/// The most probes of an instrumented class: `sipush` pushes each id (JVM Specification 6.5).
-pub const MOST_PROBES: u32 = 32_767;
-
-/// The most ids of the probes of a class that `emit` takes.
-pub const MOST_IDS: u32 = 65_535;
+/// The most probes of an instrumented class.
+pub const MOST_PROBES: u32 = 65_535;
 
 /// The most that `sipush` pushes (JVM Specification 6.5).
 pub const MOST_SHORT: u32 = 32_767;
