@@ -192,6 +192,15 @@ bootstrap_in pool _ = None
 unfoldable pub bootstrap_of : PoolValue → ℕ → Option ℕ
 bootstrap_of pool place = entry_of pool place >>= bootstrap_in pool
 
+-- the same number, whether what else the entry names is there or not
+abbrev pub number_in : Entry → Option ℕ
+number_in (entry.Dynamic bootstrap name_and_type) = Some bootstrap
+number_in (entry.InvokeDynamic bootstrap name_and_type) = Some bootstrap
+number_in _ = None
+
+unfoldable pub number_of : PoolValue → ℕ → Option ℕ
+number_of pool place = entry_of pool place >>= number_in
+
 -- a method handle: its kind, and the field or the method that it names
 pub record Handle : Type 0 where
   pub kind : ℕ

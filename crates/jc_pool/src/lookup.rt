@@ -6,7 +6,7 @@ ghost use Rattle.jc_bytes.specs.Texts.{IsShortText};
 ghost use Rattle.jc_pool.specs.Adding.{IsFirst, IsNowhere};
 ghost use Rattle.jc_pool.specs.Lookup.{utf8_of, class_name_of, string_of, signature_of, const_in, const_of};
 ghost use Rattle.jc_pool.specs.Lookup.{member, judged_member, HasShortTexts, ref_of, dynamic_of, ref_in, reference_of, member_of};
-ghost use Rattle.jc_pool.specs.Lookup.{handle_parts, bootstrap_of};
+ghost use Rattle.jc_pool.specs.Lookup.{handle_parts, bootstrap_of, number_of};
 
 use crate::entry::Entry;
 use crate::index::Naming;
@@ -452,6 +452,19 @@ impl Pool {
         match self.signature(name_and_type) {
             Ok(_) => Ok(bootstrap),
             Err(bad) => Err(bad),
+        }
+    }
+
+    /// The same number, whether a NameAndType entry stands at the place that the entry names or not,
+    /// or `None` where neither a Dynamic nor an InvokeDynamic entry stands at the place.
+    #[tactic(auto, unfolding(crate::specs::Lookup::number_of))]
+    pub fn bootstrap_number(&self, place: u16) -> Option<u16>
+        ensures { result ≡ number_of self.now place }
+    {
+        match self.entry(place) {
+            Some(Entry::Dynamic { bootstrap, .. }) => Some(*bootstrap),
+            Some(Entry::InvokeDynamic { bootstrap, .. }) => Some(*bootstrap),
+            _ => None,
         }
     }
 }
