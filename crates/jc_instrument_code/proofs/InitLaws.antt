@@ -1,5 +1,5 @@
 -- The method that gives the probe array, byte by byte.
-use Rattle.std.proofs.Common.{◌≡◌, inl, inr, ℕ, ◌+◌, ◌-◌, ◌%◌, ◌<◌, ◌≤◌, Bool, false, List, [], ◌∷◌, ◌++◌, length, nat_le, pos, if◌then◌else◌, sym, ◌∙◌, ap, ap₂, arith, length-append}
+use Rattle.std.proofs.Common.{◌≡◌, inl, inr, ℕ, ◌+◌, ◌-◌, ◌%◌, ◌<◌, ◌≤◌, Bool, true, false, List, [], ◌∷◌, ◌++◌, length, nat_le, pos, if◌then◌else◌, sym, ◌∙◌, ap, ap₂, arith, length-append}
 use Rattle.std.proofs.lemmas.Bool.{cases_lt, le-leb}
 use Rattle.std.proofs.lemmas.Bool.Decides.{nat_tests}
 use Rattle.std.proofs.lemmas.List.{append-nil}
@@ -7,6 +7,7 @@ use Rattle.std.proofs.Math.Nat.{sub-zero}
 use Rattle.jc_bytes.proofs.AppendingLaws.{joined}
 use Rattle.jc_bytes.specs.BigNumbers.{short, word}
 use Rattle.jc_methods.specs.Opcode as opcode
+use Rattle.jc_methods.specs.ProbeMembers.{most_short}
 use Rattle.jc_methods.specs.InsnForm.{form_of}
 use Rattle.jc_methods.specs.declared.insn.Insn.{Insn}
 use Rattle.jc_methods.specs.declared.insn.Insn.TheVariants as insns
@@ -15,7 +16,7 @@ use Rattle.jc_insn.specs.Writing.{insn_text}
 use Rattle.jc_insn.proofs.ReadBackLaws.{short_size}
 use Rattle.jc_emit.specs.Added.{InitPlaces, end_place, init_frame, init_stack}
 use Rattle.jc_instrument_code.specs.CodeText.{attribute, attribute_text}
-use Rattle.jc_instrument_code.specs.InitText.{push_count, end_offset, init_bytes, init_frame_places, init_frames, init_text}
+use Rattle.jc_instrument_code.specs.InitText.{push_count, count_text, end_offset, init_bytes, init_frame_places, init_frames, init_text}
 use Rattle.jc_instrument_code.proofs.CodeTextLaws.{code_text_parts, one_attribute}
 use Rattle.jc_instrument_code.proofs.PartLaws.{text_of_attribute}
 
@@ -53,6 +54,20 @@ push_few n = elim (cases_lt 5 n) [
   ]
   | inr few ↦ let e = ap (λ (l : List ℕ). length l) (push_small n few) in omega (arith, e)
 ]
+
+-- the number, or the place of its Integer
+count_by : (integer n : ℕ) (small : Bool) → length (if small then push_count n else opcode.ldc_w ∷ short integer) ≤ 3
+count_by integer n true = push_few n
+count_by integer n false = let size = short_size integer in omega (arith, size)
+
+pub count_few : (integer n : ℕ) → length (count_text integer n) ≤ 3
+count_few integer n = count_by integer n (nat_le n most_short)
+
+pub count_small : (integer n : ℕ) → n ≤ most_short → count_text integer n ≡ push_count n
+count_small integer n le = ap (λ (small : Bool). if small then push_count n else opcode.ldc_w ∷ short integer) (le-leb n most_short le)
+
+pub count_big : (integer n : ℕ) → most_short < n → count_text integer n ≡ opcode.ldc_w ∷ short integer
+count_big integer n more = ap (λ (small : Bool). if small then push_count n else opcode.ldc_w ∷ short integer) (not_most most_short n more)
 
 -- ---- the code
 
@@ -146,14 +161,15 @@ frame_parts name array pushed t₀ t₁ t₂ t₃ t₄ t₅ t₆ t₇ p₁ p₂ 
 
 -- ---- the whole
 
-pub pushed_is : (count : ℕ) (none pushed : List ℕ) → none ≡ [] → pushed ≡ none ++ push_count count → pushed ≡ push_count count
-pushed_is count none pushed empty is = is ∙ ap (λ (l : List ℕ). l ++ push_count count) empty
+pub pushed_is : (text none pushed : List ℕ) → none ≡ [] → pushed ≡ none ++ text → pushed ≡ text
+pushed_is text none pushed empty is = is ∙ ap (λ (l : List ℕ). l ++ text) empty
 
 pub init_text_is : (p : InitPlaces) (name array count size : ℕ) (none sizes coded tabled counted new : List ℕ) → none ≡ []
-    → sizes ≡ none ++ (short init_stack ++ (short 0 ++ word size)) → size ≡ 22 + length (push_count count)
-    → coded ≡ sizes ++ init_bytes p (push_count count) → tabled ≡ coded ++ short 0 → counted ≡ tabled ++ short 1
-    → new ≡ counted ++ attribute_text (init_frames name array (push_count count)) → new ≡ init_text p name array count
+    → sizes ≡ none ++ (short init_stack ++ (short 0 ++ word size)) → size ≡ 22 + length (count_text p.count count)
+    → coded ≡ sizes ++ init_bytes p (count_text p.count count) → tabled ≡ coded ++ short 0 → counted ≡ tabled ++ short 1
+    → new ≡ counted ++ attribute_text (init_frames name array (count_text p.count count)) → new ≡ init_text p name array count
 init_text_is p name array count size none sizes coded tabled counted new empty head is coded_is tabled_is counted_is new_is =
-    code_text_parts init_stack 0 size (init_bytes p (push_count count)) (short 0) (init_frames name array (push_count count) ∷ [])
-    none sizes coded tabled new empty head (is ∙ sym (init_size p (push_count count))) coded_is tabled_is
-    (one_attribute (init_frames name array (push_count count)) tabled counted new counted_is new_is)
+    let pushed = count_text p.count count in
+    code_text_parts init_stack 0 size (init_bytes p pushed) (short 0) (init_frames name array pushed ∷ [])
+    none sizes coded tabled new empty head (is ∙ sym (init_size p pushed)) coded_is tabled_is
+    (one_attribute (init_frames name array pushed) tabled counted new counted_is new_is)

@@ -2,6 +2,8 @@ pub mod PartLaws
 pub mod MergingLaws
 pub mod InitLaws
 pub mod CodeTextLaws
+pub mod BootstrapLaws
+pub mod OperandLaws
 pub mod FirstPlaceLaws
 pub mod LaidLaws
 pub mod AttributeLaws

@@ -3,6 +3,7 @@ use Rattle.std.specs.Prelude.{ℕ, List, ◌++◌, map, codes, slice_index}
 use Rattle.jc_methods.specs.VerificationTypes.{Names, TypeStateAt, type_state_at}
 use Rattle.jc_methods.specs.declared.body.FrameAt.{FrameAt}
 use Rattle.jc_methods.specs.declared.emitted.Emitted.{Emitted}
+use Rattle.jc_methods.specs.declared.probe_members.Fetch.{Fetch}
 use Rattle.jc_pool.specs.Pool.{PoolValue}
 use Rattle.jc_class.specs.declared.class_file.Attribute.{Attribute}
 use Rattle.jc_emit.specs.declared.tables.MovedTables.{MovedTables}
@@ -15,7 +16,7 @@ use Rattle.jc_instrument_code.specs.FirstPlaces.{text_place, class_place}
 
 -- ---- frames
 
--- the frames of the layout that is chosen for the code, where the places are those of the emitted code
+-- the frames of the layout that is chosen for the code, which is ready for it, where the places are those of the emitted code
 abbrev pub chosen_frames : Emitted → List FrameAt
 chosen_frames e = merged e.frames (used_frames (chosen e.code) e.wide_frames)
 
@@ -74,10 +75,11 @@ code_attributes pool frames_name e frames =
     attributes_by (text_place pool lines_name) (text_place pool vars_name) (text_place pool kind_vars_name) frames_name
     (places_of pool e) (tables_in e) frames
 
--- What stands behind the name and the length of the Code attribute (JVM Specification 4.7.3), where the method that the prelude
--- calls and the text StackMapTable stand at these places: the bytes are those of the layout, with the place of that method.
-unfoldable pub twin_code : PoolValue → (method frames_name : ℕ) → Names → Emitted → List ℕ
-twin_code pool method frames_name names e =
-    code_text e.max_stack e.max_locals (with_place method (chosen_text e.code))
+-- What stands behind the name and the length of the Code attribute (JVM Specification 4.7.3), of code that is ready for its layout. At
+-- these places stand what gives the array of probes, the class of the array and the text StackMapTable: the bytes are those of the
+-- layout, with the place that comes last.
+unfoldable pub twin_code : PoolValue → Fetch → (giver array frames_name : ℕ) → Names → Emitted → List ℕ
+twin_code pool fetch giver array frames_name names e =
+    code_text e.max_stack e.max_locals (with_place fetch giver array (chosen_text e.code))
     (counted_text (row_text (offset_in e)) e.handlers)
     (code_attributes pool frames_name e (written_frames names e))

@@ -4,7 +4,7 @@ ghost use Rattle.std.specs.List.{AllByRecursion};
 ghost use Rattle.jc_methods.specs.VerificationTypes.{type_state_at};
 ghost use Rattle.jc_pool.specs.Adding.{Extends};
 ghost use Rattle.jc_frames.specs.FullTable.{CanBeWritten, HasPlace, named_by_all};
-ghost use Rattle.jc_layout.specs.LaidBody.{with_place};
+ghost use Rattle.jc_layout.specs.LaidBody.{constant_size, with_operand, with_place};
 ghost use Rattle.jc_instrument_code.specs.Given.{AreFrames, AreNamed, HaveClasses, IsLaid};
 ghost use Rattle.jc_instrument_code.specs.LaidText.{laid_text, tables_seen};
 ghost use Rattle.jc_instrument_code.specs.TwinCode.{twin_code};
@@ -12,9 +12,9 @@ ghost use Rattle.jc_instrument_code.specs.TwinCode.{twin_code};
 use crate::attributes::put_attributes;
 use crate::numbers::put_sizes;
 use crate::tables::put_rows;
-use jc_bytes::{Bytes, List, Memory, Names, put_bytes, put_short, put_u8};
+use jc_bytes::{Bytes, List, Memory, Names, put_bytes, put_short};
 use jc_layout::Laid;
-use jc_methods::{Emitted, FrameAt, Handler, LineAt, VarAt};
+use jc_methods::{Emitted, Fetch, FrameAt, Handler, LineAt, VarAt};
 use jc_pool::Pool;
 use std::alloc::Global;
 
@@ -24,8 +24,10 @@ const MOST_BYTES: usize = 4_294_967_295;
 /// The places in the constant pool of what the Code attribute of an instrumented method names.
 #[derive(Clone, Copy, Debug, PartialEq, Eq)]
 pub struct CodePlaces {
-    /// The method that the prelude calls.
-    pub method: u16,
+    /// What gives the array of probes: the method that the prelude calls, or the constant that it loads.
+    pub giver: u16,
+    /// The class of the array, where the prelude loads a constant.
+    pub array: u16,
     /// The text `LineNumberTable`, where the method has lines.
     pub lines: u16,
     /// The text `LocalVariableTable`, where the method has entries of such a table.
@@ -64,19 +66,51 @@ pub struct CodeTables<'a> {
     pub frames: NamedFrames<'a>,
 }
 
-/// Puts the bytes of the code at the end, in which the first instruction calls the method at this
-/// place.
-fn put_code(into: &mut Vec<u8>, code: &[u8], method: u16) -> Result<(), Memory>
-    ensures { OnOk result (into.new.items ≡ into.old.items ++ with_place method code.now) }
+/// Puts the bytes of code at the end, with a place of the pool behind the opcode at this offset.
+fn put_with_operand(
+    into: &mut Vec<u8>,
+    code: &[u8],
+    offset: usize,
+    place: u16,
+) -> Result<(), Memory>
+    requires { offset ≤ 3 }
+    ensures { OnOk result (into.new.items ≡ into.old.items ++ with_operand offset place code.now) }
 {
-    if code.len() < 3 {
+    if code.len() < offset + 3 {
         put_bytes(into, code)?;
         return Ok(());
     }
-    put_u8(into, code[0])?;
-    put_short(into, method)?;
-    put_bytes(into, &code[3..])?;
+    put_bytes(into, &code[..offset + 1])?;
+    put_short(into, place)?;
+    put_bytes(into, &code[offset + 3..])?;
     Ok(())
+}
+
+/// How many bytes the instruction has that loads the constant at this place (JVM Specification 6.5,
+/// ldc, ldc_w).
+fn constant_size(place: u16) -> usize
+    ensures size { result ≡ constant_size place }
+    ensures few { result ≤ 3 }
+{
+    if place < 256 { 2 } else { 3 }
+}
+
+/// Puts the bytes of laid out code at the end, in which the prelude names what stands at these
+/// places. The load of a constant has its place already.
+fn put_code(
+    into: &mut Vec<u8>,
+    code: &[u8],
+    fetch: Fetch,
+    places: &CodePlaces,
+) -> Result<(), Memory>
+    ensures { OnOk result (into.new.items ≡ into.old.items ++ with_place fetch places.now.giver places.now.array code.now) }
+{
+    match fetch {
+        Fetch::Member => put_with_operand(into, code, 0, places.giver),
+        Fetch::Constant => {
+            put_with_operand(into, code, constant_size(places.giver), places.array)
+        }
+    }
 }
 
 /// What stands behind the name and the length of the Code attribute of an instrumented method (JVM
@@ -95,6 +129,7 @@ pub fn write_laid(
     alloc: Global,
     tables: &CodeTables,
     laid: &Laid,
+    fetch: Fetch,
     places: &CodePlaces,
     pool: &Pool,
 ) -> Result<Bytes, Memory>
@@ -103,7 +138,7 @@ pub fn write_laid(
     requires frames { CanBeWritten laid.now.starts (length tables.now.frames.names.now) tables.now.frames.frames.now }
     requires classes { AllByRecursion (HasPlace pool.now) (named_by_all (map (type_state_at tables.now.frames.names.now) tables.now.frames.frames.now)) }
     ensures text { IfOk result (λ text. text
-        ≡ laid_text pool.now places.now tables.now.frames.names.now (tables_seen tables.now) laid.now tables.now.frames.frames.now) }
+        ≡ laid_text pool.now fetch places.now tables.now.frames.names.now (tables_seen tables.now) laid.now tables.now.frames.frames.now) }
     ensures size { IfOk result (λ text. length text ≤ 4294967295) }
 {
     let starts = laid.starts.as_slice();
@@ -114,7 +149,7 @@ pub fn write_laid(
         tables.max_locals,
         laid.code.len() as u32,
     )?;
-    put_code(&mut text, &laid.code, places.method)?;
+    put_code(&mut text, &laid.code, fetch, places)?;
     put_rows(&mut text, tables.handlers, starts)?;
     put_attributes(alloc, &mut text, tables, starts, places, pool)?;
     if text.len() > MOST_BYTES {
@@ -126,7 +161,7 @@ pub fn write_laid(
 /// What stands behind the name and the length of the Code attribute of an instrumented method (JVM
 /// Specification 4.7.3), from what is emitted.
 ///
-/// `laid` is the layout of the code, and `frames` has the frames of that layout: `merged_frames` of those
+/// `laid` is the layout of the code, in which a constant that the prelude loads has its place, and `frames` has the frames of that layout: `merged_frames` of those
 /// of `emitted` and of its `wide_frames` that are used. The classes that they name, and the texts
 /// that are needed, stand in the pool.
 ///
@@ -139,6 +174,7 @@ pub fn write_code(
     emitted: &Emitted,
     laid: &Laid,
     frames: NamedFrames<'_>,
+    fetch: Fetch,
     places: &CodePlaces,
     pool: &mut Pool,
 ) -> Result<Bytes, Memory>
@@ -148,7 +184,7 @@ pub fn write_code(
     requires classes { HaveClasses pool.old frames.names.now emitted.now }
     requires names { AreNamed pool.old emitted.now places.now }
     ensures text { IfOk result (λ text. text
-        ≡ twin_code pool.old places.now.method places.now.frames frames.entry.names.now emitted.now) }
+        ≡ twin_code pool.old fetch places.now.giver places.now.array places.now.frames frames.entry.names.now emitted.now) }
     ensures size { IfOk result (λ text. length text ≤ 4294967295) }
     // The pool has all that is named, and stays as it is.
     ensures kept { OnOk result (pool.new ≡ pool.old) }
@@ -163,5 +199,5 @@ pub fn write_code(
         kind_vars: &emitted.kind_vars,
         frames,
     };
-    write_laid(alloc, &tables, laid, places, pool)
+    write_laid(alloc, &tables, laid, fetch, places, pool)
 }

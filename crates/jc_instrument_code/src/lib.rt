@@ -12,7 +12,7 @@ mod tables;
 mod texts;
 
 pub use code::{CodePlaces, CodeTables, NamedFrames, write_code, write_laid};
-pub use init::{AddedPlaces, write_init};
+pub use init::{AddedPlaces, write_added};
 pub use laws::{each_layout_can_be_written, first_places};
 pub use merging::{merged_frames, used_frames};
 pub use texts::first_text;

@@ -10,6 +10,8 @@ use Rattle.jc_methods.specs.WellMade.{IsWellMadeOfAnySize}
 use Rattle.jc_methods.specs.declared.body.Body.{Body}
 use Rattle.jc_methods.specs.declared.emitted.Emitted.{Emitted}
 use Rattle.jc_methods.specs.declared.kind.State.{State}
+use Rattle.jc_methods.specs.declared.probe_members.Fetch.{Fetch}
+use Rattle.jc_methods.specs.declared.probe_members.Fetch.TheVariants as fetches
 use Rattle.jc_insn.specs.Spells.{Spells}
 use Rattle.jc_insn.proofs.ReadBackLaws.{big_short, big_word}
 use Rattle.jc_pool.specs.Pool.{PoolValue}
@@ -19,25 +21,32 @@ use Rattle.jc_class.specs.declared.class_file.Member.{Member}
 use Rattle.jc_body.specs.CodeForm.{code_form, row, IsCodeText}
 use Rattle.jc_body.specs.Coded.{HasCode, IsCoded}
 use Rattle.jc_body.specs.declared.items.Row.{Row}
-use Rattle.jc_emit.specs.Emission.{emission}
+use Rattle.jc_emit.specs.Emission.{Emitting, emission}
+use Rattle.jc_emit.specs.Marks.{TwinPlaces, prelude_size}
 use Rattle.jc_layout.specs.LaidBody.{laid_body, with_place}
 use Rattle.jc_layout.specs.Layout.{chosen_length, chosen_starts, chosen_text, chosen_list}
-use Rattle.jc_layout.proofs.CallLaws.{laid_spells}
+use Rattle.jc_layout.proofs.SpelledLaws.{laid_spells, placed_size}
+use Rattle.jc_layout.proofs.LayableLaws.{ready_length}
 use Rattle.jc_layout.proofs.ChoiceLaws.{text_length}
 use Rattle.jc_instrument_code.specs.CodeText.{attribute_text, code_text, counted_text, frame_attributes, line_text, row_text, table_attributes, var_text}
 use Rattle.jc_instrument_code.specs.TwinCode.{attributes_by, code_attributes, kind_vars_name, lines_name, offset_in, places_of, tables_in, twin_code, vars_name, written_frames}
 use Rattle.jc_instrument_code.specs.declared.code.CodePlaces.{CodePlaces}
 use Rattle.jc_instrument_code.proofs.FirstPlaceLaws.{text_within}
 use Rattle.jc_instrument_code.proofs.NamedLaws.{are_named}
-use Rattle.jc_instrument_code.proofs.TwinCodeLaws.{placed_size}
-use Rattle.jc_instrument_reread.specs.ReadCode.{row_at, written_coded, written_insns, written_items, written_starts}
-use Rattle.jc_instrument_reread.specs.WrittenCode.{by_method, calling, IsWrittenCode, frames_name}
+use Rattle.jc_instrument_reread.specs.ReadCode.{code_places, row_at, written_coded, written_insns, written_items, written_starts}
+use Rattle.jc_instrument_reread.specs.WrittenCode.{ready_emission, IsWrittenCode, frames_name}
 use Rattle.jc_instrument_reread.proofs.CodeSizeLaws.{attributes_few, attributes_in, bodies_short}
 use Rattle.jc_instrument_reread.proofs.EntryTextLaws.{IsReadable, attributes_are, counted_is, rows_are}
 use Rattle.jc_instrument_reread.proofs.LandLaws.{code_length}
 use Rattle.jc_instrument_reread.proofs.NamedLaws.{IsNamed}
 use Rattle.jc_instrument_reread.proofs.OffsetLaws.{most_offset, some_length}
 use Rattle.jc_instrument_reread.proofs.PartTextLaws.{frames_named, table_named}
+
+-- ---- preludes
+
+some_prelude : (fetch : Fetch) → 1 ≤ prelude_size fetch
+some_prelude fetches.Member = omega arith
+some_prelude fetches.Constant = omega arith
 
 -- ---- any text of code
 
@@ -103,7 +112,7 @@ module _ (pool : PoolValue) (few : length pool ≤ 65535) where
 
 -- ---- the written code
 
-module _ (pool : PoolValue) (places : CodePlaces) (names : Names) (e : Emitted) (w : IsWrittenCode pool places names e) where
+module _ (pool : PoolValue) (fetch : Fetch) (places : CodePlaces) (names : Names) (e : Emitted) (w : IsWrittenCode pool fetch places names e) where
   abbrev offset : ℕ → ℕ
   offset = offset_in e
 
@@ -148,7 +157,7 @@ module _ (pool : PoolValue) (places : CodePlaces) (names : Names) (e : Emitted) 
   kind_vars_named = table_named pool kind_vars_name places.kind_vars (var_text offset) e.kind_vars w.named.kind_vars
 
   pub frames_are_named : AllByRecursion (IsNamed pool frames_name) frames_written
-  frames_are_named = frames_named pool frames_name places.frames (places_of pool e) frames w.frames_named
+  frames_are_named = frames_named pool places.frames (places_of pool e) frames w.frames_named
 
   all_named : AllByRecursion has_text placed
   all_named =
@@ -161,7 +170,7 @@ module _ (pool : PoolValue) (places : CodePlaces) (names : Names) (e : Emitted) 
   unfolding twin_code
   texts_short =
       let all = code_attributes pool places.frames e frames in
-      let within = attributes_in e.max_stack e.max_locals (with_place places.method (chosen_text e.code)) (counted_text (row_text offset) e.handlers) all in
+      let within = attributes_in e.max_stack e.max_locals (with_place fetch places.giver places.array (chosen_text e.code)) (counted_text (row_text offset) e.handlers) all in
       let same = ap (λ (l : List Attribute). length (flat_map attribute_text l)) placed_are in
       let size = w.size in
       omega (arith, within, same, size)
@@ -176,11 +185,11 @@ module _ (pool : PoolValue) (places : CodePlaces) (names : Names) (e : Emitted) 
       subst (AllByRecursion (IsReadable pool)) placed_are
       (readable pool w.pool_few placed all_named (bodies_short 4294967295 placed texts_short))
 
-  pub code_size : length (with_place places.method (chosen_text e.code)) ≡ chosen_length e.code
-  code_size = placed_size places.method (chosen_text e.code) ∙ text_length e.code
+  pub code_size : length (with_place fetch places.giver places.array (chosen_text e.code)) ≡ chosen_length e.code
+  code_size = placed_size fetch places.giver places.array (chosen_text e.code) ∙ text_length e.code
 
   -- the text is of the form of a Code attribute
-  items_read : (code_form pool).Text (twin_code pool places.method places.frames names e) (written_items pool places names e)
+  items_read : (code_form pool).Text (twin_code pool fetch places.giver places.array places.frames names e) (written_items pool fetch places names e)
   unfolding twin_code
   items_read =
       let stack = w.stack in
@@ -188,13 +197,13 @@ module _ (pool : PoolValue) (places : CodePlaces) (names : Names) (e : Emitted) 
       let rows = w.rows in
       let few = w.few in
       let size = code_size in
-      form_text pool e.max_stack e.max_locals (with_place places.method (chosen_text e.code)) (counted_text (row_text offset) e.handlers)
+      form_text pool e.max_stack e.max_locals (with_place fetch places.giver places.array (chosen_text e.code)) (counted_text (row_text offset) e.handlers)
       (map (row_at offset) e.handlers) (code_attributes pool places.frames e frames) (omega (arith, stack)) (omega (arith, locals))
       (omega (arith, size, few))
       (counted_is row (row_text offset) (row_at offset) e.handlers (omega (arith, rows)) (rows_are offset offsets_short e.handlers w.numbers.classes))
       attributes_count attributes_readable
 
-  pub code_text_read : 1 ≤ length e.code → IsCodeText pool (twin_code pool places.method places.frames names e) (written_items pool places names e)
+  pub code_text_read : 1 ≤ length e.code → IsCodeText pool (twin_code pool fetch places.giver places.array places.frames names e) (written_items pool fetch places names e)
   code_text_read some = record {
     text = items_read;
     some = let bytes = some_length e.code some in let size = code_size in omega (arith, bytes, size);
@@ -203,23 +212,34 @@ module _ (pool : PoolValue) (places : CodePlaces) (names : Names) (e : Emitted) 
 
 -- ---- of a body
 
-module _ (b : Body) (first : ℕ) (states : List State) (array : ℕ) (well : IsWellMadeOfAnySize b) (pool : PoolValue) (places : CodePlaces) (names : Names)
-    (w : IsWrittenCode pool places names (emission b first states (by_method array))) where
+module _ (b : Body) (first : ℕ) (states : List State) (given : Emitting) (well : IsWellMadeOfAnySize b) (pool : PoolValue) (places : CodePlaces) (names : Names)
+    (w : IsWrittenCode pool given.fetch places names (ready_emission b first states given places.giver)) where
   abbrev e : Emitted
-  e = emission b first states (by_method array)
+  e = ready_emission b first states given places.giver
 
-  insns_spelled : Spells (with_place places.method (chosen_text e.code)) (written_insns places.method e) (written_starts e)
+  abbrev p : TwinPlaces
+  p = code_places places given.integer
+
+  insns_spelled : Spells (with_place given.fetch places.giver places.array (chosen_text e.code)) (written_insns given.fetch p e) (written_starts e)
   unfolding laid_body
   insns_spelled =
-      laid_spells b first states (by_method array) refl (chosen_list e.code) (calling places.method) [] (chosen_text e.code) (chosen_starts e.code) well w.call refl w.spelled
+      laid_spells b first states given (chosen_list e.code) p [] (chosen_text e.code) (chosen_starts e.code) well w.giver w.array refl w.spelled
 
   some_insns : 1 ≤ length e.code
-  some_insns = let size = code_length b first states (by_method array) well in omega (arith, size)
+  some_insns =
+      let size = code_length b first states given well in
+      let same = ready_length given.fetch places.giver (emission b first states given).code in
+      let some = some_prelude given.fetch in
+      omega (arith, size, same, some)
 
   -- the method that has this code is read so
-  pub coded_back : (method : Member) → HasCode pool method (twin_code pool places.method places.frames names e)
-      → IsCoded pool method (written_coded pool places names e)
+  pub coded_back : (method : Member) → HasCode pool method (twin_code pool given.fetch places.giver places.array places.frames names e)
+      → IsCoded pool method (written_coded pool given.fetch places given.integer names e)
   coded_back method code = record {
-    items = record { bytes = twin_code pool places.method places.frames names e; code = code; text = code_text_read pool places names e w some_insns };
+    items = record {
+      bytes = twin_code pool given.fetch places.giver places.array places.frames names e;
+      code = code;
+      text = code_text_read pool given.fetch places names e w some_insns;
+    };
     spelled = insns_spelled;
   }

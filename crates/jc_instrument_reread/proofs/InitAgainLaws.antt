@@ -1,10 +1,10 @@
 -- The method that is added to a class is read as the one that gives its probe array.
-use Rattle.std.proofs.Common.{◌≡◌, ◌⊎◌, inl, inr, ℕ, ℤ, zero, suc, ◌+◌, ◌<◌, ◌≤◌, Bool, List, [], ◌∷◌, length, get_or, Some, refl, sym, ◌∙◌, ap, subst, arith}
+use Rattle.std.proofs.Common.{◌≡◌, ◌⊎◌, inl, inr, ℕ, ℤ, zero, suc, ◌+◌, ◌<◌, ◌≤◌, List, [], ◌∷◌, length, get_or, Some, pos, refl, sym, ◌∙◌, ap, subst, arith}
 use Rattle.std.specs.Prelude.{◌≢◌, slice_get}
 use Rattle.std.specs.Int.Bits.{bit_and}
 use Rattle.std.specs.List.{AllByRecursion}
 use Rattle.std.specs.Option.{option_and_then}
-use Rattle.std.proofs.lemmas.Bool.{cases_lt, le-leb}
+use Rattle.std.proofs.lemmas.Bool.{cases_lt}
 use Rattle.std.proofs.lemmas.Option.{none-some, same_Some, slice_get_within}
 use Rattle.jc_bytes.proofs.DecidingLaws.{method_text_decided}
 use Rattle.jc_methods.proofs.StartsLaws.{number_at, rising}
@@ -44,21 +44,19 @@ use Rattle.jc_body.specs.declared.coded.Coded.{Coded}
 use Rattle.jc_body.specs.declared.items.Tables.{Tables}
 use Rattle.jc_body.proofs.ArgumentLaws.{static_take}
 use Rattle.jc_body.proofs.UsesLaws.{some_uses, insn_place_used}
-use Rattle.jc_kinds.specs.Checked.{Checked}
-use Rattle.jc_methods.specs.ProbeMembers.{data_name, data_type, fetch_name, fetch_type, init_flags, init_name, init_type, most_short, runtime_class}
-use Rattle.jc_emit.specs.Added.{end_place, init_code, init_frame, init_stack, HasCount, IsInitBody}
+use Rattle.jc_methods.specs.ProbeMembers.{data_name, data_type, fetch_name, fetch_type, init_flags, init_name, init_type, runtime_class}
+use Rattle.jc_emit.specs.Added.{end_place, init_code, init_frame, init_stack, IsInitBody}
 use Rattle.jc_emit.specs.Marks.{push_by}
-use Rattle.jc_emit.proofs.InitLaws.{verified}
 use Rattle.jc_emit.proofs.PlacedLaws.{flow_push_by, no_targets}
-use Rattle.jc_instrument_code.specs.InitText.{end_offset, init_frame_places, init_text, named_places, push_count}
+use Rattle.jc_instrument_code.specs.InitText.{end_offset, init_frame_places, init_text, named_places, count_text}
 use Rattle.jc_instrument_code.specs.declared.init.AddedPlaces.{AddedPlaces}
 use Rattle.jc_instrument_reread.specs.InitRead.{init_coded, init_starts}
 use Rattle.jc_instrument_reread.specs.Written.{data_field, fetch_method, IsAddedMethod}
 use Rattle.jc_instrument_reread.proofs.FreeLaws.{AreSound, HasSoundParts, no_subroutine, no_faults}
 use Rattle.jc_instrument_reread.proofs.InitTextLaws.{init_coded_back, init_tables_back, init_stack_maps}
 use Rattle.jc_instrument_reread.proofs.KeptEntryLaws.{member_found_at, long_found_at, string_found_at}
-use Rattle.jc_instrument_reread.proofs.PushLaws.{pushed_so}
-use Rattle.jc_instrument_reread.proofs.RightEntryLaws.{push_right}
+use Rattle.jc_instrument_reread.proofs.CountLaws.{count_named, count_used}
+use Rattle.jc_instrument_reread.proofs.PushLaws.{loaded_so}
 use Rattle.jc_instrument_reread.proofs.TwinItemLaws.{push_by_locals}
 use Rattle.jc_instrument_reread.proofs.UsedPlaceLaws.{stands_used}
 
@@ -76,18 +74,19 @@ init_described = record { parameters = tt; returns = record { named = tt; few = 
 init_takes : TakeSlots init_flags init_type 0
 init_takes = static_take init_flags init_type (record { parameters = []; returns = Some (Array Boolean) }) init_described (λ e. absurd (omega (arith, e)))
 
-fetch_described : IsMethodDescriptor fetch_type
+pub fetch_described : IsMethodDescriptor fetch_type
 unfolding after_types after_type after_brackets after_name
 fetch_described = (method_text_decided fetch_type).to refl
 
 -- ---- lists
 
-each_at : (Fact : Insn → Type 0) (xs : List Insn) → AllByRecursion Fact xs → (i : ℕ) (x : Insn) → slice_get xs i ≡ Some x → Fact x
+pub each_at : (Fact : Insn → Type 0) (xs : List Insn) → AllByRecursion Fact xs → (i : ℕ) (x : Insn) → slice_get xs i ≡ Some x → Fact x
 each_at Fact [] all i x at = absurd (none-some x at)
 each_at Fact (y ∷ xs) all zero x at = subst Fact (same_Some y x at) all.0
 each_at Fact (y ∷ xs) all (suc i) x at = each_at Fact xs all.1 i x at
 
-module _ (twin : ClassFile) (owner : List ℕ) (id : ℤ) (count : ℕ) (p : AddedPlaces) (method : Member) (w : IsAddedMethod twin owner id count p method) where
+module _ (twin : ClassFile) (owner : List ℕ) (id : ℤ) (count : ℕ) (p : AddedPlaces) (method : Member)
+    (w : IsAddedMethod fetches.Member twin owner id count p method) where
   abbrev pool : PoolValue
   pool = twin.pool
 
@@ -116,7 +115,7 @@ module _ (twin : ClassFile) (owner : List ℕ) (id : ℤ) (count : ℕ) (p : Add
   right_where insn place found is suits = subst (EntrySuits twin.major insn) (sym is) suits
 
   field_right : (op : ℕ) → op ≤ 181 → Right (insns.Member op p.field)
-  field_right op le = right_where (insns.Member op p.field) p.field (of_member (data_field owner)) (member_found_at twin.pool p.field (data_field owner) w.field_is (λ e. omega (arith, e)))
+  field_right op le = right_where (insns.Member op p.field) p.field (of_member (data_field owner)) (member_found_at twin.pool p.field (data_field owner) w.field_entries.0 (λ e. omega (arith, e)))
       (record { kind = inl (le, data_described); tag = λ e. absurd (omega (arith, e)) })
 
   fetch_right : Right (insns.Member opcode.invokestatic p.fetch)
@@ -129,8 +128,8 @@ module _ (twin : ClassFile) (owner : List ℕ) (id : ℤ) (count : ℕ) (p : Add
   name_right : Right (insns.Constant p.name)
   name_right = right_where (insns.Constant p.name) p.name (of_constant constants.Text) (string_found_at twin.pool p.name owner w.name_is) (record { kind = tt; tag = tt })
 
-  count_right : Right (push_by (λ n. 0) count)
-  count_right = subst Right (sym (pushed_so (λ n. 0) count w.code.few)) (push_right twin.major twin.pool count)
+  count_right : Right (push_by (λ n. p.count) count)
+  count_right = count_named twin.pool p.count count twin.major w.count_is
 
   all_right : AllByRecursion Right coded.insns
   all_right = (
@@ -138,9 +137,9 @@ module _ (twin : ClassFile) (owner : List ℕ) (id : ℤ) (count : ℕ) (p : Add
     (tt, (tt, (tt, (id_right, (name_right, (count_right, (fetch_right, (tt, (field_right opcode.putstatic (omega arith), (tt, tt)))))))))),
   )
 
-  count_leads : LeadsWithin 11 (push_by (λ n. 0) count)
+  count_leads : LeadsWithin 11 (push_by (λ n. p.count) count)
   count_leads =
-      subst (AllByRecursion (λ (to : ℕ). to < 11)) (sym (no_targets (push_by (λ n. 0) count) (inl (flow_push_by (λ n. 0) count)))) tt
+      subst (AllByRecursion (λ (to : ℕ). to < 11)) (sym (no_targets (push_by (λ n. p.count) count) (inl (flow_push_by (λ n. p.count) count)))) tt
 
   all_lead : AllByRecursion (LeadsWithin 11) coded.insns
   all_lead = (
@@ -151,7 +150,7 @@ module _ (twin : ClassFile) (owner : List ℕ) (id : ℤ) (count : ℕ) (p : Add
   all_locals : AllByRecursion (LocalsWithin 0) coded.insns
   all_locals = (
     tt,
-    (tt, (tt, (tt, (tt, (tt, (subst (AllByRecursion (λ (slot : ℕ). slot < 0)) (sym (push_by_locals (λ n. 0) count)) tt, (tt, (tt, (tt, (tt, tt)))))))))),
+    (tt, (tt, (tt, (tt, (tt, (subst (AllByRecursion (λ (slot : ℕ). slot < 0)) (sym (push_by_locals (λ n. p.count) count)) tt, (tt, (tt, (tt, (tt, tt)))))))))),
   )
 
   goes_on_within : (i : ℕ) (insn : Insn) → slice_get coded.insns i ≡ Some insn → FallsThrough insn → i + 1 < length coded.insns
@@ -183,7 +182,7 @@ module _ (twin : ClassFile) (owner : List ℕ) (id : ℤ) (count : ℕ) (p : Add
   ground = ground_of twin.pool coded
 
   abbrev frame_places : Places
-  frame_places = init_frame_places p.array (end_offset (push_count count))
+  frame_places = init_frame_places p.array (end_offset (count_text p.count count))
 
   abbrev frames : List TypeStateAt
   frames = record { at = end_place; state = init_frame } ∷ []
@@ -191,7 +190,7 @@ module _ (twin : ClassFile) (owner : List ℕ) (id : ℤ) (count : ℕ) (p : Add
   frame_writable : AreWritable ground frame_places frames
   frame_writable =
       let few = is_coded.items.text.few in
-      let array_few = class_within twin.pool p.array data_type w.array_is in
+      let array_few = class_within twin.pool p.array data_type w.field_entries.1 in
       let pool_few = w.code.pool_few in
       let up = starts.rising 10 (omega arith) in
       let end = starts.end in
@@ -211,13 +210,13 @@ module _ (twin : ClassFile) (owner : List ℕ) (id : ℤ) (count : ℕ) (p : Add
             few_locals = omega arith;
             few_stack = omega arith;
             local_places = tt;
-            stack_places = ((omega (arith, array_few, pool_few), w.array_is), tt);
+            stack_places = ((omega (arith, array_few, pool_few), w.field_entries.1), tt);
           },
           tt,
         );
       }
     where
-      rises_so : (i j : ℕ) → i < j → j ≤ 11 → get_or (init_starts (length (push_count count))) i 0 < get_or (init_starts (length (push_count count))) j 0
+      rises_so : (i j : ℕ) → i < j → j ≤ 11 → get_or (init_starts (length (count_text p.count count))) i 0 < get_or (init_starts (length (count_text p.count count))) j 0
       rises_so i j lt le = rising (length coded.insns) (length coded.items.code) coded.starts starts i j lt le
 
   begins : BeginsWith twin.pool owner method coded (entry_seen owner init_name init_type method.flags 0)
@@ -342,15 +341,14 @@ module _ (twin : ClassFile) (owner : List ℕ) (id : ℤ) (count : ℕ) (p : Add
     };
     frames = record { frame = _; single = refl; at = refl; state = refl };
     field_is = use_there 0 p.field (insns.Member opcode.getstatic p.field) (of_member (data_field owner)) (whats.Field owner data_name data_type) refl refl
-        (member_found_at twin.pool p.field (data_field owner) w.field_is (λ e. omega (arith, e))) refl;
+        (member_found_at twin.pool p.field (data_field owner) w.field_entries.0 (λ e. omega (arith, e))) refl;
     names_count = record {
       id_is = use_there 4 p.id (insns.Constant2 p.id) (of_constant (constants.Long id)) (whats.Long id) refl refl (long_found_at twin.pool p.id id w.id_is) refl;
       name_is = use_there 5 p.name (insns.Constant p.name) (of_constant constants.Text) whats.Text refl refl (string_found_at twin.pool p.name owner w.name_is) refl;
-      count_is = subst (λ (t : Bool). HasCount t uses count 0) (sym (le-leb count most_short w.code.few)) tt;
+      count_is = count_used twin.pool p.count count uses w.count_is
+          (λ more there. use_there 6 p.count (insns.Constant p.count) (of_constant (constants.Int (pos count))) (whats.Int (pos count))
+          (ap Some (loaded_so (λ n. p.count) count more)) refl there refl);
       fetch_is = use_there 7 p.fetch (insns.Member opcode.invokestatic p.fetch) (of_member fetch_method) (whats.Method runtime_class fetch_name fetch_type) refl refl
           (member_found_at twin.pool p.fetch fetch_method w.fetch_is (λ e. omega (arith, e))) refl;
     };
   }
-
-  pub init_checked : (number : ℕ) → Checked init_names (init_body number)
-  init_checked number = verified fetches.Member init_names owner id count (init_body number) (init_is number)

@@ -2,14 +2,14 @@
 use Rattle.std.proofs.Common.{◌≡◌, ◌⊎◌, inl, inr, ⊎_elim, ℕ, ◌+◌, ◌%◌, ◌<◌, ◌≤◌, Bool, true, false, List, [], ◌∷◌, ◌++◌, length, map, nat_le, pos, w16, if◌then◌else◌, refl, sym, ◌∙◌, ap, subst, arith}
 use Rattle.std.specs.Prelude.{FitsSigned}
 use Rattle.std.specs.Int.{cast_signed}
-use Rattle.std.proofs.lemmas.Bool.{cases_lt}
+use Rattle.std.proofs.lemmas.Bool.{cases_lt, leb-true}
 use Rattle.std.proofs.lemmas.Int.{fits_signed_from_abs}
 use Rattle.std.proofs.lemmas.List.Elements.{All-nil}
 use Rattle.jc_bytes.specs.BigNumbers.{short}
 use Rattle.jc_methods.specs.Insn.{IsWellFormed, with_places}
 use Rattle.jc_methods.specs.InsnForm.{form_of}
 use Rattle.jc_methods.specs.Opcode as opcode
-use Rattle.jc_methods.specs.ProbeMembers.{most_probes, most_short}
+use Rattle.jc_methods.specs.ProbeMembers.{most_short}
 use Rattle.jc_methods.specs.Starts.{insn_number}
 use Rattle.jc_methods.specs.declared.form.Form.TheVariants as forms
 use Rattle.jc_methods.specs.declared.insn.Insn.{Insn}
@@ -22,14 +22,13 @@ use Rattle.jc_insn.proofs.OperandsSpelledLaws.{item_of, one_number}
 use Rattle.jc_insn.proofs.ReadBackLaws.{big_short, short_size, short_target}
 use Rattle.jc_insn.proofs.ShortestSpellingLaws.{Fits, near_text_is}
 use Rattle.jc_emit.specs.Added.{InitPlaces, end_place, init_code}
-use Rattle.jc_emit.specs.Marks.{push}
-use Rattle.jc_emit.proofs.PlacedLaws.{places_push}
+use Rattle.jc_emit.specs.Marks.{push, push_by}
+use Rattle.jc_emit.proofs.PlacedLaws.{places_push_by}
 use Rattle.jc_layout.proofs.FormedLaws.{push_formed}
 use Rattle.jc_layout.proofs.CallLaws.{call_form}
-use Rattle.jc_instrument_code.specs.InitText.{init_bytes, push_count}
+use Rattle.jc_instrument_code.specs.InitText.{count_text, init_bytes, push_count}
 use Rattle.jc_instrument_code.proofs.InitLaws.{push_byte, push_short, push_small}
 use Rattle.jc_instrument_reread.specs.InitRead.{init_starts}
-use Rattle.jc_instrument_reread.proofs.PushLaws.{pushed_so}
 
 -- ---- the number of probes
 
@@ -65,23 +64,23 @@ push_item at n lt le =
 
 -- ---- items
 
-simple_item : (at op : ℕ) → form_of op ≡ forms.Simple → IsItem at (op ∷ []) (items.Insn (insns.Simple op))
+pub simple_item : (at op : ℕ) → form_of op ≡ forms.Simple → IsItem at (op ∷ []) (items.Insn (insns.Simple op))
 unfolding operands
 simple_item at op form = item_of at op forms.Simple [] (items.Insn (insns.Simple op)) form (refl, refl)
 
-member_item : (at op place : ℕ) → form_of op ≡ forms.Member → place < 65536 → IsItem at (op ∷ short place) (items.Insn (insns.Member op place))
+pub member_item : (at op place : ℕ) → form_of op ≡ forms.Member → place < 65536 → IsItem at (op ∷ short place) (items.Insn (insns.Member op place))
 unfolding operands
 member_item at op place form lt =
     item_of at op forms.Member (short place) (items.Insn (insns.Member op place)) form
     (one_number 2 (λ v. items.Insn (insns.Member op v)) place (short place) (items.Insn (insns.Member op place)) (big_short place lt) refl)
 
-long_item : (at place : ℕ) → place < 65536 → IsItem at (opcode.ldc2_w ∷ short place) (items.Insn (insns.Constant2 place))
+pub long_item : (at place : ℕ) → place < 65536 → IsItem at (opcode.ldc2_w ∷ short place) (items.Insn (insns.Constant2 place))
 unfolding operands form_of
 long_item at place lt =
     item_of at opcode.ldc2_w forms.Constant2 (short place) (items.Insn (insns.Constant2 place)) refl
     (one_number 2 (λ v. items.Insn (insns.Constant2 v)) place (short place) (items.Insn (insns.Constant2 place)) (big_short place lt) refl)
 
-text_item : (at place : ℕ) → place < 65536 → IsItem at (opcode.ldc_w ∷ short place) (items.Insn (insns.Constant place))
+pub text_item : (at place : ℕ) → place < 65536 → IsItem at (opcode.ldc_w ∷ short place) (items.Insn (insns.Constant place))
 unfolding operands form_of
 text_item at place lt =
     item_of at opcode.ldc_w forms.ConstantShort (short place) (items.Insn (insns.Constant place)) refl
@@ -98,6 +97,16 @@ jump_item at op distance form low few =
     item_of at op forms.Jump (short distance) (items.Insn (insns.Jump op (at + distance))) form
     (one_number 2 (λ v. items.Insn (insns.Jump op (target_of at (cast_signed w16 v)))) distance (short distance)
     (items.Insn (insns.Jump op (at + distance))) (big_short distance (omega (arith, few))) (ap (λ (to : ℕ). items.Insn (insns.Jump op to)) (sym target)))
+
+-- the push of the number of probes, or the load of its Integer
+count_item_by : (at integer count : ℕ) (small : Bool) → nat_le count most_short ≡ small → at < 4294967296 → integer < 65536
+    → IsItem at (if small then push_count count else opcode.ldc_w ∷ short integer) (items.Insn (if small then push count else insns.Constant integer))
+count_item_by at integer count true is lt fits = push_item at count lt (leb-true count most_short is)
+count_item_by at integer count false is lt fits = text_item at integer fits
+
+pub count_item : (at integer count : ℕ) → at < 4294967296 → integer < 65536
+    → IsItem at (count_text integer count) (items.Insn (push_by (λ n. integer) count))
+count_item at integer count lt fits = count_item_by at integer count (nat_le count most_short) refl lt fits
 
 -- ---- forms
 
@@ -117,7 +126,7 @@ pop_form : form_of opcode.pop ≡ forms.Simple
 unfolding form_of
 pop_form = refl
 
-return_form : form_of opcode.areturn ≡ forms.Simple
+pub return_form : form_of opcode.areturn ≡ forms.Simple
 unfolding form_of
 return_form = refl
 
@@ -128,16 +137,16 @@ test_form = refl
 -- ---- one instruction in front of others
 
 -- the instructions from an offset on
-record Rest (at : ℕ) : Type 0 where
-  bytes : List ℕ
-  code : List Insn
-  starts : List ℕ
-  spelled : SpellsFrom at bytes code starts
+pub record Rest (at : ℕ) : Type 0 where
+  pub bytes : List ℕ
+  pub code : List Insn
+  pub starts : List ℕ
+  pub spelled : SpellsFrom at bytes code starts
 
-no_more : (at : ℕ) → Rest at
+unfoldable pub no_more : (at : ℕ) → Rest at
 no_more at = record { bytes = []; code = []; starts = at ∷ []; spelled = (refl, refl) }
 
-one_more : (at next : ℕ) (text : List ℕ) (insn : Insn) → IsItem at text (items.Insn insn) → at + length text ≡ next → Rest next → Rest at
+unfoldable pub one_more : (at next : ℕ) (text : List ℕ) (insn : Insn) → IsItem at text (items.Insn insn) → at + length text ≡ next → Rest next → Rest at
 one_more at next text insn item is rest = record {
   bytes = text ++ rest.bytes;
   code = insn ∷ rest.code;
@@ -153,17 +162,25 @@ one_more at next text insn item is rest = record {
   );
 }
 
-three : (at op place : ℕ) → at + length (op ∷ short place) ≡ 3 + at
+pub three : (at op place : ℕ) → at + length (op ∷ short place) ≡ 3 + at
 three at op place = let size = short_size place in omega (arith, size)
 
 -- ---- the length of the push
 
-pushed_length : (n : ℕ) → (length (push_count n) ≡ 1) ⊎ ((length (push_count n) ≡ 2) ⊎ (length (push_count n) ≡ 3))
-pushed_length n =
+short_length : (n : ℕ) → (length (push_count n) ≡ 1) ⊎ ((length (push_count n) ≡ 2) ⊎ (length (push_count n) ≡ 3))
+short_length n =
     ⊎_elim (λ more.
     ⊎_elim (λ many. inr (inr (let e = ap (λ (l : List ℕ). length l) (push_short n many) in let size = short_size n in omega (arith, e, size))))
     (λ few. inr (inl (ap (λ (l : List ℕ). length l) (push_byte n more few)))) (cases_lt 127 n))
     (λ few. inl (ap (λ (l : List ℕ). length l) (push_small n few))) (cases_lt 5 n)
+
+length_by : (integer n : ℕ) (small : Bool) → let text = if small then push_count n else opcode.ldc_w ∷ short integer in
+    (length text ≡ 1) ⊎ ((length text ≡ 2) ⊎ (length text ≡ 3))
+length_by integer n true = short_length n
+length_by integer n false = inr (inr (let size = short_size integer in omega (arith, size)))
+
+pub pushed_length : (integer n : ℕ) → (length (count_text integer n) ≡ 1) ⊎ ((length (count_text integer n) ≡ 2) ⊎ (length (count_text integer n) ≡ 3))
+pushed_length integer n = length_by integer n (nat_le n most_short)
 
 -- the last instruction has its number
 end_number : (k : ℕ) → (k ≡ 1) ⊎ ((k ≡ 2) ⊎ (k ≡ 3)) → insn_number (init_starts k) (21 + k) ≡ end_place
@@ -173,10 +190,10 @@ end_number k (inr (inr is)) = ap (λ (n : ℕ). insn_number (init_starts n) (21 
 
 -- ---- the code
 
-module _ (p : InitPlaces) (count : ℕ) (few : count ≤ most_probes) (field : p.field < 65536) (id : p.id < 65536)
+module _ (p : InitPlaces) (count : ℕ) (integer : p.count < 65536) (field : p.field < 65536) (id : p.id < 65536)
     (name : p.name < 65536) (fetch : p.fetch < 65536) where
   abbrev pushed : List ℕ
-  pushed = push_count count
+  pushed = count_text p.count count
 
   abbrev k : ℕ
   k = length pushed
@@ -190,7 +207,7 @@ module _ (p : InitPlaces) (count : ℕ) (few : count ≤ most_probes) (field : p
       ∷ insns.Simple opcode.pop
       ∷ insns.Constant2 p.id
       ∷ insns.Constant p.name
-      ∷ push count
+      ∷ push_by (λ n. p.count) count
       ∷ insns.Member opcode.invokestatic p.fetch
       ∷ insns.Simple opcode.dup
       ∷ insns.Member opcode.putstatic p.field
@@ -198,7 +215,7 @@ module _ (p : InitPlaces) (count : ℕ) (few : count ≤ most_probes) (field : p
       ∷ []
 
   k_few : k ≤ 3
-  k_few = ⊎_elim (λ a. omega (arith, a)) (λ more. ⊎_elim (λ a. omega (arith, a)) (λ a. omega (arith, a)) more) (pushed_length count)
+  k_few = ⊎_elim (λ a. omega (arith, a)) (λ more. ⊎_elim (λ a. omega (arith, a)) (λ a. omega (arith, a)) more) (pushed_length p.count count)
 
   from_call : Rest (14 + k)
   from_call =
@@ -215,7 +232,7 @@ module _ (p : InitPlaces) (count : ℕ) (few : count ≤ most_probes) (field : p
       one_more 7 8 (opcode.pop ∷ []) (insns.Simple opcode.pop) (simple_item 7 opcode.pop pop_form) refl
       (one_more 8 11 (opcode.ldc2_w ∷ short p.id) (insns.Constant2 p.id) (long_item 8 p.id id) (three 8 opcode.ldc2_w p.id)
       (one_more 11 14 (opcode.ldc_w ∷ short p.name) (insns.Constant p.name) (text_item 11 p.name name) (three 11 opcode.ldc_w p.name)
-      (one_more 14 (14 + k) pushed (push count) (push_item 14 count (omega arith) few) refl from_call)))
+      (one_more 14 (14 + k) pushed (push_by (λ n. p.count) count) (count_item 14 p.count count (omega arith) integer) refl from_call)))
 
   whole : Rest 0
   whole =
@@ -236,8 +253,8 @@ module _ (p : InitPlaces) (count : ℕ) (few : count ≤ most_probes) (field : p
   code_named : init_code p count ≡ map (with_places number) spelled
   code_named =
       let target : end_place ≡ number (4 + (17 + k)) =
-      sym (end_number k (pushed_length count)) ∙ ap number (let e : 21 + k ≡ 4 + (17 + k) = omega arith in e) in
-      let same = pushed_so (λ n. p.count) count few ∙ sym (places_push number count) in λ i.
+      sym (end_number k (pushed_length p.count count)) ∙ ap number (let e : 21 + k ≡ 4 + (17 + k) = omega arith in e) in
+      let same = sym (places_push_by number (λ n. p.count) count) in λ i.
       insns.Member opcode.getstatic p.field
       ∷ insns.Simple opcode.dup
       ∷ insns.Jump opcode.ifnonnull (target i)

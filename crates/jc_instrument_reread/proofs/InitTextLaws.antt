@@ -5,6 +5,7 @@ use Rattle.std.specs.Str.{bytes_eq}
 use Rattle.jc_bytes.specs.Counted.{counted}
 use Rattle.jc_bytes.specs.Grammar.{Grammar}
 use Rattle.jc_bytes.specs.BigNumbers.{short}
+use Rattle.jc_methods.specs.declared.probe_members.Fetch.TheVariants as fetches
 use Rattle.jc_frames.specs.FullFrames as frames
 use Rattle.jc_insn.proofs.ReadBackLaws.{big_short, short_size}
 use Rattle.jc_pool.specs.Pool.{PoolValue}
@@ -14,10 +15,10 @@ use Rattle.jc_body.specs.CodeForm.{code_form, line_table, row, var_table, IsCode
 use Rattle.jc_body.specs.Coded.{HasCode, IsCoded}
 use Rattle.jc_body.specs.StackMap.{stack_maps}
 use Rattle.jc_emit.specs.Added.{end_place, init_frame, init_stack}
-use Rattle.jc_instrument_code.specs.InitText.{end_offset, init_bytes, init_frame_places, init_frames, init_text, named_places, push_count}
+use Rattle.jc_instrument_code.specs.InitText.{end_offset, init_bytes, init_frame_places, init_frames, init_text, named_places, count_text}
 use Rattle.jc_instrument_code.specs.TwinCode.{kind_vars_name, lines_name, vars_name}
 use Rattle.jc_instrument_code.specs.declared.init.AddedPlaces.{AddedPlaces}
-use Rattle.jc_instrument_code.proofs.InitLaws.{init_size, push_few}
+use Rattle.jc_instrument_code.proofs.InitLaws.{init_size, count_few}
 use Rattle.jc_instrument_reread.specs.InitRead.{IsWrittenInit, init_coded, init_items}
 use Rattle.jc_instrument_reread.specs.WrittenCode.{frames_name}
 use Rattle.jc_instrument_reread.proofs.CodedLaws.{form_text, readable}
@@ -53,9 +54,9 @@ frame_few array pushed =
 
 -- ---- the attribute
 
-module _ (pool : PoolValue) (p : AddedPlaces) (count : ℕ) (w : IsWrittenInit pool p count) where
+module _ (pool : PoolValue) (p : AddedPlaces) (count : ℕ) (w : IsWrittenInit fetches.Member pool p) where
   abbrev pushed : List ℕ
-  pushed = push_count count
+  pushed = count_text p.count count
 
   no_rows : (counted row).Text (short 0) []
   no_rows = (0, short 0, [], sym (append-nil (short 0)), big_short 0 (omega arith), (refl, refl))
@@ -66,29 +67,29 @@ module _ (pool : PoolValue) (p : AddedPlaces) (count : ℕ) (w : IsWrittenInit p
   items_read : (code_form pool).Text (init_text (named_places p) p.frames p.array count) (init_items p count)
   items_read =
       let size = size_is in
-      let few = push_few count in
+      let few = count_few p.count count in
       form_text pool init_stack 0 (init_bytes (named_places p) pushed) (short 0) [] (init_frames p.frames p.array pushed ∷ []) (omega arith) (omega arith)
       (omega (arith, size, few)) no_rows (omega arith)
-      (readable pool w.pool_few (init_frames p.frames p.array pushed ∷ []) ((frames_name, w.frames_named), tt) (frame_few p.array pushed, tt))
+      (readable pool w.pool_few (init_frames p.frames p.array pushed ∷ []) ((frames_name, w.field.1), tt) (frame_few p.array pushed, tt))
 
   text_read : IsCodeText pool (init_text (named_places p) p.frames p.array count) (init_items p count)
   text_read = record {
     text = items_read;
     some = let size = size_is in omega (arith, size);
-    few = let size = size_is in let few = push_few count in omega (arith, size, few);
+    few = let size = size_is in let few = count_few p.count count in omega (arith, size, few);
   }
 
   -- the method that has this code is read so
   pub init_coded_back : (method : Member) → HasCode pool method (init_text (named_places p) p.frames p.array count) → IsCoded pool method (init_coded p count)
   init_coded_back method code = record {
     items = record { bytes = init_text (named_places p) p.frames p.array count; code = code; text = text_read };
-    spelled = init_spelled (named_places p) count w.few w.field w.id w.name w.fetch;
+    spelled = init_spelled (named_places p) count w.count w.field.0 w.id w.name w.fetch_method;
   }
 
   no_entries : {X : Type 0} (table : Grammar (List X)) (name : List ℕ) → bytes_eq frames_name name ≡ false
       → AreEntries table (bodies_of pool name (init_items p count).attributes) []
   no_entries table name other =
-      subst (λ (l : List (List ℕ)). AreEntries table l []) (sym (no_bodies pool name frames_name other (init_items p count).attributes (w.frames_named, tt)))
+      subst (λ (l : List (List ℕ)). AreEntries table l []) (sym (no_bodies pool name frames_name other (init_items p count).attributes (w.field.1, tt)))
       refl
 
   -- it has no other attribute than its frames'
@@ -101,4 +102,4 @@ module _ (pool : PoolValue) (p : AddedPlaces) (count : ℕ) (w : IsWrittenInit p
 
   pub init_stack_maps : stack_maps pool (init_coded p count)
       ≡ frames.table_text (init_frame_places p.array (end_offset pushed)) (record { at = end_place; state = init_frame } ∷ []) ∷ []
-  init_stack_maps = all_bodies pool frames_name (init_frames p.frames p.array pushed ∷ []) (w.frames_named, tt)
+  init_stack_maps = all_bodies pool frames_name (init_frames p.frames p.array pushed ∷ []) (w.field.1, tt)

@@ -1,31 +1,41 @@
 -- What stands in a constant pool stands there still when the pool has grown.
-use Rattle.std.proofs.Common.{◌≡◌, inr, ℕ, ℤ, List, [], Option, Some, None, refl, sym, ◌∙◌, ap, subst, arith, option_and_then}
+use Rattle.std.specs.Prelude.{⊤}
+use Rattle.std.proofs.Common.{◌≡◌, inl, inr, ℕ, zero, suc, ◌<◌, ℤ, pos, List, [], Option, Some, None, refl, sym, ◌∙◌, ap, subst, arith, option_and_then}
 use Rattle.std.specs.Option.{option_map}
 use Rattle.std.proofs.lemmas.Option.{none-some, same_Some}
 use Rattle.jc_bytes.proofs.DecoderLaws.{bind_some}
 use Rattle.jc_bytes.specs.Decoder.{◌>>=◌}
-use Rattle.jc_bytes.specs.Descriptor.{Array, Boolean, IsMethodDescriptor}
-use Rattle.jc_methods.specs.InsnUse.{pool_place}
+use Rattle.jc_bytes.specs.Descriptor.{Array, Boolean, IsFieldDescriptor, IsMethodDescriptor}
+use Rattle.jc_methods.specs.InsnUse.{pool_place, IsOfTwoSlots}
 use Rattle.jc_methods.specs.declared.body.What.{What}
+use Rattle.jc_methods.specs.declared.body.What.TheVariants as whats
 use Rattle.jc_methods.specs.declared.insn.Insn.{Insn}
+use Rattle.jc_methods.specs.declared.insn.Insn.TheVariants as insns
+use Rattle.jc_methods.specs.Opcode as opcode
+use Rattle.jc_methods.specs.declared.probe_members.Fetch.{Fetch}
 use Rattle.jc_methods.specs.declared.probe_members.Fetch.TheVariants as fetches
 use Rattle.jc_pool.specs.declared.constant.ConstText.{ConstText}
 use Rattle.jc_pool.specs.declared.constant.ConstText.TheVariants as constants
 use Rattle.jc_pool.specs.declared.entry.Entry.{Entry}
 use Rattle.jc_pool.specs.declared.entry.Entry.TheVariants as entry
 use Rattle.jc_pool.specs.Adding.{Extends}
-use Rattle.jc_pool.specs.Lookup.{entry_of, long_in, long_of, string_of, utf8_of, class_in, class_name_of, Signature, signature_of, Member, dynamic_of, ref_in, reference_of, member_in, member_of, computed_in, computed_of, where_named, const_in, const_of}
+use Rattle.jc_pool.specs.Lookup.{entry_of, integer_in, integer_of, Computed, long_in, long_of, string_of, utf8_of, class_in, class_name_of, Signature, signature_of, Member, dynamic_of, ref_in, reference_of, member_in, member_of, computed_in, computed_of, where_named, const_in, const_of}
 use Rattle.jc_pool.specs.Pool.{PoolValue}
 use Rattle.jc_pool.specs.declared.index.Naming.TheVariants as naming
 use Rattle.jc_pool.proofs.KeyPlaceLaws.{has_name}
 use Rattle.jc_pool.proofs.AddedLaws.{entry_kept, utf8_kept}
 use Rattle.jc_pool.proofs.AddedMemberLaws.{signature_kept, member_kept}
 use Rattle.jc_body.proofs.ComputedLaws.{linked_by, computed_by, not_computed}
-use Rattle.jc_body.specs.Standing.{Found, of_member, of_constant, found_in, found_at, what_of, what_at, EntrySuits, PlaceSuits, HasRightEntry}
-use Rattle.jc_methods.specs.ProbeMembers.{init_type}
-use Rattle.jc_emit.specs.Marks.{invokestatic}
+use Rattle.jc_body.specs.Standing.{Found, of_class, of_computed, of_member, of_constant, found_in, found_at, what_of, what_at, EntrySuits, PlaceSuits, HasRightEntry}
+use Rattle.jc_methods.specs.ProbeMembers.{constant_type, data_type, init_type}
+use Rattle.jc_emit.specs.Marks.{invokestatic, prelude_size, prelude_insn}
 use Rattle.jc_emit.specs.Added.{giver_of}
-use Rattle.jc_instrument_reread.specs.Written.{init_method}
+use Rattle.jc_instrument_reread.specs.Written.{array_constant, init_method, HasGiver}
+use Rattle.jc_instrument_reread.specs.ReadCode.{code_places}
+use Rattle.jc_instrument_code.specs.declared.code.CodePlaces.{CodePlaces}
+use Rattle.jc_bytes.proofs.DecidingLaws.{field_text_decided}
+use Rattle.jc_bytes.specs.Deciding.{after_types}
+use Rattle.jc_bytes.specs.DescriptorReading.{after_type, after_brackets, after_name}
 
 -- ---- by entries
 
@@ -198,6 +208,27 @@ string_found_at pool place text is =
     let n = has_name naming.String pool place text is in
     found_is pool place (entry.String n.0) n.1 ∙ ap (λ (o : Option (List ℕ)). found_in None None None (where_named constants.Text o)) n.2
 
+integer_entry : (e : Entry) (value : ℤ) → integer_in e ≡ Some value → e ≡ entry.Integer value
+integer_entry (entry.Integer other) value is = ap entry.Integer (same_Some other value is)
+integer_entry e value is = absurd (none-some value is)
+
+pub integer_found_at : (pool : PoolValue) (place : ℕ) (value : ℤ) → integer_of pool place ≡ Some value
+    → found_at pool place ≡ Some (of_constant (constants.Int value))
+unfolding integer_of
+integer_found_at pool place value is =
+    let e = bind_some (entry_of pool place) integer_in value is in
+    found_is pool place (entry.Integer value) (e.1 ∙ ap Some (integer_entry e.0 value e.2))
+
+pub class_found_at : (pool : PoolValue) (place : ℕ) (name : List ℕ) → class_name_of pool place ≡ Some name → found_at pool place ≡ Some (of_class name)
+class_found_at pool place name is =
+    let n = has_name naming.Class pool place name is in
+    found_is pool place (entry.Class n.0) n.1
+    ∙ ap (λ (o : Option (List ℕ)). found_in None None o (where_named constants.Class o)) n.2
+
+pub computed_found_at : (pool : PoolValue) (place : ℕ) (c : Computed) → computed_of pool place ≡ Some c → found_at pool place ≡ Some (of_computed c)
+unfolding found_at
+computed_found_at pool place c is = λ i. found_in (is i) (member_of pool place) (class_name_of pool place) (const_of pool place)
+
 -- ---- the method that the prelude calls
 
 pub init_described : IsMethodDescriptor init_type
@@ -214,8 +245,58 @@ module _ (pool : PoolValue) (owner : List ℕ) (call : ℕ) (is : member_of pool
   call_found : found_at pool call ≡ Some (of_member (init_method owner))
   call_found = member_found_at pool call (init_method owner) is (λ e. omega (arith, e))
 
-  pub call_what : what_at pool call ≡ Some (giver_of fetches.Member owner 0)
+  call_what : what_at pool call ≡ Some (giver_of fetches.Member owner 0)
   call_what = ap (option_and_then what_of) call_found
 
-  pub call_right : (major : ℕ) → HasRightEntry major pool (invokestatic call)
+  call_right : (major : ℕ) → HasRightEntry major pool (invokestatic call)
   call_right major = subst (EntrySuits major (invokestatic call)) (sym call_found) (record { kind = inr (omega arith, init_described); tag = λ e. absurd (omega (arith, e)) })
+
+-- ---- the constant that the prelude loads, and the class to which it is cast
+
+constant_described : IsFieldDescriptor constant_type
+unfolding after_types after_type after_brackets after_name
+constant_described = (field_text_decided constant_type).to refl
+
+constant_small : IsOfTwoSlots constant_type → ⊥
+constant_small (inl e) = cc
+constant_small (inr e) = cc
+
+-- the class of the array is used, where the prelude casts a constant to it
+abbrev pub HasArray : Fetch → PoolValue → (place : ℕ) → Type 0
+HasArray fetches.Member pool place = ⊤
+HasArray fetches.Constant pool place = what_at pool place ≡ Some (whats.Class data_type)
+
+module _ (pool : PoolValue) (owner : List ℕ) (bootstrap : ℕ) (places : CodePlaces) where
+  -- what gives the array of probes
+  pub giver_what : (fetch : Fetch) → HasGiver fetch pool owner bootstrap places → what_at pool places.giver ≡ Some (giver_of fetch owner bootstrap)
+  giver_what fetches.Member is = call_what pool owner places.giver is
+  giver_what fetches.Constant is = ap (option_and_then what_of) (computed_found_at pool places.giver (array_constant bootstrap) is.0)
+
+  -- the class of the array, where it is named
+  pub array_what : (fetch : Fetch) → HasGiver fetch pool owner bootstrap places → HasArray fetch pool places.array
+  array_what fetches.Member is = tt
+  array_what fetches.Constant is = ap (option_and_then what_of) (class_found_at pool places.array data_type is.1)
+
+  -- each instruction of the prelude names an entry of the kind that it needs
+  pub prelude_right : (fetch : Fetch) → HasGiver fetch pool owner bootstrap places → (integer : ℕ → ℕ) (major v k : ℕ) → k < prelude_size fetch
+      → HasRightEntry major pool (prelude_insn fetch (code_places places integer) v k)
+  prelude_right fetches.Member is integer major v zero lt = call_right pool owner places.giver is major
+  prelude_right fetches.Member is integer major v (suc zero) lt = tt
+  prelude_right fetches.Member is integer major v (suc (suc k)) lt = absurd (omega (arith, lt))
+  prelude_right fetches.Constant is integer major v zero lt =
+      subst (EntrySuits major (insns.Constant places.giver)) (sym (computed_found_at pool places.giver (array_constant bootstrap) is.0))
+      (record { kind = (constant_described, constant_small); tag = tt })
+  prelude_right fetches.Constant is integer major v (suc zero) lt =
+      subst (EntrySuits major (insns.OfClass opcode.checkcast places.array)) (sym (class_found_at pool places.array data_type is.1))
+      (record { kind = tt; tag = tt })
+  prelude_right fetches.Constant is integer major v (suc (suc zero)) lt = tt
+  prelude_right fetches.Constant is integer major v (suc (suc (suc k))) lt = absurd (omega (arith, lt))
+
+-- ---- Integers
+
+pub integer_what : (pool : PoolValue) (place n : ℕ) → integer_of pool place ≡ Some (pos n) → what_at pool place ≡ Some (whats.Int (pos n))
+integer_what pool place n is = ap (option_and_then what_of) (integer_found_at pool place (pos n) is)
+
+pub integer_right : (pool : PoolValue) (place n major : ℕ) → integer_of pool place ≡ Some (pos n) → HasRightEntry major pool (insns.Constant place)
+integer_right pool place n major is =
+    subst (EntrySuits major (insns.Constant place)) (sym (integer_found_at pool place (pos n) is)) (record { kind = tt; tag = tt })

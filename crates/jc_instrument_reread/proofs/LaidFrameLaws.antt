@@ -26,7 +26,7 @@ use Rattle.jc_frames.specs.FullTable.{HasPlace, named_by_all, FitsFull}
 use Rattle.jc_kinds.specs.Answers.{AreStates}
 use Rattle.jc_kinds_after.specs.Shift.{shifted}
 use Rattle.jc_emit.specs.Marks.{TwinPlaces, unplaced}
-use Rattle.jc_emit.specs.Emission.{Emitting, emission, widened_frame, HasFrameStates, IsArrayNumber}
+use Rattle.jc_emit.specs.Emission.{Emitting, emission, widened_frame, HasFrameStates, IsArrayNumber, AreFramesInForm}
 use Rattle.jc_emit.specs.Items.{insn_of, image_of, twin_items}
 use Rattle.jc_emit.specs.Shift.{image_kind}
 use Rattle.jc_emit.specs.Straddling.{NoneStraddles}
@@ -40,6 +40,8 @@ use Rattle.jc_instrument_reread.proofs.PoolInsnLaws.{same_there}
 use Rattle.jc_instrument_reread.proofs.RenamedLaws.{all_named_renamed}
 use Rattle.jc_instrument_reread.proofs.ShiftedStateLaws.{shifted_sayable}
 use Rattle.jc_instrument_reread.proofs.WritableFrameLaws.{IsSayable, HasNewAt, IsFine, are_writable}
+use Rattle.jc_instrument_reread.specs.WrittenCode.{ready_emission}
+use Rattle.jc_layout.proofs.ReadyLaws.{ready_frames, ready_insns}
 
 -- ---- the frames of a layout
 
@@ -91,17 +93,18 @@ all_listed : (names : Names) (Fact : TypeStateAt → Type 0) (frames : List Fram
 all_listed names Fact [] each = tt
 all_listed names Fact (f ∷ frames) each = (each f (first_in f frames), all_listed names Fact frames (λ g c. each g (later_in f frames g c)))
 
-module _ (names : Names) (b : Body) (first : ℕ) (states : List State) (given : Emitting) (well : IsWellMadeOfAnySize b) (are : AreStates names b states)
+module _ (names : Names) (b : Body) (first : ℕ) (states : List State) (given : Emitting) (giver : ℕ) (well : IsWellMadeOfAnySize b) (are : AreStates names b states)
     (fit : HasFrameStates b states) (free : NoneStraddles b) (array_is : IsArrayNumber names given.array) where
   abbrev e : Emitted
-  e = emission b first states given
+  e = ready_emission b first states given giver
 
   -- the code of the layout
   pub insns_are : (wide : List Bool) (named : TwinPlaces) → named.integer ≡ given.integer
-      → with_prelude given.fetch named (laid_code wide (emission b first states given).code) ≡ map (insn_of named b.arg_slots) (twin_items b first (laid_form b first given.fetch wide))
+      → with_prelude given.fetch named (laid_code wide (ready_emission b first states given giver).code) ≡ map (insn_of named b.arg_slots) (twin_items b first (laid_form b first given.fetch wide))
   unfolding emission
   insns_are wide named same =
-      ap (with_prelude given.fetch named) (laid_is b first given.fetch (unplaced given.integer) wide well.code)
+      ready_insns b first states given wide named giver
+      ∙ ap (with_prelude given.fetch named) (laid_is b first given.fetch (unplaced given.integer) wide well.code)
       ∙ called b first (laid_form b first given.fetch wide) named (unplaced given.integer) same
 
   module _ (wide : List Bool) (named : TwinPlaces) (g : Ground) (code_is : g.code ≡ map (insn_of named b.arg_slots) (twin_items b first (laid_form b first given.fetch wide)))
@@ -116,9 +119,14 @@ module _ (names : Names) (b : Body) (first : ℕ) (states : List State) (given :
         ∙ same_there b first (laid_form b first given.fetch wide) named well.code at place (insns.OfClass opcode.new place) is refl in
         (slice_get_within g.code (image_of b first (laid_form b first given.fetch wide) at) (insns.OfClass opcode.new place) there, ap is_new there)
 
-    one_fine : (f : FrameAt) → Contains (laid_frames wide (emission b first states given)) f → IsFine g (type_state_at names f)
+    told : AreFramesInForm names states first b (laid_form b first given.fetch wide) (laid_frames wide (ready_emission b first states given giver))
+    told =
+        subst (AreFramesInForm names states first b (laid_form b first given.fetch wide)) (sym (ready_frames b first states given wide giver))
+        (laid_told b first states given names well fit array_is wide)
+
+    one_fine : (f : FrameAt) → Contains (laid_frames wide (ready_emission b first states given giver)) f → IsFine g (type_state_at names f)
     one_fine f c =
-        let asked = (laid_told b first states given names well fit array_is wide).each f c in
+        let asked = told.each f c in
         let good = asked_good names b first states well are fit free (laid_form b first given.fetch wide) f.at asked.0 asked.1 in
         let said = shifted_sayable names b (image_of b first (laid_form b first given.fetch wide)) (HasNewAt g) asked.0 well.arguments_fit new_there good.1 in
         let count = count_is in
@@ -137,9 +145,9 @@ module _ (names : Names) (b : Body) (first : ℕ) (states : List State) (given :
         → ((at : ℕ) → p.start at ≡ slice_index g.starts at)
         → ((name : List ℕ) (place : ℕ) → IsFirst (class_name_of g.pool) name place → p.class name ≡ place)
         → g.max_locals ≤ 65535 → g.max_stack ≤ 65535
-        → AllByRecursion (HasPlace g.pool) (named_by_all (map (type_state_at names) (frames_of wide (emission b first states given))))
-        → AreWritable g p (map (type_state_at names) (laid_frames wide (emission b first states given)))
+        → AllByRecursion (HasPlace g.pool) (named_by_all (map (type_state_at names) (frames_of wide (ready_emission b first states given giver))))
+        → AreWritable g p (map (type_state_at names) (laid_frames wide (ready_emission b first states given giver)))
     laid_writable p size starts few start class few_locals few_stack stand =
-        are_writable g p size starts few start class few_locals few_stack names (laid_frames wide e) ((laid_told b first states given names well fit array_is wide).rising)
+        are_writable g p size starts few start class few_locals few_stack names (laid_frames wide e) told.rising
         (all_listed names (IsFine g) (laid_frames wide e) one_fine)
         (subst (AllByRecursion (HasPlace g.pool)) (sym (laid_named wide names e)) stand)

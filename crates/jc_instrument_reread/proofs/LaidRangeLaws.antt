@@ -4,7 +4,7 @@ use Rattle.std.specs.List.{AllByRecursion}
 use Rattle.std.proofs.lemmas.Bool.{cases_lt, leb-true}
 use Rattle.std.proofs.lemmas.Int.{fits_signed_from_abs}
 use Rattle.std.proofs.lemmas.List.{get_or_past}
-use Rattle.std.proofs.lemmas.List.Elements.{All-map}
+use Rattle.std.proofs.lemmas.List.Elements.{All-cons, All-map, All-nil, All-tail}
 use Rattle.jc_bytes.proofs.EachLaws.{all_both, all_of_each}
 use Rattle.jc_methods.specs.Flow.{flow_of, jump_target, targets_of}
 use Rattle.jc_methods.specs.Insn.{with_places}
@@ -36,9 +36,11 @@ use Rattle.jc_emit.specs.Items.{Item, arm_parts, prelude, early_part, hop_part, 
 use Rattle.jc_emit.specs.Marks.{unplaced, push, push_by}
 use Rattle.jc_emit.specs.Sizes.{narrow, arms_at, early_probe, insn_at, late_probe}
 use Rattle.jc_emit.specs.TwinCode.{arm_place, to_of}
+use Rattle.jc_layout.specs.LaidBody.{ready_code}
 use Rattle.jc_layout.specs.Layout.{laid_code, laid_starts, chosen, chosen_length, chosen_list, chosen_starts, chosen_text}
 use Rattle.jc_layout.proofs.ChoiceLaws.{chosen_stand, near}
-use Rattle.jc_layout.proofs.LayableLaws.{all_formed, all_within}
+use Rattle.jc_layout.proofs.LayableLaws.{all_formed, all_within, ready_formed, ready_length}
+use Rattle.jc_instrument_reread.specs.WrittenCode.{ready_emission}
 
 -- ---- numbers of instructions
 
@@ -184,23 +186,45 @@ module _ (b : Body) (first : ℕ) (states : List State) (given : Emitting) (well
   places_fit : All (λ insn. All (λ to. to < length code) (targets_of insn)) code
   places_fit k d lt = each_of (λ to. to < length code) (targets_of (get_or code k d)) (all_within b first given.fetch given.integer well.code k d lt)
 
+-- ---- code that is ready for its layout
+
+ready_range : (fetch : Fetch) (place : ℕ) (code : List Insn) → place < 65536 → All IsInRange code → All IsInRange (ready_code fetch place code)
+ready_range fetches.Member place code lt h = h
+ready_range fetches.Constant place [] lt h = h
+ready_range fetches.Constant place (load ∷ code) lt h = All-cons IsInRange (insns.Constant place) code lt (All-tail IsInRange load code h)
+
+ready_targets : (fetch : Fetch) (n place : ℕ) (code : List Insn) → All (λ insn. All (λ to. to < n) (targets_of insn)) code
+    → All (λ insn. All (λ to. to < n) (targets_of insn)) (ready_code fetch place code)
+ready_targets fetches.Member n place code h = h
+ready_targets fetches.Constant n place [] h = h
+ready_targets fetches.Constant n place (load ∷ code) h =
+    let Fact : Insn → Type 0 = λ insn. All (λ to. to < n) (targets_of insn) in
+    All-cons Fact (insns.Constant place) code (All-nil (λ to. to < n)) (All-tail Fact load code h)
+
 -- ---- layouts
 
--- the layout that is chosen spells the instrumented code of a body whose instructions fit their types, where the places of Integers do
-pub chosen_spelled : (b : Body) (first : ℕ) (states : List State) (given : Emitting) → IsWellMadeOfAnySize b → All IsInRange b.code → b.max_locals + 1 ≤ 65535
-    → ((id : ℕ) → given.integer id < 65536) → chosen_length (emission b first states given).code ≤ 65535
-    → Spells (chosen_text (emission b first states given).code) (laid_code (chosen_list (emission b first states given).code) (emission b first states given).code)
-    (laid_starts (chosen_list (emission b first states given).code) (emission b first states given).code (chosen_starts (emission b first states given).code))
+-- The layout that is chosen spells the instrumented code of a body whose instructions fit their types, where the places of Integers and
+-- that of the constant which it loads do.
+pub chosen_spelled : (b : Body) (first : ℕ) (states : List State) (given : Emitting) (giver : ℕ) → IsWellMadeOfAnySize b → All IsInRange b.code
+    → b.max_locals + 1 ≤ 65535 → ((id : ℕ) → given.integer id < 65536) → giver < 65536
+    → chosen_length (ready_emission b first states given giver).code ≤ 65535
+    → Spells (chosen_text (ready_emission b first states given giver).code)
+    (laid_code (chosen_list (ready_emission b first states given giver).code) (ready_emission b first states given giver).code)
+    (laid_starts (chosen_list (ready_emission b first states given giver).code) (ready_emission b first states given giver).code
+    (chosen_starts (ready_emission b first states given giver).code))
 unfolding chosen_text emission
-chosen_spelled b first states given well ranges locals integers few =
-    let laid = code b first states given well ranges locals integers in
+chosen_spelled b first states given giver well ranges locals integers giver_lt few =
+    let emitted = code b first states given well ranges locals integers in
+    let laid = ready_code given.fetch giver emitted in
     let starts = chosen_starts laid in
     spells_wide (chosen laid) laid starts
     (record {
       starts_at = chosen_stand laid;
       end = omega (arith, few);
-      well_formed = all_formed b first given.fetch given.integer well.code;
-      in_range = all_fit b first states given well ranges locals integers;
-      places = places_fit b first states given well ranges locals integers;
+      well_formed = ready_formed given.fetch giver emitted (all_formed b first given.fetch given.integer well.code);
+      in_range = ready_range given.fetch giver emitted giver_lt (all_fit b first states given well ranges locals integers);
+      places =
+          subst (λ (n : ℕ). All (λ insn. All (λ to. to < n) (targets_of insn)) laid) (sym (ready_length given.fetch giver emitted))
+          (ready_targets given.fetch (length emitted) giver emitted (places_fit b first states given well ranges locals integers));
     })
     (near laid starts (chosen_list laid) refl refl)

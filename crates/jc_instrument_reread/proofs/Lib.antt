@@ -18,6 +18,7 @@ pub mod InitCodeLaws
 pub mod InitTextLaws
 pub mod WrittenCodeLaws
 pub mod TwinItemLaws
+pub mod IdPlaceLaws
 pub mod RightEntryLaws
 pub mod KeptEntryLaws
 pub mod PoolInsnLaws
@@ -31,7 +32,11 @@ pub mod WrittenRowLaws
 pub mod SourceLaws
 pub mod FreeLaws
 pub mod ReadAgainLaws
+pub mod CountLaws
+pub mod BootstrapCodeLaws
 pub mod InitAgainLaws
+pub mod BootstrapAgainLaws
+pub mod AddedAgainLaws
 pub mod SameBodyLaws
 pub mod OneBodyLaws
 pub mod AgainLaws

@@ -16,20 +16,22 @@ use Rattle.jc_methods.specs.declared.body.VarAt.{VarAt}
 use Rattle.jc_methods.specs.declared.emitted.Emitted.{Emitted}
 use Rattle.jc_methods.specs.declared.insn.Insn.{Insn}
 use Rattle.jc_methods.specs.declared.kind.State.{State}
-use Rattle.jc_methods.specs.declared.probe_members.Fetch.TheVariants as fetches
+use Rattle.jc_methods.specs.declared.probe_members.Fetch.{Fetch}
 use Rattle.jc_pool.specs.Pool.{PoolValue}
 use Rattle.jc_body.specs.Attributes.{AreTables}
 use Rattle.jc_body.specs.BodyOf.{handler_of, is_start, keeps_line, keeps_var, line_of, lines_of, var_of, vars_in, vars_of}
 use Rattle.jc_emit.specs.Sizes.{narrow}
 use Rattle.jc_emit.specs.Emission.{Emitting, emission}
 use Rattle.jc_emit.specs.Items.{lead_of}
+use Rattle.jc_emit.specs.Marks.{TwinPlaces}
 use Rattle.jc_emit.specs.TwinTables.{moved_line, moved_row}
 use Rattle.jc_layout.specs.LaidBody.{laid_body, laid_place, placed_var, with_prelude, with_place}
 use Rattle.jc_layout.specs.Layout.{laid_code, laid_starts, chosen_length, chosen_starts, chosen_text, chosen_list}
+use Rattle.jc_layout.proofs.LayableLaws.{ready_length}
 use Rattle.jc_instrument_code.specs.TwinCode.{code_attributes, offset_in, written_frames}
 use Rattle.jc_instrument_code.specs.declared.code.CodePlaces.{CodePlaces}
-use Rattle.jc_instrument_reread.specs.ReadCode.{line_at, row_at, var_at, written_coded, written_insns, written_starts, written_tables}
-use Rattle.jc_instrument_reread.specs.WrittenCode.{calling, IsWrittenCode}
+use Rattle.jc_instrument_reread.specs.ReadCode.{code_places, line_at, row_at, var_at, written_coded, written_insns, written_starts, written_tables}
+use Rattle.jc_instrument_reread.specs.WrittenCode.{ready_emission, IsWrittenCode}
 use Rattle.jc_instrument_reread.proofs.CodedLaws.{code_size}
 use Rattle.jc_instrument_reread.proofs.EntriesLaws.{IsKeptAs, same_items, same_kept}
 use Rattle.jc_instrument_reread.proofs.LandLaws.{IsRowIn, code_length, kind_vars_stand, lines_stand, locals_are, rows_stand, vars_stand}
@@ -38,7 +40,7 @@ use Rattle.jc_instrument_reread.proofs.TableLaws.{tables_back}
 
 -- ---- entry by entry
 
-module _ (code : List Insn) (call : ℕ) where
+module _ (code : List Insn) (fetch : Fetch) (p : TwinPlaces) where
   abbrev offset : ℕ → ℕ
   offset k = slice_index (chosen_starts code) k
 
@@ -49,7 +51,7 @@ module _ (code : List Insn) (call : ℕ) where
   number = insn_number (laid_starts (chosen_list code) code (chosen_starts code))
 
   abbrev count : ℕ
-  count = length (with_prelude fetches.Member (calling call) (laid_code (chosen_list code) code))
+  count = length (with_prelude fetch p (laid_code (chosen_list code) code))
 
   row_same : (h : Handler) → IsRowIn (length code) h → handler_of number (row_at offset h) ≡ moved_row place place h
   row_same h is = λ i. record {
@@ -62,7 +64,7 @@ module _ (code : List Insn) (call : ℕ) where
   starts_there : (k : ℕ) → k < length code → is_start number count (offset k) ≡ true
   starts_there k lt =
       let there = number_at code k (omega (arith, lt)) in
-      let within = place_within code call k lt in
+      let within = place_within code fetch p k lt in
       lt-ltb (number (offset k)) count (omega (arith, there, within))
 
   line_same : (l : LineAt) → IsLine (length code) l → IsKeptAs (keeps_line number count) (line_of number) (line_at offset) (moved_line place) l
@@ -128,21 +130,24 @@ module _ (code : List Insn) (call : ℕ) where
 -- ---- of a body
 
 module _ (b : Body) (first : ℕ) (states : List State) (given : Emitting) (well : IsWellMadeOfAnySize b) (pool : PoolValue) (places : CodePlaces) (names : Names)
-    (w : IsWrittenCode pool places names (emission b first states given)) where
+    (w : IsWrittenCode pool given.fetch places names (ready_emission b first states given places.giver)) where
   abbrev e : Emitted
-  e = emission b first states given
+  e = ready_emission b first states given places.giver
+
+  abbrev p : TwinPlaces
+  p = code_places places given.integer
 
   abbrev end : ℕ
   end = length e.code
 
   abbrev laid : List Use → Body
-  laid uses = laid_body b e (chosen_list e.code) fetches.Member (calling places.method) uses
+  laid uses = laid_body b e (chosen_list e.code) given.fetch p uses
 
   abbrev last : ℕ
   last = lead_of b first (narrow given.fetch) (length b.code)
 
   ends_there : end ≡ last
-  ends_there = code_length b first states given well
+  ends_there = ready_length given.fetch places.giver (emission b first states given).code ∙ code_length b first states given well
 
   all_rows : AllByRecursion (IsRowIn end) e.handlers
   all_rows = subst (λ (n : ℕ). AllByRecursion (IsRowIn n) e.handlers) (sym ends_there) (rows_stand b first states given well)
@@ -164,28 +169,28 @@ module _ (b : Body) (first : ℕ) (states : List State) (given : Emitting) (well
       (subst (λ (n : ℕ). AllByRecursion (IsVar last n) e.kind_vars) (sym locals) (kind_vars_stand b first states given well))
 
   abbrev size : ℕ
-  size = length (with_place places.method (chosen_text e.code))
+  size = length (with_place given.fetch places.giver places.array (chosen_text e.code))
 
   size_is : size ≡ chosen_length e.code
-  size_is = code_size pool places names e w
+  size_is = code_size pool given.fetch places names e w
 
   pub handlers_back : (uses : List Use) → (laid uses).handlers ≡ map (handler_of (insn_number (written_starts e))) (map (row_at (offset_in e)) e.handlers)
   unfolding laid_body
-  handlers_back uses = sym (rows_same e.code places.method e.handlers all_rows)
+  handlers_back uses = sym (rows_same e.code given.fetch p e.handlers all_rows)
 
   pub lines_back : (uses : List Use)
-      → (laid uses).lines ≡ lines_of (insn_number (written_starts e)) (length (written_insns places.method e)) (written_tables e).lines
+      → (laid uses).lines ≡ lines_of (insn_number (written_starts e)) (length (written_insns given.fetch p e)) (written_tables e).lines
   unfolding laid_body
-  lines_back uses = sym (lines_same e.code places.method e.lines all_lines)
+  lines_back uses = sym (lines_same e.code given.fetch p e.lines all_lines)
 
-  pub vars_back : (uses : List Use) → (laid uses).vars ≡ vars_in (written_coded pool places names e) (written_tables e).vars
+  pub vars_back : (uses : List Use) → (laid uses).vars ≡ vars_in (written_coded pool given.fetch places given.integer names e) (written_tables e).vars
   unfolding laid_body
-  vars_back uses = sym (vars_same e.code places.method size e.max_locals size_is e.vars all_vars)
+  vars_back uses = sym (vars_same e.code given.fetch p size e.max_locals size_is e.vars all_vars)
 
-  pub kind_vars_back : (uses : List Use) → (laid uses).kind_vars ≡ vars_in (written_coded pool places names e) (written_tables e).kind_vars
+  pub kind_vars_back : (uses : List Use) → (laid uses).kind_vars ≡ vars_in (written_coded pool given.fetch places given.integer names e) (written_tables e).kind_vars
   unfolding laid_body
-  kind_vars_back uses = sym (vars_same e.code places.method size e.max_locals size_is e.kind_vars all_kind_vars)
+  kind_vars_back uses = sym (vars_same e.code given.fetch p size e.max_locals size_is e.kind_vars all_kind_vars)
 
   -- the entries of all tables
   pub all_tables_back : AreTables pool (code_attributes pool places.frames e (written_frames names e)) (written_tables e)
-  all_tables_back = tables_back pool places names e w end all_vars all_kind_vars
+  all_tables_back = tables_back pool given.fetch places names e w end all_vars all_kind_vars

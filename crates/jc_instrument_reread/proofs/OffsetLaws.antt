@@ -3,7 +3,9 @@ use Rattle.std.proofs.Common.{◌≡◌, ℕ, ◌<◌, ◌≤◌, Bool, List, []
 use Rattle.std.specs.Prelude.{slice_index}
 use Rattle.jc_methods.specs.Starts.{insn_number}
 use Rattle.jc_methods.specs.declared.insn.Insn.{Insn}
+use Rattle.jc_methods.specs.declared.probe_members.Fetch.{Fetch}
 use Rattle.jc_methods.specs.declared.probe_members.Fetch.TheVariants as fetches
+use Rattle.jc_emit.specs.Marks.{TwinPlaces}
 use Rattle.jc_methods.specs.Widened.{listed}
 use Rattle.jc_methods.proofs.WidenedLaws.{wide_length}
 use Rattle.jc_insn.specs.Sizes.{StartAt}
@@ -13,7 +15,6 @@ use Rattle.jc_layout.specs.LaidBody.{laid_place, with_prelude}
 use Rattle.jc_layout.specs.Layout.{laid_code, laid_starts, chosen, chosen_length, chosen_list, chosen_starts}
 use Rattle.jc_layout.proofs.ChoiceLaws.{chosen_stand}
 use Rattle.jc_layout.proofs.MergedLaws.{wide_places_rise}
-use Rattle.jc_instrument_reread.specs.WrittenCode.{calling}
 use Rattle.jc_instrument_reread.proofs.StartLaws.{most_start, some_bytes, starts_grow}
 
 -- ---- where some jumps are wide
@@ -29,9 +30,12 @@ number_by wide code starts s k le = number_of_wide_start (listed wide) code star
 within_by : (wide : List Bool) (code : List Insn) (k : ℕ) → k < length code → laid_place wide code k < length (laid_code wide code)
 within_by wide code k lt = let rise = wide_places_rise (listed wide) code k (length code) lt in let size = wide_length (listed wide) code in omega (arith, rise, size)
 
-called_length : (call : ℕ) (code : List Insn) → length (with_prelude fetches.Member (calling call) code) ≡ length code
-called_length call [] = refl
-called_length call (insn ∷ code) = refl
+prelude_length : (fetch : Fetch) (p : TwinPlaces) (code : List Insn) → length (with_prelude fetch p code) ≡ length code
+prelude_length fetches.Member p [] = refl
+prelude_length fetches.Member p (insn ∷ code) = refl
+prelude_length fetches.Constant p [] = refl
+prelude_length fetches.Constant p (load ∷ []) = refl
+prelude_length fetches.Constant p (load ∷ cast ∷ code) = refl
 
 -- ---- in the chosen one
 
@@ -49,10 +53,11 @@ module _ (code : List Insn) where
   number_at k le = number_by (chosen_list code) code (chosen_starts code) (chosen_stand code) k le
 
   -- which is that of an instruction
-  pub place_within : (call k : ℕ) → k < length code → laid_place (chosen_list code) code k < length (with_prelude fetches.Member (calling call) (laid_code (chosen_list code) code))
-  place_within call k lt =
+  pub place_within : (fetch : Fetch) (p : TwinPlaces) (k : ℕ) → k < length code
+      → laid_place (chosen_list code) code k < length (with_prelude fetch p (laid_code (chosen_list code) code))
+  place_within fetch p k lt =
       let within = within_by (chosen_list code) code k lt in
-      let size = called_length call (laid_code (chosen_list code) code) in
+      let size = prelude_length fetch p (laid_code (chosen_list code) code) in
       omega (arith, within, size)
 
   pub offsets_grow : (i j : ℕ) → i ≤ j → j ≤ length code → offset i ≤ offset j

@@ -1,5 +1,5 @@
 -- Tables that stand in several attributes are read as one.
-use Rattle.std.proofs.Common.{◌≡◌, ℕ, zero, suc, ◌≤◌, List, [], ◌∷◌, length, map, take, drop, Some, refl, sym, ◌∙◌, ap, subst, arith, length-drop}
+use Rattle.std.proofs.Common.{◌≡◌, ℕ, zero, suc, ◌≤◌, List, [], ◌∷◌, length, map, take, drop, refl, sym, ◌∙◌, ap, subst, arith, length-drop}
 use Rattle.std.specs.List.{AllByRecursion}
 use Rattle.std.proofs.lemmas.List.{map-append, take-append-drop}
 use Rattle.std.proofs.lemmas.Simd.{map-map}
@@ -7,12 +7,12 @@ use Rattle.jc_bytes.specs.Counted.{counted}
 use Rattle.jc_bytes.specs.Grammar.{Grammar}
 use Rattle.jc_methods.specs.VerificationTypes.{TypeStateAt}
 use Rattle.jc_frames.specs.FullFrames.{Places}
-use Rattle.jc_pool.specs.Lookup.{utf8_of}
 use Rattle.jc_pool.specs.Pool.{PoolValue}
 use Rattle.jc_class.specs.declared.class_file.Attribute.{Attribute}
 use Rattle.jc_body.specs.Attributes.{AreEntries}
 use Rattle.jc_instrument_code.specs.CodeText.{all_parts, attribute, counted_text, frame_attributes, parts_of, table_attributes}
 use Rattle.jc_instrument_code.specs.Given.{IsNamedAt}
+use Rattle.jc_instrument_reread.specs.WrittenCode.{IsFramesName, frames_name}
 use Rattle.jc_instrument_reread.proofs.EntryTextLaws.{counted_is}
 use Rattle.jc_instrument_reread.proofs.NamedLaws.{IsNamed}
 
@@ -80,8 +80,8 @@ module _ (pool : PoolValue) (name : List ℕ) where
       each [] = tt
       each (part ∷ parts) = (named.there, each parts)
 
-  -- and so has that of frames
-  pub frames_named : (place : ℕ) (p : Places) (frames : List TypeStateAt) → utf8_of pool place ≡ Some name
-      → AllByRecursion (IsNamed pool name) (frame_attributes place p frames)
-  frames_named place p [] named = tt
-  frames_named place p (f ∷ frames) named = (named, tt)
+-- and so has that of frames
+pub frames_named : (pool : PoolValue) (place : ℕ) (p : Places) (frames : List TypeStateAt) → IsFramesName pool frames place
+    → AllByRecursion (IsNamed pool frames_name) (frame_attributes place p frames)
+frames_named pool place p [] named = tt
+frames_named pool place p (f ∷ frames) named = (named, tt)

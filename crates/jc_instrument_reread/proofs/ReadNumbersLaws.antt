@@ -37,7 +37,7 @@ use Rattle.jc_emit.specs.Emission.{Emitting, emission}
 use Rattle.jc_emit.specs.Items.{land_of, lead_of}
 use Rattle.jc_emit.specs.TwinTables.{moved_line, moved_row, moved_var}
 use Rattle.jc_layout.specs.Layout.{laid_code, laid_starts, chosen_length, chosen_starts, chosen_text, chosen_list}
-use Rattle.jc_instrument_reread.specs.WrittenCode.{HasShortNumbers, IsShortVar}
+use Rattle.jc_instrument_reread.specs.WrittenCode.{ready_emission, HasShortNumbers, IsShortVar}
 use Rattle.jc_instrument_reread.proofs.LaidRangeLaws.{chosen_spelled}
 use Rattle.jc_instrument_reread.proofs.RangeLaws.{code_range}
 use Rattle.jc_class.proofs.ReadClassLaws.{HasBytes, attribute_bytes, counted_hold}
@@ -226,12 +226,12 @@ module _ (Faults : List Fault) (names : Names) (c : ClassFile) (number : ℕ) (m
 
 -- ---- instrumented
 
-module _ (b : Body) (first : ℕ) (states : List State) (given : Emitting) (short : IsShortBody b) where
+module _ (b : Body) (first : ℕ) (states : List State) (given : Emitting) (giver : ℕ) (short : IsShortBody b) where
   emitted_vars : (vars : List VarAt) → AllByRecursion IsShortVar vars → AllByRecursion IsShortVar (map (moved_var b.arg_slots (land_of b first (narrow given.fetch))) vars)
   emitted_vars vars all =
       each_mapped IsShortVar IsShortVar (moved_var b.arg_slots (land_of b first (narrow given.fetch))) (λ x is. record { name = is.name; desc = is.desc }) vars all
 
-  emitted_numbers : HasShortNumbers (emission b first states given)
+  emitted_numbers : HasShortNumbers (ready_emission b first states given giver)
   unfolding emission
   emitted_numbers = record {
     classes = each_mapped (λ (h : Handler). h.class < 65536) (λ (h : Handler). h.class < 65536) (moved_row (lead_of b first (narrow given.fetch)) (land_of b first (narrow given.fetch)))
@@ -241,7 +241,7 @@ module _ (b : Body) (first : ℕ) (states : List State) (given : Emitting) (shor
     kind_vars = emitted_vars b.kind_vars short.kind_vars;
   }
 
-  emitted_rows : length (emission b first states given).handlers ≤ 65535
+  emitted_rows : length (ready_emission b first states given giver).handlers ≤ 65535
   unfolding emission
   emitted_rows =
       let same = length-map b.handlers (moved_row (lead_of b first (narrow given.fetch)) (land_of b first (narrow given.fetch))) in
@@ -255,13 +255,13 @@ pub record IsSpelled (e : Emitted) : Type 0 where
   pub rows : length e.handlers ≤ 65535
   pub spelled : Spells (chosen_text e.code) (laid_code (chosen_list e.code) e.code) (laid_starts (chosen_list e.code) e.code (chosen_starts e.code))
 
-pub is_spelled : (Faults : List Fault) (names : Names) (c : ClassFile) (number : ℕ) (method : Member) (b : Body) (first : ℕ) (states : List State) (given : Emitting)
+pub is_spelled : (Faults : List Fault) (names : Names) (c : ClassFile) (number : ℕ) (method : Member) (b : Body) (first : ℕ) (states : List State) (given : Emitting) (giver : ℕ)
     → HasBody Faults names c number method b → AllByRecursion HasBytes method.attributes → IsWellMadeOfAnySize b → b.max_locals + 1 ≤ 65535
-    → ((id : ℕ) → given.integer id < 65536) → chosen_length (emission b first states given).code ≤ 65535 → IsSpelled (emission b first states given)
-is_spelled Faults names c number method b first states given has are well locals integers few =
+    → ((id : ℕ) → given.integer id < 65536) → giver < 65536 → chosen_length (ready_emission b first states given giver).code ≤ 65535 → IsSpelled (ready_emission b first states given giver)
+is_spelled Faults names c number method b first states given giver has are well locals integers giver_lt few =
     let short = body_short Faults names c number method b has are in
     record {
-      numbers = emitted_numbers b first states given short;
-      rows = emitted_rows b first states given short;
-      spelled = chosen_spelled b first states given well short.code locals integers few;
+      numbers = emitted_numbers b first states given giver short;
+      rows = emitted_rows b first states given giver short;
+      spelled = chosen_spelled b first states given giver well short.code locals integers giver_lt few;
     }

@@ -1,7 +1,7 @@
 -- The instructions of a twin name entries of the pool of the kinds that they need.
 use Rattle.std.proofs.Common.{◌≡◌, ⊎_elim, ℕ, zero, suc, ◌+◌, ◌<◌, ◌≤◌, List, map, length, Some, refl, sym, ◌∙◌, ap, subst, arith, nat_le, pos}
 use Rattle.std.specs.Prelude.{slice_get}
-use Rattle.std.proofs.lemmas.Bool.{cond_both}
+use Rattle.std.proofs.lemmas.Bool.{cases_lt, cond_both}
 use Rattle.std.proofs.lemmas.Option.{same_Some}
 use Rattle.jc_methods.specs.Flow.{flow_of}
 use Rattle.jc_methods.specs.Insn.{with_places}
@@ -27,7 +27,7 @@ use Rattle.jc_emit.proofs.BuiltLaws.{prelude_at}
 use Rattle.jc_emit.proofs.EdgeIdLaws.{item_within}
 use Rattle.jc_emit.proofs.LocalLaws.{twin_ok}
 use Rattle.jc_emit.proofs.PiecesLaws.{HasAt}
-use Rattle.jc_instrument_reread.proofs.PushLaws.{pushed_so}
+use Rattle.jc_instrument_reread.proofs.PushLaws.{loaded_so, pushed_so}
 use Rattle.jc_instrument_reread.proofs.TwinItemLaws.{plain_push, each_insn}
 
 module _ (major : ℕ) (pool : PoolValue) where
@@ -114,7 +114,7 @@ module _ (b : Body) (first : ℕ) (form : TwinForm) (named : TwinPlaces) (is_cod
   Fine q x = Ok b.code (Some b.arg_slots) (probe_of b first) items q x
 
   module _ (major : ℕ) (pool : PoolValue) (right : (i : ℕ) → i < length b.code → HasRightEntry major pool (old i))
-      (few : first + probe_count b ≤ most_short + 1)
+      (right_integers : (id : ℕ) → most_short < id → first ≤ id → id < first + probe_count b → HasRightEntry major pool (insns.Constant (named.integer id)))
       (right_start : (k : ℕ) → k < prelude_size form.fetch → HasRightEntry major pool (prelude_insn form.fetch named b.arg_slots k)) where
     abbrev Named : Insn → Type 0
     Named insn = HasRightEntry major pool insn
@@ -137,15 +137,16 @@ module _ (b : Body) (first : ℕ) (form : TwinForm) (named : TwinPlaces) (is_cod
     item_right q (image insn i early) here h = image_right q i insn (flow_of (old i)) h.0 h.2
     item_right q (probe_array id at late) here h = tt
     item_right q (probe_id id at late) here h =
-        let within = (item_within b first (Some b.arg_slots) items (twin_ok b first form is_code) q id (probe_id id at late) here refl).1 in
-        subst Named (sym (pushed_so named.integer id (omega (arith, within, few)))) (push_right major pool id)
+        let within = item_within b first (Some b.arg_slots) items (twin_ok b first form is_code) q id (probe_id id at late) here refl in
+        ⊎_elim (λ more. subst Named (sym (loaded_so named.integer id more)) (right_integers id more within.0 within.1))
+        (λ few. subst Named (sym (pushed_so named.integer id few)) (push_right major pool id)) (cases_lt most_short id)
     item_right q (probe_one id at late) here h = tt
     item_right q (probe_store id at late) here h = tt
     item_right q (hop to at due) here h = tt
 
   pub names_right : (major : ℕ) (pool : PoolValue) → ((i : ℕ) → i < length b.code → HasRightEntry major pool (insn_at b.code i))
-      → first + probe_count b ≤ most_short + 1
+      → ((id : ℕ) → most_short < id → first ≤ id → id < first + probe_count b → HasRightEntry major pool (insns.Constant (named.integer id)))
       → ((k : ℕ) → k < prelude_size form.fetch → HasRightEntry major pool (prelude_insn form.fetch named b.arg_slots k))
       → (q : ℕ) (insn : Insn) → slice_get (map new items) q ≡ Some insn → HasRightEntry major pool insn
-  names_right major pool right few right_start q insn at =
-      each_insn b first form named is_code (λ q insn. HasRightEntry major pool insn) (item_right major pool right few right_start) q insn at
+  names_right major pool right right_integers right_start q insn at =
+      each_insn b first form named is_code (λ q insn. HasRightEntry major pool insn) (item_right major pool right right_integers right_start) q insn at

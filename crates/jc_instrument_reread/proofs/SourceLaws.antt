@@ -23,7 +23,7 @@ use Rattle.jc_body.specs.Faults.{IsClassOrNone}
 use Rattle.jc_body.specs.Standing.{HasRightEntry}
 use Rattle.jc_body.specs.declared.coded.Coded.{Coded}
 use Rattle.jc_body.proofs.StandingLaws.{right_entry_or_not}
-use Rattle.jc_emit.specs.Emission.{Emitting, emission}
+use Rattle.jc_emit.specs.Emission.{Emitting}
 use Rattle.jc_emit.specs.Items.{lead_of, land_of}
 use Rattle.jc_emit.specs.Sizes.{narrow, insn_at}
 use Rattle.jc_emit.specs.TwinTables.{moved_row}
@@ -33,6 +33,7 @@ use Rattle.jc_instrument_reread.specs.Written.{IsSource}
 use Rattle.jc_instrument_reread.proofs.KeptEntryLaws.{right_kept, what_kept}
 use Rattle.jc_instrument_reread.proofs.UsedPlaceLaws.{KeepClasses, used_stands}
 use Rattle.jc_instrument_reread.proofs.WrittenRowLaws.{class_there, handlers_are}
+use Rattle.jc_instrument_reread.specs.WrittenCode.{ready_emission}
 
 module _ (names : Names) (c : ClassFile) (method : Member) (b : Body) (states : List State) (array : ℕ) (s : IsSource names c method b states array) where
   abbrev coded : Coded
@@ -90,15 +91,15 @@ module _ (names : Names) (c : ClassFile) (method : Member) (b : Body) (states : 
         by (inr some) = stands (used some)
 
   -- the rows have the same classes
-  pub classes_kept : (first : ℕ) (given : Emitting)
-      → KeepClasses coded.items.rows (map (row_at (offset_in (emission b first states given))) (emission b first states given).handlers)
-  classes_kept first given row listed =
-      let e = emission b first states given in
+  pub classes_kept : (first : ℕ) (given : Emitting) (giver : ℕ)
+      → KeepClasses coded.items.rows (map (row_at (offset_in (ready_emission b first states given giver))) (ready_emission b first states given giver).handlers)
+  classes_kept first given giver row listed =
+      let e = ready_emission b first states given giver in
       let number = handler_of (insn_number coded.starts) in
       let moves = moved_row (lead_of b first (narrow given.fetch)) (land_of b first (narrow given.fetch)) in
       let old = subst (λ (l : List Handler). Contains l (number row)) (sym s.body.parts.handlers) (in_map number coded.items.rows row listed) in
       let moved = in_map moves b.handlers (number row) old in
-      let now = subst (λ (l : List Handler). Contains l (moves (number row))) (sym (handlers_are b first states given s.well_made)) moved in (
+      let now = subst (λ (l : List Handler). Contains l (moves (number row))) (sym (handlers_are b first states given giver s.well_made)) moved in (
         row_at (offset_in e) (moves (number row)),
         in_map (row_at (offset_in e)) e.handlers (moves (number row)) now,
         refl,

@@ -6,6 +6,7 @@ use Rattle.jc_methods.specs.VerificationTypes.{Names}
 use Rattle.jc_methods.specs.WellMade.{IsVar}
 use Rattle.jc_methods.specs.declared.body.VarAt.{VarAt}
 use Rattle.jc_methods.specs.declared.emitted.Emitted.{Emitted}
+use Rattle.jc_methods.specs.declared.probe_members.Fetch.{Fetch}
 use Rattle.jc_pool.specs.Pool.{PoolValue}
 use Rattle.jc_class.specs.declared.class_file.Attribute.{Attribute}
 use Rattle.jc_body.specs.Attributes.{AreEntries, AreTables, bodies_of}
@@ -34,7 +35,7 @@ short_vars count most (x ∷ vars) le short are = (
   short_vars count most vars le short.1 are.1,
 )
 
-module _ (pool : PoolValue) (places : CodePlaces) (names : Names) (e : Emitted) (w : IsWrittenCode pool places names e) where
+module _ (pool : PoolValue) (fetch : Fetch) (places : CodePlaces) (names : Names) (e : Emitted) (w : IsWrittenCode pool fetch places names e) where
   abbrev at : ℕ → ℕ
   at = offset_in e
 
@@ -54,22 +55,22 @@ module _ (pool : PoolValue) (places : CodePlaces) (names : Names) (e : Emitted) 
   written = code_attributes pool places.frames e (written_frames names e)
 
   lines_are_named : AllByRecursion (IsNamed pool lines_name) lines_written
-  lines_are_named = lines_named pool places names e w
+  lines_are_named = lines_named pool fetch places names e w
 
   vars_are_named : AllByRecursion (IsNamed pool vars_name) vars_written
-  vars_are_named = vars_named pool places names e w
+  vars_are_named = vars_named pool fetch places names e w
 
   kind_vars_are_named : AllByRecursion (IsNamed pool kind_vars_name) kind_vars_written
-  kind_vars_are_named = kind_vars_named pool places names e w
+  kind_vars_are_named = kind_vars_named pool fetch places names e w
 
   all_frames_named : AllByRecursion (IsNamed pool frames_name) frames_written
-  all_frames_named = frames_are_named pool places names e w
+  all_frames_named = frames_are_named pool fetch places names e w
 
   -- what stands under a name, by what stands there in each of the four lists
   bodies_by : (name : List ℕ) (k l m n : List (List ℕ)) → bodies_of pool name lines_written ≡ k → bodies_of pool name vars_written ≡ l
       → bodies_of pool name kind_vars_written ≡ m → bodies_of pool name frames_written ≡ n → bodies_of pool name written ≡ k ++ (l ++ (m ++ n))
   bodies_by name k l m n p q r s =
-      ap (bodies_of pool name) (sym (placed_are pool places names e w))
+      ap (bodies_of pool name) (sym (placed_are pool fetch places names e w))
       ∙ four_bodies pool name lines_written vars_written kind_vars_written frames_written k l m n p q r s
 
   line_bodies : bodies_of pool lines_name written ≡ held lines_written
@@ -97,8 +98,8 @@ module _ (pool : PoolValue) (places : CodePlaces) (names : Names) (e : Emitted) 
       ∙ append-nil (held kind_vars_written)
 
   -- what the StackMapTable attributes hold
-  pub stack_maps_back : stack_maps pool (written_coded pool places names e) ≡ held frames_written
-  stack_maps_back =
+  pub stack_maps_back : (integer : ℕ → ℕ) → stack_maps pool (written_coded pool fetch places integer names e) ≡ held frames_written
+  stack_maps_back integer =
       bodies_by frames_name [] [] [] (held frames_written) (no_bodies pool frames_name lines_name refl lines_written lines_are_named)
       (no_bodies pool frames_name vars_name refl vars_written vars_are_named)
       (no_bodies pool frames_name kind_vars_name refl kind_vars_written kind_vars_are_named)
@@ -107,7 +108,7 @@ module _ (pool : PoolValue) (places : CodePlaces) (names : Names) (e : Emitted) 
   -- ---- entries
 
   few_offsets : (k : ℕ) → at k < 65536
-  few_offsets = offsets_short pool places names e w
+  few_offsets = offsets_short pool fetch places names e w
 
   lines_back : AreEntries line_table (held lines_written) (map (line_at at) e.lines)
   unfolding line_table

@@ -24,7 +24,7 @@ use Rattle.jc_pool.specs.Pool.{PoolValue}
 use Rattle.jc_body.specs.Faults.{IsClassOrNone, IsRow}
 use Rattle.jc_body.specs.Standing.{found_in, found_at, what_of_member, what_of_constant, what_of, what_at}
 use Rattle.jc_body.specs.declared.items.Row.{Row}
-use Rattle.jc_emit.specs.Marks.{unplaced}
+use Rattle.jc_emit.specs.Marks.{TwinPlaces, unplaced}
 use Rattle.jc_emit.specs.Sizes.{narrow}
 use Rattle.jc_emit.specs.Emission.{Emitting, emission}
 use Rattle.jc_emit.specs.Items.{insn_of, lead_of, land_of, segment_size, twin_items}
@@ -37,6 +37,8 @@ use Rattle.jc_layout.proofs.MergedLaws.{wide_places_rise}
 use Rattle.jc_instrument_code.specs.TwinCode.{offset_in}
 use Rattle.jc_instrument_reread.specs.ReadCode.{row_at, written_insns, written_starts}
 use Rattle.jc_instrument_reread.proofs.OffsetLaws.{offset_at, number_at}
+use Rattle.jc_instrument_reread.specs.WrittenCode.{ready_emission}
+use Rattle.jc_layout.proofs.LayableLaws.{ready_length}
 
 -- ---- the class of a row
 
@@ -77,9 +79,9 @@ class_there pool place what is class = by (computed_of pool place) (member_of po
 
 -- ---- places
 
-module _ (b : Body) (first : ℕ) (states : List State) (given : Emitting) (well : IsWellMadeOfAnySize b) where
+module _ (b : Body) (first : ℕ) (states : List State) (given : Emitting) (giver : ℕ) (well : IsWellMadeOfAnySize b) where
   abbrev e : Emitted
-  e = emission b first states given
+  e = ready_emission b first states given giver
 
   abbrev lead : ℕ → ℕ
   lead i = lead_of b first (narrow given.fetch) i
@@ -87,15 +89,17 @@ module _ (b : Body) (first : ℕ) (states : List State) (given : Emitting) (well
   abbrev land : ℕ → ℕ
   land i = land_of b first (narrow given.fetch) i
 
-  code_size : length (emission b first states given).code ≡ lead_of b first (narrow given.fetch) (length b.code)
+  code_size : length (ready_emission b first states given giver).code ≡ lead_of b first (narrow given.fetch) (length b.code)
   unfolding emission
-  code_size = length-map (twin_items b first (narrow given.fetch)) (insn_of (unplaced given.integer) b.arg_slots) ∙ length_twin b first (narrow given.fetch)
+  code_size =
+      ready_length given.fetch giver (emission b first states given).code
+      ∙ length-map (twin_items b first (narrow given.fetch)) (insn_of (unplaced given.integer) b.arg_slots) ∙ length_twin b first (narrow given.fetch)
 
   lead_rises : (i j : ℕ) → i < j → lead (suc i) ≤ lead j
   lead_rises i j lt = let grows = total_grows (segment_size b first (narrow given.fetch)) (suc i) j (omega (arith, lt)) in omega (arith, grows)
 
   -- a row of the instrumented code guards an instruction or more
-  row_moved : (h : Handler) → IsHandler (length b.code) h → IsHandler (length (emission b first states given).code) (moved_row lead land h)
+  row_moved : (h : Handler) → IsHandler (length b.code) h → IsHandler (length (ready_emission b first states given giver).code) (moved_row lead land h)
   row_moved h is = record {
     some = let up = lead_rises h.start h.end is.some in omega (arith, up);
     end =
@@ -105,23 +109,25 @@ module _ (b : Body) (first : ℕ) (states : List State) (given : Emitting) (well
     target = let up = lead_rises h.target (length b.code) is.target in let size = code_size in omega (arith, up, size);
   }
 
-  pub handlers_are : (emission b first states given).handlers ≡ map (moved_row (lead_of b first (narrow given.fetch)) (land_of b first (narrow given.fetch))) b.handlers
+  pub handlers_are : (ready_emission b first states given giver).handlers ≡ map (moved_row (lead_of b first (narrow given.fetch)) (land_of b first (narrow given.fetch))) b.handlers
   unfolding emission
   handlers_are = refl
 
-  module _ (call size : ℕ) (starts : AreStarts (length (written_insns call (emission b first states given))) size (written_starts (emission b first states given)))
-      (size_is : size ≡ chosen_length (emission b first states given).code) where
+  module _ (p : TwinPlaces) (size : ℕ)
+      (starts : AreStarts (length (written_insns given.fetch p (ready_emission b first states given giver))) size
+      (written_starts (ready_emission b first states given giver)))
+      (size_is : size ≡ chosen_length (ready_emission b first states given giver).code) where
     abbrev code : List Insn
-    code = (emission b first states given).code
+    code = (ready_emission b first states given giver).code
 
     abbrev place : ℕ → ℕ
     place k = laid_place (chosen_list code) code k
 
     abbrev count : ℕ
-    count = length (written_insns call (emission b first states given))
+    count = length (written_insns given.fetch p (ready_emission b first states given giver))
 
     abbrev offset : ℕ → ℕ
-    offset k = offset_in (emission b first states given) k
+    offset k = offset_in (ready_emission b first states given giver) k
 
     place_rises : (i j : ℕ) → i < j → place i < place j
     place_rises i j lt = wide_places_rise (chosen code) code i j lt
@@ -130,7 +136,7 @@ module _ (b : Body) (first : ℕ) (states : List State) (given : Emitting) (well
     end_place : place (length code) ≡ count
     end_place =
         sym (number_at code (length code) (omega arith))
-        ∙ ap (insn_number (written_starts (emission b first states given))) (sym size_is) ∙ number_of_end count size (written_starts (emission b first states given)) starts
+        ∙ ap (insn_number (written_starts (ready_emission b first states given giver))) (sym size_is) ∙ number_of_end count size (written_starts (ready_emission b first states given giver)) starts
 
     place_below : (k : ℕ) → k < length code → place k < count
     place_below k lt = let up = place_rises k (length code) lt in let end = end_place in omega (arith, up, end)
@@ -144,16 +150,16 @@ module _ (b : Body) (first : ℕ) (states : List State) (given : Emitting) (well
 
     offset_rises : (i j : ℕ) → i < j → j ≤ length code → offset i < offset j
     offset_rises i j lt le =
-        let up = rising count size (written_starts (emission b first states given)) starts (place i) (place j) (place_rises i j lt) (place_most j le) in
+        let up = rising count size (written_starts (ready_emission b first states given giver)) starts (place i) (place j) (place_rises i j lt) (place_most j le) in
         let low = offset_at code i in
         let high = offset_at code j in
         omega (arith, up, low, high)
 
-    start_below : (k : ℕ) → k < length code → insn_number (written_starts (emission b first states given)) (offset k) < count
+    start_below : (k : ℕ) → k < length code → insn_number (written_starts (ready_emission b first states given giver)) (offset k) < count
     start_below k lt = let number = number_at code k (omega (arith, lt)) in let below = place_below k lt in omega (arith, number, below)
 
     row_fine : (pool : PoolValue) (h : Handler) → IsHandler (length code) h → IsClassOrNone pool h.class
-        → IsRow pool (insn_number (written_starts (emission b first states given))) count size (row_at (offset_in (emission b first states given)) h)
+        → IsRow pool (insn_number (written_starts (ready_emission b first states given giver))) count size (row_at (offset_in (ready_emission b first states given giver)) h)
     row_fine pool h is class = record {
       ordered = offset_rises h.start h.end is.some is.end;
       start = start_below h.start (let some = is.some in let end = is.end in omega (arith, some, end));
@@ -163,20 +169,20 @@ module _ (b : Body) (first : ℕ) (states : List State) (given : Emitting) (well
     }
       where
         by : (h.end < length code) ⊎ (length code ≤ h.end)
-            → (insn_number (written_starts (emission b first states given)) (offset h.end) < count) ⊎ (offset h.end ≡ size)
+            → (insn_number (written_starts (ready_emission b first states given giver)) (offset h.end) < count) ⊎ (offset h.end ≡ size)
         by (inl lt) = inl (start_below h.end lt)
         by (inr past) = let end = is.end in let same : h.end ≡ length code = omega (arith, end, past) in inr (ap offset same ∙ sym size_is)
 
     -- each row is of its form, where each class that a row names stands in the pool
     pub rows_fine : (pool : PoolValue) → ((i : ℕ) (h : Handler) → slice_get b.handlers i ≡ Some h → IsClassOrNone pool h.class)
-        → (i : ℕ) (row : Row) → slice_get (map (row_at (offset_in (emission b first states given))) (emission b first states given).handlers) i ≡ Some row
-        → IsRow pool (insn_number (written_starts (emission b first states given))) count size row
+        → (i : ℕ) (row : Row) → slice_get (map (row_at (offset_in (ready_emission b first states given giver))) (ready_emission b first states given giver).handlers) i ≡ Some row
+        → IsRow pool (insn_number (written_starts (ready_emission b first states given giver))) count size row
     rows_fine pool classes i row at =
-        let new = mapped_at (row_at (offset_in (emission b first states given))) (emission b first states given).handlers i row at in
+        let new = mapped_at (row_at (offset_in (ready_emission b first states given giver))) (ready_emission b first states given giver).handlers i row at in
         let old = mapped_at (moved_row (lead_of b first (narrow given.fetch)) (land_of b first (narrow given.fetch))) b.handlers i new.0
         (ap (λ (l : List Handler). slice_get l i) (sym handlers_are) ∙ new.1) in
         let h = old.0 in
         let lt = slice_get_within b.handlers i h old.1 in
         let is = subst (IsHandler (length b.code)) (get_or_from_slice_get b.handlers i h h old.1) (well.handlers i h lt) in
-        subst (IsRow pool (insn_number (written_starts (emission b first states given))) count size) (ap (row_at (offset_in (emission b first states given))) old.2 ∙ new.2)
+        subst (IsRow pool (insn_number (written_starts (ready_emission b first states given giver))) count size) (ap (row_at (offset_in (ready_emission b first states given giver))) old.2 ∙ new.2)
         (row_fine pool (moved_row (lead_of b first (narrow given.fetch)) (land_of b first (narrow given.fetch)) h) (row_moved h is) (classes i h old.1))

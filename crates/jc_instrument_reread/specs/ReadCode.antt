@@ -6,7 +6,7 @@ use Rattle.jc_methods.specs.declared.body.LineAt.{LineAt}
 use Rattle.jc_methods.specs.declared.body.VarAt.{VarAt}
 use Rattle.jc_methods.specs.declared.emitted.Emitted.{Emitted}
 use Rattle.jc_methods.specs.declared.insn.Insn.{Insn}
-use Rattle.jc_methods.specs.declared.probe_members.Fetch.TheVariants as fetches
+use Rattle.jc_methods.specs.declared.probe_members.Fetch.{Fetch}
 use Rattle.jc_pool.specs.Pool.{PoolValue}
 use Rattle.jc_body.specs.declared.coded.Coded.{Coded}
 use Rattle.jc_body.specs.declared.items.CodeItems.{CodeItems}
@@ -14,11 +14,11 @@ use Rattle.jc_body.specs.declared.items.Row.{Row}
 use Rattle.jc_body.specs.declared.items.LineEntry.{LineEntry}
 use Rattle.jc_body.specs.declared.items.VarEntry.{VarEntry}
 use Rattle.jc_body.specs.declared.items.Tables.{Tables}
+use Rattle.jc_emit.specs.Marks.{TwinPlaces}
 use Rattle.jc_layout.specs.LaidBody.{with_prelude, with_place}
 use Rattle.jc_layout.specs.Layout.{laid_code, laid_starts, chosen_list, chosen_starts, chosen_text}
 use Rattle.jc_instrument_code.specs.declared.code.CodePlaces.{CodePlaces}
 use Rattle.jc_instrument_code.specs.TwinCode.{code_attributes, offset_in, written_frames}
-use Rattle.jc_instrument_reread.specs.WrittenCode.{calling}
 
 -- ---- entries by offsets
 
@@ -39,26 +39,31 @@ var_at offset x = record {
 
 -- ---- the whole
 
-abbrev pub written_items : PoolValue → CodePlaces → Names → Emitted → CodeItems
-written_items pool places names e = record {
+-- the pool's places of what a twin names: those of its prelude stand beside those of the names of its attributes, and those of the
+-- Integers of ids in its code
+abbrev pub code_places : CodePlaces → (integer : ℕ → ℕ) → TwinPlaces
+code_places places integer = record { giver = places.giver; array = places.array; integer = integer }
+
+abbrev pub written_items : PoolValue → Fetch → CodePlaces → Names → Emitted → CodeItems
+written_items pool fetch places names e = record {
   max_stack = e.max_stack;
   max_locals = e.max_locals;
-  code = with_place places.method (chosen_text e.code);
+  code = with_place fetch places.giver places.array (chosen_text e.code);
   rows = map (row_at (offset_in e)) e.handlers;
   attributes = code_attributes pool places.frames e (written_frames names e);
 }
 
--- the instructions of the layout that is chosen, and where they begin
-abbrev pub written_insns : (call : ℕ) → Emitted → List Insn
-written_insns call e = with_prelude fetches.Member (calling call) (laid_code (chosen_list e.code) e.code)
+-- the instructions of the layout that is chosen, where the prelude names what stands at these places, and where they begin
+abbrev pub written_insns : Fetch → TwinPlaces → Emitted → List Insn
+written_insns fetch p e = with_prelude fetch p (laid_code (chosen_list e.code) e.code)
 
 abbrev pub written_starts : Emitted → List ℕ
 written_starts e = laid_starts (chosen_list e.code) e.code (chosen_starts e.code)
 
-abbrev pub written_coded : PoolValue → CodePlaces → Names → Emitted → Coded
-written_coded pool places names e = record {
-  items = written_items pool places names e;
-  insns = written_insns places.method e;
+abbrev pub written_coded : PoolValue → Fetch → CodePlaces → (integer : ℕ → ℕ) → Names → Emitted → Coded
+written_coded pool fetch places integer names e = record {
+  items = written_items pool fetch places names e;
+  insns = written_insns fetch (code_places places integer) e;
   starts = written_starts e;
 }
 

@@ -1,12 +1,14 @@
 -- A method whose instrumented code is written into the class: what is given where its bytes are read again.
-use Rattle.std.specs.Prelude.{◌≡◌, ℕ, ℤ, ◌+◌, ◌≤◌, List, [], ◌∷◌, length, Some}
+use Rattle.std.specs.Prelude.{◌≡◌, ⊤, ℕ, ℤ, pos, ◌+◌, ◌<◌, ◌≤◌, Bool, true, false, List, [], ◌∷◌, length, Some, nat_le}
 use Rattle.jc_methods.specs.VerificationTypes.{Names}
 use Rattle.jc_methods.specs.WellMade.{IsWellMadeOfAnySize}
 use Rattle.jc_methods.specs.declared.body.Body.{Body}
 use Rattle.jc_methods.specs.declared.emitted.Emitted.{Emitted}
 use Rattle.jc_methods.specs.declared.kind.State.{State}
-use Rattle.jc_pool.specs.Adding.{Extends}
-use Rattle.jc_pool.specs.Lookup.{Member as MemberText, class_name_of, long_of, member_of, string_of, utf8_of}
+use Rattle.jc_methods.specs.declared.probe_members.Fetch.{Fetch}
+use Rattle.jc_methods.specs.declared.probe_members.Fetch.TheVariants as fetches
+use Rattle.jc_pool.specs.Adding.{Extends, bootstrap_constant}
+use Rattle.jc_pool.specs.Lookup.{Member as MemberText, Computed, class_name_of, computed_of, integer_of, long_of, member_of, string_of, utf8_of}
 use Rattle.jc_pool.specs.Pool.{PoolValue}
 use Rattle.jc_class.specs.declared.class_file.ClassFile.{ClassFile}
 use Rattle.jc_class.specs.declared.class_file.Member.{Member}
@@ -14,17 +16,17 @@ use Rattle.jc_body.specs.BodyOf.{IsBody}
 use Rattle.jc_body.specs.Coded.{code_bodies}
 use Rattle.jc_kinds.specs.Answers.{AreStates}
 use Rattle.jc_kinds.specs.Checked.{Checked}
-use Rattle.jc_methods.specs.ProbeMembers.{data_name, data_type, fetch_name, fetch_type, init_flags, init_name, init_type, most_short, runtime_class}
+use Rattle.jc_methods.specs.ProbeMembers.{bootstrap_type, constant_type, data_name, data_type, fetch_name, fetch_type, init_flags, init_name, init_type, most_short, runtime_class}
 use Rattle.jc_plan.specs.Probed.{probe_count}
-use Rattle.jc_emit.specs.Emission.{emission, HasFrameStates, IsArrayNumber}
+use Rattle.jc_emit.specs.Emission.{Emitting, HasFrameStates, IsArrayNumber}
 use Rattle.jc_emit.specs.Straddling.{NoneStraddles}
 use Rattle.jc_instrument_code.specs.Given.{AreFrames, HaveClasses}
-use Rattle.jc_instrument_code.specs.InitText.{init_text, named_places}
+use Rattle.jc_instrument_code.specs.InitText.{added_text, named_places}
 use Rattle.jc_instrument_code.specs.TwinCode.{chosen_frames, twin_code}
 use Rattle.jc_instrument_code.specs.declared.code.CodePlaces.{CodePlaces}
 use Rattle.jc_instrument_code.specs.declared.init.AddedPlaces.{AddedPlaces}
 use Rattle.jc_instrument_reread.specs.InitRead.{IsWrittenInit}
-use Rattle.jc_instrument_reread.specs.WrittenCode.{by_method, IsWrittenCode}
+use Rattle.jc_instrument_reread.specs.WrittenCode.{ready_emission, IsWrittenCode}
 
 -- ---- the pool
 
@@ -32,10 +34,26 @@ use Rattle.jc_instrument_reread.specs.WrittenCode.{by_method, IsWrittenCode}
 abbrev pub init_method : List ℕ → MemberText
 init_method owner = record { tag = 10; class = owner; name = init_name; desc = init_type }
 
--- the pool has grown, and the method that the prelude calls stands in it
-pub record IsGrownPool (old new : PoolValue) (owner : List ℕ) (places : CodePlaces) : Type 0 where
+-- the constant that the prelude loads (JVM Specification 4.4.10)
+abbrev pub array_constant : (bootstrap : ℕ) → Computed
+array_constant bootstrap = bootstrap_constant bootstrap data_name constant_type
+
+-- what the prelude names stands at these places
+abbrev pub HasGiver : Fetch → PoolValue → (owner : List ℕ) → (bootstrap : ℕ) → CodePlaces → Type 0
+HasGiver fetches.Member pool owner bootstrap places = member_of pool places.giver ≡ Some (init_method owner)
+HasGiver fetches.Constant pool owner bootstrap places =
+    (computed_of pool places.giver ≡ Some (array_constant bootstrap)) × (class_name_of pool places.array ≡ Some data_type)
+
+-- for each of so many ids from the first one on that no shorter instruction pushes stands its Integer at this place
+abbrev pub HasIntegers : PoolValue → (first count : ℕ) → (integer : ℕ → ℕ) → Type 0
+HasIntegers pool first count integer =
+    (id : ℕ) → most_short < id → first ≤ id → id < first + count → integer_of pool (integer id) ≡ Some (pos id)
+
+-- the pool has grown, and what the twin of a body with so many probes names stands in it
+pub record IsGrownPool (old new : PoolValue) (owner : List ℕ) (bootstrap first count : ℕ) (given : Emitting) (places : CodePlaces) : Type 0 where
   pub extends : Extends old new
-  pub call_is : member_of new places.method ≡ Some (init_method owner)
+  pub giver_is : HasGiver given.fetch new owner bootstrap places
+  pub integers : HasIntegers new first count given.integer
 
 -- ---- the body
 
@@ -52,8 +70,8 @@ pub record IsSource (names : Names) (c : ClassFile) (method : Member) (b : Body)
 -- ---- what is written
 
 -- the instrumented code can be written, and the pool has the classes that its frames name
-pub record IsFitting (names : Names) (pool : PoolValue) (places : CodePlaces) (e : Emitted) : Type 0 where
-  pub code : IsWrittenCode pool places names e
+pub record IsFitting (names : Names) (pool : PoolValue) (fetch : Fetch) (places : CodePlaces) (e : Emitted) : Type 0 where
+  pub code : IsWrittenCode pool fetch places names e
   pub frames : AreFrames e (length names) (chosen_frames e)
   pub classes : HaveClasses pool names e
 
@@ -65,18 +83,16 @@ pub record HasOtherCode (pool : PoolValue) (method new : Member) (code : List �
   pub code_is : code_bodies pool new ≡ code ∷ []
 
 -- The method of the class `c` has this body, and the method `new` of the class `twin`, whose pool has grown, has its instrumented
--- code.
-pub record IsWrittenMethod (names : Names) (c twin : ClassFile) (places : CodePlaces) (array : ℕ) (method new : Member) (b : Body)
+-- code, which gets the array of probes as is given. Where it loads a constant, that is the one of the bootstrap method with this number.
+pub record IsWrittenMethod (names : Names) (c twin : ClassFile) (bootstrap : ℕ) (places : CodePlaces) (given : Emitting) (method new : Member) (b : Body)
     (states : List State) (first : ℕ) : Type 0 where
   pub major : twin.major ≡ c.major
   pub this_class : twin.this_class ≡ c.this_class
-  -- its ids can be pushed as they stand in the code
-  pub ids : first + probe_count b ≤ most_short + 1
-  pub pool : IsGrownPool c.pool twin.pool b.owner places
-  pub source : IsSource names c method b states array
-  pub fits : IsFitting names twin.pool places (emission b first states (by_method array))
+  pub pool : IsGrownPool c.pool twin.pool b.owner bootstrap first (probe_count b) given places
+  pub source : IsSource names c method b states given.array
+  pub fits : IsFitting names twin.pool given.fetch places (ready_emission b first states given places.giver)
   pub written : HasOtherCode twin.pool method new
-      (twin_code twin.pool places.method places.frames names (emission b first states (by_method array)))
+      (twin_code twin.pool given.fetch places.giver places.array places.frames names (ready_emission b first states given places.giver))
 
 -- ---- the added method
 
@@ -88,17 +104,32 @@ data_field owner = record { tag = 9; class = owner; name = data_name; desc = dat
 abbrev pub fetch_method : MemberText
 fetch_method = record { tag = 10; class = runtime_class; name = fetch_name; desc = fetch_type }
 
+-- the Integer of the number of probes, where it is pushed from there
+abbrev pub HasCountEntry : Bool → PoolValue → (count place : ℕ) → Type 0
+HasCountEntry true pool count place = ⊤
+HasCountEntry false pool count place = integer_of pool place ≡ Some (pos count)
+
+-- the type of the added method
+abbrev pub added_type : Fetch → List ℕ
+added_type fetches.Member = init_type
+added_type fetches.Constant = bootstrap_type
+
+-- what the method names that keeps the array in a field
+abbrev pub HasFieldEntries : Fetch → PoolValue → (owner : List ℕ) → AddedPlaces → Type 0
+HasFieldEntries fetches.Member pool owner p = (member_of pool p.field ≡ Some (data_field owner)) × (class_name_of pool p.array ≡ Some data_type)
+HasFieldEntries fetches.Constant pool owner p = ⊤
+
 -- The class has this name, and its method gives the probe array of the class with this id, which has so many probes: what its
 -- code names stands at these places of the pool.
-pub record IsAddedMethod (twin : ClassFile) (owner : List ℕ) (id : ℤ) (count : ℕ) (p : AddedPlaces) (method : Member) : Type 0 where
-  pub code : IsWrittenInit twin.pool p count
+pub record IsAddedMethod (fetch : Fetch) (twin : ClassFile) (owner : List ℕ) (id : ℤ) (count : ℕ) (p : AddedPlaces) (method : Member) : Type 0 where
+  pub code : IsWrittenInit fetch twin.pool p
   pub owner_is : class_name_of twin.pool twin.this_class ≡ Some owner
   pub flags : method.flags ≡ init_flags
   pub name : utf8_of twin.pool method.name ≡ Some init_name
-  pub desc : utf8_of twin.pool method.desc ≡ Some init_type
-  pub code_is : code_bodies twin.pool method ≡ init_text (named_places p) p.frames p.array count ∷ []
-  pub field_is : member_of twin.pool p.field ≡ Some (data_field owner)
+  pub desc : utf8_of twin.pool method.desc ≡ Some (added_type fetch)
+  pub code_is : code_bodies twin.pool method ≡ added_text fetch (named_places p) p.frames p.array count ∷ []
+  pub field_entries : HasFieldEntries fetch twin.pool owner p
   pub id_is : long_of twin.pool p.id ≡ Some id
   pub name_is : string_of twin.pool p.name ≡ Some owner
+  pub count_is : HasCountEntry (nat_le count most_short) twin.pool count p.count
   pub fetch_is : member_of twin.pool p.fetch ≡ Some fetch_method
-  pub array_is : class_name_of twin.pool p.array ≡ Some data_type

@@ -1,7 +1,6 @@
--- The bytes of a layout, where the method that the prelude calls has its place in the pool.
-use Rattle.std.proofs.Common.{◌≡◌, ℕ, ◌+◌, ◌<◌, Bool, List, [], ◌∷◌, ◌++◌, map, length, refl, sym, ap, ◌∙◌, subst, arith}
+-- The bytes of a layout whose first instruction calls a method, once the method has its place in the pool.
+use Rattle.std.proofs.Common.{◌≡◌, ℕ, ◌<◌, Bool, List, [], ◌∷◌, ◌++◌, map, refl, sym, ap, ◌∙◌, subst, arith}
 use Rattle.std.specs.Prelude.{slice_index}
-use Rattle.std.proofs.lemmas.List.{append_cancel_left}
 use Rattle.jc_bytes.specs.BigNumbers.{short}
 use Rattle.jc_methods.specs.Opcode as opcode
 use Rattle.jc_methods.specs.declared.form.Form.TheVariants as forms
@@ -9,6 +8,7 @@ use Rattle.jc_methods.specs.InsnForm.{form_of}
 use Rattle.jc_methods.specs.Insn.{with_places}
 use Rattle.jc_methods.specs.Starts.{insn_number}
 use Rattle.jc_methods.specs.WellMade.{IsWellMadeOfAnySize}
+use Rattle.jc_methods.specs.Widened.{WideSet}
 use Rattle.jc_methods.specs.declared.insn.Insn.{Insn}
 use Rattle.jc_methods.specs.declared.insn.Insn.TheVariants as insns
 use Rattle.jc_methods.specs.declared.kind.State.{State}
@@ -17,21 +17,20 @@ use Rattle.jc_methods.specs.declared.body.Body.{Body}
 use Rattle.jc_methods.specs.declared.body.Use.{Use}
 use Rattle.jc_insn.specs.declared.item.CodeItem.TheVariants as items
 use Rattle.jc_insn.specs.Items.{operands, IsItem}
-use Rattle.jc_methods.specs.Widened.{WideSet}
 use Rattle.jc_insn.specs.Sizes.{StartAt}
 use Rattle.jc_insn.specs.Spells.{SpellsFrom, Spells}
 use Rattle.jc_insn.specs.Writing.{insn_text, code_text}
-use Rattle.jc_insn.proofs.ItemReadingLaws.{same_item}
 use Rattle.jc_insn.proofs.OperandsSpelledLaws.{item_of, one_number}
-use Rattle.jc_insn.proofs.ReadBackLaws.{short_size, big_short}
+use Rattle.jc_insn.proofs.ReadBackLaws.{big_short}
 use Rattle.jc_emit.specs.Sizes.{narrow}
 use Rattle.jc_emit.specs.Emission.{Emitting, emission}
 use Rattle.jc_emit.specs.Items.{insn_of, twin_items}
 use Rattle.jc_emit.specs.Marks.{TwinPlaces, unplaced, invokestatic}
 use Rattle.jc_layout.specs.Layout.{laid_starts, chosen, chosen_starts, chosen_text}
-use Rattle.jc_layout.specs.LaidBody.{with_prelude, with_place, laid_body, laid_form, SpellsLaid}
+use Rattle.jc_layout.specs.LaidBody.{with_prelude, with_operand, laid_body, laid_form, SpellsLaid}
 use Rattle.jc_layout.proofs.ChoiceLaws.{chosen_stand}
 use Rattle.jc_layout.proofs.LaidCodeLaws.{begins_so, laid_is}
+use Rattle.jc_layout.proofs.OperandLaws.{operand_put, other_place}
 
 -- ---- invokestatic
 
@@ -70,45 +69,17 @@ called_text call rest starts code lt s = by s.spelled s.text s.places
     by : (spelled : List Insn) → SpellsFrom 0 (call_text 0 ++ rest) spelled starts → invokestatic 0 ∷ code ≡ map (with_places (insn_number starts)) spelled
         → Spells (call_text call ++ rest) (invokestatic call ∷ code) starts
     by [] s e = absurd (no_none (invokestatic 0) code e)
-    by (x ∷ xs) (text, left, later, parts, is, item, more) e =
+    by (x ∷ xs) s e =
         let f = insn_number starts in
-        let x_is = call_back f 0 x (first_is f (invokestatic 0) x code xs e) in
-        let zero_item = call_item 0 0 (omega arith) in
-        let same = same_item 0 text (call_text 0) left rest (items.Insn (invokestatic 0)) (items.Insn (invokestatic 0))
-        (subst (λ y. IsItem 0 text (items.Insn y)) x_is item) zero_item (sym parts) in
-        let left_is : left ≡ rest = append_cancel_left (call_text 0) left rest (ap (λ (l : List ℕ). l ++ left) (sym same.0) ∙ sym parts) in
-        let size : 0 + length text ≡ 0 + length (call_text call) = let a = ap length same.0 in let b = short_size 0 in let c = short_size call in omega (arith, a, b, c) in
-        record {
+        let x_is = call_back f 0 x (first_is f (invokestatic 0) x code xs e) in record {
           spelled = invokestatic call ∷ xs;
-          text = (
-            call_text call,
-            rest,
-            later,
-            refl,
-            is,
-            call_item 0 call lt,
-            subst (λ n. SpellsFrom n rest xs later) size (subst (λ l. SpellsFrom (0 + length text) l xs later) left_is more),
-          );
+          text =
+              other_place 0 opcode.invokestatic invokestatic 0 call rest starts xs (call_item 0) (omega arith) lt
+              (subst (λ y. SpellsFrom 0 (call_text 0 ++ rest) (y ∷ xs) starts) x_is s);
           places = ap (λ l. invokestatic call ∷ l) (rest_is f (invokestatic 0) x code xs e);
         }
 
 -- ---- the bytes
-
-record AreTwo (l : List ℕ) : Type 0 where
-  high : ℕ
-  low : ℕ
-  is : l ≡ high ∷ low ∷ []
-
-two_of : (l : List ℕ) → length l ≡ 2 → AreTwo l
-two_of [] e = absurd (omega (arith, e))
-two_of (a ∷ []) e = absurd (omega (arith, e))
-two_of (a ∷ b ∷ []) e = record { high = a; low = b; is = refl }
-two_of (a ∷ b ∷ c ∷ l) e = absurd (omega (arith, e))
-
-placed_text : (call : ℕ) (rest : List ℕ) → with_place call (call_text 0 ++ rest) ≡ call_text call ++ rest
-placed_text call rest =
-    let two = two_of (short 0) (short_size 0) in
-    ap (λ (l : List ℕ). with_place call ((opcode.invokestatic ∷ l) ++ rest)) two.is
 
 text_begins : (places : ℕ → ℕ) (wide : WideSet) (code : List Insn) (starts : List ℕ) → StartAt wide (invokestatic 0 ∷ code) starts
     → (rest : List ℕ) × (code_text places wide 0 (invokestatic 0 ∷ code) starts ≡ call_text 0 ++ rest)
@@ -124,21 +95,22 @@ chosen_begins code =
 
 with_called : (call : ℕ) (bytes starts : List ℕ) (whole code : List Insn) → call < 65536
     → bytes ≡ chosen_text (invokestatic 0 ∷ whole) → Spells bytes (invokestatic 0 ∷ code) starts
-    → Spells (with_place call bytes) (invokestatic call ∷ code) starts
+    → Spells (with_operand 0 call bytes) (invokestatic call ∷ code) starts
 with_called call bytes starts whole code lt are s =
     let begins = chosen_begins whole in
     let bytes_are = are ∙ begins.1 in
-    subst (λ l. Spells l (invokestatic call ∷ code) starts) (sym (ap (with_place call) bytes_are ∙ placed_text call begins.0))
+    subst (λ l. Spells l (invokestatic call ∷ code) starts)
+    (sym (ap (with_operand 0 call) bytes_are ∙ operand_put opcode.invokestatic 0 call [] begins.0))
     (called_text call begins.0 starts code lt (subst (λ l. Spells l (invokestatic 0 ∷ code) starts) bytes_are s))
 
 module _ (b : Body) (first : ℕ) (states : List State) (given : Emitting) (member : given.fetch ≡ fetches.Member) where
-  pub laid_spells : (wide : List Bool) (p : TwinPlaces) (uses : List Use) (bytes starts : List ℕ) → IsWellMadeOfAnySize b → p.giver < 65536
-      → SpellsLaid b (emission b first states given) wide p uses bytes starts
+  pub spells_by_method : (wide : List Bool) (p : TwinPlaces) (uses : List Use) (bytes starts : List ℕ) → IsWellMadeOfAnySize b → p.giver < 65536
+      → SpellsLaid b (emission b first states given) wide fetches.Member p uses bytes starts
   unfolding laid_body emission
-  laid_spells wide p uses bytes starts well lt are s =
+  spells_by_method wide p uses bytes starts well lt are s =
       let named = unplaced given.integer in
       let begins = begins_so b first (narrow given.fetch) member named in
       let laid = laid_is b first given.fetch named wide well.code ∙ begins_so b first (laid_form b first given.fetch wide) member named in
       let ends = laid_starts wide (map (insn_of named b.arg_slots) (twin_items b first (narrow given.fetch))) starts in
-      subst (λ code. Spells (with_place p.giver bytes) (with_prelude fetches.Member p code) ends) (sym laid)
+      subst (λ code. Spells (with_operand 0 p.giver bytes) (with_prelude fetches.Member p code) ends) (sym laid)
       (with_called p.giver bytes ends _ _ lt (are ∙ ap chosen_text begins) (subst (λ code. Spells bytes code ends) laid s))

@@ -106,13 +106,18 @@ module _ (b : Body) (first : ℕ) (form : TwinForm) where
   abbrev body_of : TwinPlaces → List Insn
   body_of p = map (insn_of p b.arg_slots) behind
 
-  -- the code behind the call
+  -- the code behind the call, or behind the cast of the constant
   abbrev pub rest_of : TwinPlaces → List Insn
   rest_of p = astore b.arg_slots ∷ map (insn_of p b.arg_slots) (pieces (segment b first form) (length b.code))
 
   pub begins_so : form.fetch ≡ fetches.Member → (p : TwinPlaces) → map (insn_of p b.arg_slots) (twin_items b first form) ≡ invokestatic p.giver ∷ rest_of p
   unfolding twin_items
   begins_so is p = ap (λ (fetch : Fetch). map (insn_of p b.arg_slots) (prelude fetch ++ behind)) is
+
+  pub begins_by_constant : form.fetch ≡ fetches.Constant → (p : TwinPlaces)
+      → map (insn_of p b.arg_slots) (twin_items b first form) ≡ insns.Constant p.giver ∷ insns.OfClass opcode.checkcast p.array ∷ rest_of p
+  unfolding twin_items
+  begins_by_constant is p = ap (λ (fetch : Fetch). map (insn_of p b.arg_slots) (prelude fetch ++ behind)) is
 
   same_body : (p q : TwinPlaces) → p.integer ≡ q.integer → body_of q ≡ body_of p
   same_body p q e = same_insns q p (sym e) b.arg_slots behind (pieces_behind (length b.code))

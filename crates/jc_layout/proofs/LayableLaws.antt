@@ -2,7 +2,7 @@
 use Rattle.std.proofs.Common.{◌≡◌, ⊎_elim, ℕ, ◌+◌, ◌<◌, List, [], ◌∷◌, map, length, get_or, Some, refl, sym, subst, arith, ◌≤◌, All}
 use Rattle.std.specs.List.{sum_by}
 use Rattle.std.proofs.lemmas.List.{length-map}
-use Rattle.std.proofs.lemmas.List.Elements.{All-map}
+use Rattle.std.proofs.lemmas.List.Elements.{All-map, All-cons, All-tail}
 use Rattle.std.proofs.lemmas.List.Sums.{sum_by-cons}
 use Rattle.std.proofs.lemmas.Option.{slice_get-get_or}
 use Rattle.jc_methods.specs.Flow.{flow_of}
@@ -16,6 +16,8 @@ use Rattle.jc_methods.specs.declared.insn.Flow.TheVariants as flows
 use Rattle.jc_methods.specs.declared.body.Body.{Body}
 use Rattle.jc_methods.specs.declared.kind.State.{State}
 use Rattle.jc_methods.specs.declared.probe_members.Fetch.{Fetch}
+use Rattle.jc_methods.specs.declared.probe_members.Fetch.TheVariants as fetches
+use Rattle.jc_methods.specs.declared.emitted.Emitted.{Emitted}
 use Rattle.jc_insn.proofs.PlacesLaws.{well_formed_with}
 use Rattle.jc_plan.specs.Probed.{probe_of}
 use Rattle.jc_emit.specs.Marks.{unplaced}
@@ -25,6 +27,8 @@ use Rattle.jc_emit.specs.Items.{Item, start, image, probe_array, probe_id, probe
 use Rattle.jc_emit.specs.Local.{Ok, OkImage}
 use Rattle.jc_emit.proofs.FewLaws.{few_emitted}
 use Rattle.jc_emit.proofs.LocalLaws.{twin_ok}
+use Rattle.jc_layout.specs.Layable.{IsLayable}
+use Rattle.jc_layout.specs.LaidBody.{readied, ready_code}
 use Rattle.jc_layout.proofs.ItemTargetsLaws.{item_within}
 use Rattle.jc_layout.proofs.FormedLaws.{inverted_formed, slot_formed, load_formed, one_formed, put_formed, goto_formed, push_by_formed, prelude_formed}
 
@@ -100,3 +104,40 @@ few_in b first states given is_code =
     let few = few_emitted b first states given is_code in
     let both = together (emission b first states given).code in
     omega (arith, few, both)
+
+-- ---- code that is ready for its layout
+
+pub ready_formed : (fetch : Fetch) (place : ℕ) (code : List Insn) → All IsWellFormed code → All IsWellFormed (ready_code fetch place code)
+ready_formed fetches.Member place code h = h
+ready_formed fetches.Constant place [] h = h
+ready_formed fetches.Constant place (load ∷ code) h = All-cons IsWellFormed (insns.Constant place) code tt (All-tail IsWellFormed load code h)
+
+ready_within : (fetch : Fetch) (n place : ℕ) (code : List Insn) → All (LeadsWithin n) code → All (LeadsWithin n) (ready_code fetch place code)
+ready_within fetches.Member n place code h = h
+ready_within fetches.Constant n place [] h = h
+ready_within fetches.Constant n place (load ∷ code) h = All-cons (LeadsWithin n) (insns.Constant place) code tt (All-tail (LeadsWithin n) load code h)
+
+pub ready_length : (fetch : Fetch) (place : ℕ) (code : List Insn) → length (ready_code fetch place code) ≡ length code
+ready_length fetches.Member place code = refl
+ready_length fetches.Constant place [] = refl
+ready_length fetches.Constant place (load ∷ code) = refl
+
+pub ready_places : (fetch : Fetch) (place : ℕ) (code : List Insn) → All (LeadsWithin (length code)) code
+    → All (LeadsWithin (length (ready_code fetch place code))) (ready_code fetch place code)
+ready_places fetch place code h =
+    subst (λ n. All (LeadsWithin n) (ready_code fetch place code)) (sym (ready_length fetch place code)) (ready_within fetch (length code) place code h)
+
+ready_few : (fetch : Fetch) (place : ℕ) (code : List Insn) → insns_and_arms (ready_code fetch place code) ≤ insns_and_arms code
+ready_few fetches.Member place code = omega arith
+ready_few fetches.Constant place [] = omega arith
+ready_few fetches.Constant place (load ∷ code) =
+    let old = sum_by-cons (λ (x : Insn). 1 + arm_count x) load code in
+    let new = sum_by-cons (λ (x : Insn). 1 + arm_count x) (insns.Constant place) code in
+    omega (arith, old, new)
+
+pub ready_layable : (fetch : Fetch) (giver : ℕ) (e : Emitted) → IsLayable e.code → IsLayable (readied fetch giver e).code
+ready_layable fetch giver e h = record {
+  well_formed = ready_formed fetch giver e.code h.well_formed;
+  places = ready_places fetch giver e.code h.places;
+  few = let fewer = ready_few fetch giver e.code in let few = h.few in omega (arith, fewer, few);
+}

@@ -15,4 +15,8 @@ pub mod MergedLaws
 pub mod LaidCodeLaws
 pub mod LayoutFramesLaws
 pub mod LaidBodyLaws
+pub mod ReadyLaws
+pub mod OperandLaws
 pub mod CallLaws
+pub mod ConstantLaws
+pub mod SpelledLaws

@@ -1,5 +1,5 @@
 -- The body that the bytes of a layout stand for.
-use Rattle.std.specs.Prelude.{◌≡◌, ℕ, ◌<◌, ◌^◌, Bool, List, ◌∷◌, ◌++◌, map, Some}
+use Rattle.std.specs.Prelude.{◌≡◌, ℕ, zero, suc, ◌<◌, ◌^◌, Bool, List, [], ◌∷◌, ◌++◌, map, Some, nat_lt, if◌then◌else◌}
 use Rattle.jc_bytes.specs.BigNumbers.{short}
 use Rattle.jc_methods.specs.VerificationTypes.{Names}
 use Rattle.jc_methods.specs.WellMade.{what_used}
@@ -34,11 +34,37 @@ with_prelude fetches.Member p (insn ∷ code) = invokestatic p.giver ∷ code
 with_prelude fetches.Constant p (load ∷ cast ∷ code) = insns.Constant p.giver ∷ insns.OfClass opcode.checkcast p.array ∷ code
 with_prelude fetch p code = code
 
--- the bytes of code that calls a method for its array of probes, where the method stands at this place of the pool: the place is the
--- operand of the first instruction (JVM Specification 6.5, invokestatic)
-abbrev pub with_place : (call : ℕ) → List ℕ → List ℕ
-with_place call (op ∷ high ∷ low ∷ bytes) = op ∷ short call ++ bytes
-with_place call bytes = bytes
+-- the code, where the constant that its first instruction loads stands at this place of the pool
+abbrev pub with_constant : (place : ℕ) → List Insn → List Insn
+with_constant place (load ∷ code) = insns.Constant place ∷ code
+with_constant place [] = []
+
+-- The code, ready for its layout. The place of a constant decides how `ldc` is spelled (JVM Specification 6.5), so it stands there
+-- before the layout is chosen. A method and a class have their places in two bytes in any case.
+abbrev pub ready_code : Fetch → (giver : ℕ) → List Insn → List Insn
+ready_code fetches.Member giver code = code
+ready_code fetches.Constant giver code = with_constant giver code
+
+-- what is emitted, with code that is ready for its layout
+abbrev pub readied : Fetch → (giver : ℕ) → Emitted → Emitted
+readied fetch giver e = record e { code = ready_code fetch giver e.code }
+
+-- The bytes, with a place of the pool in the two bytes behind the opcode that stands at this offset (JVM Specification 6.5,
+-- invokestatic, checkcast). Where bytes are missing they stay.
+abbrev pub with_operand : (offset place : ℕ) → List ℕ → List ℕ
+with_operand zero place (op ∷ high ∷ low ∷ bytes) = op ∷ short place ++ bytes
+with_operand (suc offset) place (byte ∷ bytes) = byte ∷ with_operand offset place bytes
+with_operand offset place bytes = bytes
+
+-- how many bytes the instruction has that loads the constant at this place
+abbrev pub constant_size : (place : ℕ) → ℕ
+constant_size place = if nat_lt place 256 then 2 else 3
+
+-- The bytes of code that was laid out, where the pool has at these places what the prelude names: the first instruction gets the
+-- place of the method that it calls; the second one, behind the load of a constant, that of the class of the array.
+abbrev pub with_place : Fetch → (giver array : ℕ) → List ℕ → List ℕ
+with_place fetches.Member giver array bytes = with_operand 0 giver bytes
+with_place fetches.Constant giver array bytes = with_operand (constant_size giver) array bytes
 
 -- ---- places in the layout
 
@@ -55,7 +81,7 @@ laid_frames wide e = map (widened_frame (laid_place wide e.code)) (merged e.fram
 
 -- ---- the whole
 
--- The body for which emitted code and its tables stand in a layout, where these jumps are wide, the pool has at these places what the
+-- The body for which emitted code, ready for its layout, and its tables stand in a layout, where these jumps are wide, the pool has at these places what the
 -- prelude names, and these are the uses.
 unfoldable pub laid_body : Body → Emitted → (wide : List Bool) → Fetch → TwinPlaces → List Use → Body
 laid_body b e wide fetch p uses = record b {
@@ -82,17 +108,19 @@ LaidBodiesAreTwins names b first states given =
     (wide : List Bool) (p : TwinPlaces) (giver : What) (uses : List Use) → p.integer ≡ given.integer
     → NamesProbes given.fetch giver first (probe_count b) uses p
     → ((place : ℕ) (what : What) → what_used b.uses place ≡ Some what → what_used uses place ≡ Some what)
-    → Twin names names states given.fetch giver first b (laid_body b (emission b first states given) wide given.fetch p uses)
+    → Twin names names states given.fetch giver first b
+    (laid_body b (readied given.fetch p.giver (emission b first states given)) wide given.fetch p uses)
 
--- If these are the bytes of the chosen layout, and spell the emitted code in a layout, then with the place in the pool of
--- the method that the prelude calls they spell the code of the body that stands there.
-abbrev pub SpellsLaid : Body → Emitted → (wide : List Bool) → TwinPlaces → List Use → (bytes starts : List ℕ) → Type 0
-SpellsLaid b e wide p uses bytes starts =
+-- If these are the bytes of the layout that is chosen for code that is ready for it, and spell it in a layout, then with the place in
+-- the pool that comes last they spell the code of the body that stands there.
+abbrev pub SpellsLaid : Body → Emitted → (wide : List Bool) → Fetch → TwinPlaces → List Use → (bytes starts : List ℕ) → Type 0
+SpellsLaid b e wide fetch p uses bytes starts =
     bytes ≡ chosen_text e.code → Spells bytes (laid_code wide e.code) (laid_starts wide e.code starts)
-    → Spells (with_place p.giver bytes) (laid_body b e wide fetches.Member p uses).code (laid_starts wide e.code starts)
+    → Spells (with_place fetch p.giver p.array bytes) (laid_body b e wide fetch p uses).code (laid_starts wide e.code starts)
 
--- Of code that calls a method for its array of probes, the bytes of the layout that spell it before the method has its place in the
--- pool spell the code of the body, once that place stands in the first instruction.
-abbrev pub LaidBodiesAreSpelled : Body → Emitted → Type 0
-LaidBodiesAreSpelled b e =
-    (wide : List Bool) (p : TwinPlaces) (uses : List Use) (bytes starts : List ℕ) → p.giver < 2 ^ 16 → SpellsLaid b e wide p uses bytes starts
+-- The bytes of the layout that spell the code before the pool has all that the prelude names spell the code of the body, once its
+-- place stands there too.
+abbrev pub LaidBodiesAreSpelled : Body → Emitted → Fetch → Type 0
+LaidBodiesAreSpelled b e fetch =
+    (wide : List Bool) (p : TwinPlaces) (uses : List Use) (bytes starts : List ℕ) → p.giver < 2 ^ 16 → p.array < 2 ^ 16
+    → SpellsLaid b (readied fetch p.giver e) wide fetch p uses bytes starts

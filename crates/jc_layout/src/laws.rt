@@ -9,10 +9,9 @@ ghost use Rattle.jc_methods.specs.declared.body.Body.{Body};
 ghost use Rattle.jc_methods.specs.declared.emitted.Emitted.{Emitted as Emission};
 ghost use Rattle.jc_methods.specs.declared.insn.Insn.{Insn};
 ghost use Rattle.jc_methods.specs.declared.kind.State.{State};
-ghost use Rattle.jc_methods.specs.declared.probe_members.Fetch.TheVariants as fetches;
 ghost use Rattle.jc_insn.specs.Sizes.{StartAt};
 ghost use Rattle.jc_emit.specs.Emission.{Emitting, emission, HasFrameStates, IsArrayNumber};
-ghost use Rattle.jc_layout.specs.LaidBody.{LaidBodiesAreSpelled, LaidBodiesAreTwins};
+ghost use Rattle.jc_layout.specs.LaidBody.{LaidBodiesAreSpelled, LaidBodiesAreTwins, readied};
 ghost use Rattle.jc_layout.specs.Layable.{IsLayable};
 ghost use Rattle.jc_layout.specs.Layout.{starts_of, AreJumps, IsChosen, OthersNear, chosen, chosen_list};
 
@@ -35,15 +34,16 @@ pub fn each_layout_is_chosen()
     ensures jumps { (code : List Insn) → AreJumps code (chosen code) }
 {}
 
-/// The instrumented code of a well made body can be laid out.
+/// The instrumented code of a well made body can be laid out, whatever the place of the constant that
+/// it loads first is.
 pub fn each_emission_can_be_laid()
-    ensures { (b : Body) (first : ℕ) (states : List State) (given : Emitting) → IsWellMadeOfAnySize b
-        → IsLayable (emission b first states given).code }
+    ensures { (b : Body) (first giver : ℕ) (states : List State) (given : Emitting) → IsWellMadeOfAnySize b
+        → IsLayable (readied given.fetch giver (emission b first states given)).code }
 {}
 
-/// The bytes of a layout of instrumented code that calls a method for its array of probes, with the place in the
-/// pool of that method, spell the code of that body.
+/// The bytes of a layout of instrumented code, with the place in the pool that comes last, spell the
+/// code of that body.
 pub fn each_laid_body_is_spelled()
-    ensures { (b : Body) (first : ℕ) (states : List State) (given : Emitting) (e : Emission) → given.fetch ≡ fetches.Member
-        → e ≡ emission b first states given → IsWellMadeOfAnySize b → LaidBodiesAreSpelled b e }
+    ensures { (b : Body) (first : ℕ) (states : List State) (given : Emitting) (e : Emission) → e ≡ emission b first states given
+        → IsWellMadeOfAnySize b → LaidBodiesAreSpelled b e given.fetch }
 {}

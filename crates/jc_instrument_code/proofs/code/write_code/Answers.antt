@@ -39,5 +39,5 @@ returns-clause-text c =
       max_locals = e.max_locals;
     } in
     subst (λ (all : List ℕ). IfOk c.write_laid.result (λ text. text ≡ all))
-    (laid_text_is c.args.pool.now c.args.frames.names.now c.args.places.now e seen c.args.laid.now c.args.frames.frames.now same c.requires.laid
+    (laid_text_is c.args.pool.now c.args.fetch c.args.frames.names.now c.args.places.now e seen c.args.laid.now c.args.frames.frames.now same c.requires.laid
     c.requires.frames.are c.requires.names) c.write_laid.ensures.text

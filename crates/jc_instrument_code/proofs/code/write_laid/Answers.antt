@@ -16,7 +16,7 @@ pub returns-clause-text : goal.returns-clause-text
 returns-clause-text c =
     let t = c.args.tables.now in
     c.from_vec.ensures
-    ∙ laid_text_parts c.args.pool.now (tables_seen t) c.args.laid.now t.frames.names.now c.args.places.now t.frames.frames.now
+    ∙ laid_text_parts c.args.pool.now c.args.fetch (tables_seen t) c.args.laid.now t.frames.names.now c.args.places.now t.frames.frames.now
     c.as_slice-starts.result.now c.deref.result.now c.len.result c.as_slice-starts.ensures
     c.deref.ensures c.len.ensures c.new-text.result.items c.put_sizes.new.into.items c.put_code.new.into.items
     c.put_rows.new.into.items c.put_attributes.new.into.items c.new-text.ensures.items c.in_ok-put_sizes.ensures c.in_ok-put_code.ensures

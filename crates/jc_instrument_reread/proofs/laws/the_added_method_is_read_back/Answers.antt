@@ -4,6 +4,6 @@ use Rattle.jc_instrument_reread.proofs.laws.the_added_method_is_read_back.Goals 
 
 pub returns : goal.returns
 returns c = record {
-  init = λ twin owner id count p method number w. read_as_init twin owner id count p method w number;
-  passes = λ twin owner id count p method number w. added_passes twin owner id count p method w number;
+  init = λ fetch twin owner id count p method number w. read_as_init fetch twin owner id count p method w number;
+  passes = λ fetch twin owner id count p method number w. added_passes fetch twin owner id count p method w number;
 }
