@@ -32,16 +32,16 @@ use Rattle.jc_instrument_reread.proofs.SameBodyLaws.{AreSame, same_missing, same
 
 module _ (c : ClassFile) where
   version_decided : IsDecided (WrongVersion c)
-  version_decided = by (cases_lt c.major 50) (cases_lt 61 c.major)
+  version_decided = by (cases_lt c.major 50) (cases_lt 65 c.major)
     where
       wrong : IsOutside c.major → IsDecided (WrongVersion c)
       wrong outside = inl (of_class kinds.Version c.major, record { outside = outside; refusal = refl })
 
-      within : 50 ≤ c.major → c.major ≤ 61 → IsOutside c.major → ⊥
+      within : 50 ≤ c.major → c.major ≤ 65 → IsOutside c.major → ⊥
       within least most (inl low) = omega (arith, least, low)
       within least most (inr high) = omega (arith, most, high)
 
-      by : (c.major < 50) ⊎ (50 ≤ c.major) → (61 < c.major) ⊎ (c.major ≤ 61) → IsDecided (WrongVersion c)
+      by : (c.major < 50) ⊎ (50 ≤ c.major) → (65 < c.major) ⊎ (c.major ≤ 65) → IsDecided (WrongVersion c)
       by (inl low) high = wrong (inl low)
       by (inr least) (inl high) = wrong (inr high)
       by (inr least) (inr most) = inr (λ r w. within least most w.outside)

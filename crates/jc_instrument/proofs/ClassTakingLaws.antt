@@ -10,14 +10,7 @@ use Rattle.jc_pool.specs.declared.add.PoolFull.{PoolFull}
 use Rattle.jc_instrument.specs.Contents.{class_entry, TakesEach}
 use Rattle.jc_instrument.specs.Needed.{frame_needs}
 use Rattle.jc_instrument.specs.Taking.{IsTooMuch, RefusesEach}
-use Rattle.jc_instrument.proofs.TakingLaws.{IsEntire, takes_one, too_much_before, too_much_behind, too_much_one}
-
-classes_entire : (names : Names) → AllByRecursion IsEntire (map class_entry names)
-classes_entire [] = tt
-classes_entire (name ∷ names) = (tt, classes_entire names)
-
-pub all_classes_entire : (frames : List TypeStateAt) → AllByRecursion IsEntire (frame_needs frames)
-all_classes_entire frames = classes_entire (named_by_all frames)
+use Rattle.jc_instrument.proofs.TakingLaws.{takes_one, too_much_before, too_much_behind, too_much_one}
 
 pub classes_taken : (old new : PoolValue) (names : Names) → TakesClasses old names new → (places : List ℕ) × TakesEach old (map class_entry names) new places
 classes_taken old new [] takes = ([], (takes, refl))
@@ -29,7 +22,7 @@ classes_taken old new (name ∷ names) takes =
 classes_much : (old new : PoolValue) (names : Names) (count : ℕ) → IsFullAt old names new count → IsTooMuch old (map class_entry names)
 classes_much old new [] count full = absurd full
 classes_much old new (name ∷ names) count (inl here) =
-    too_much_before old (class_entry name ∷ []) (map class_entry names) (classes_entire names) (too_much_one old (class_entry name) count here.1)
+    too_much_before old (class_entry name ∷ []) (map class_entry names) (too_much_one old (class_entry name) count here.1)
 classes_much old new (name ∷ names) count (inr later) =
     let first = later.1 in
     too_much_behind old later.0 (class_entry name ∷ []) (map class_entry names) (first.place ∷ [])

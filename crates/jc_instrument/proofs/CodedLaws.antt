@@ -15,11 +15,12 @@ use Rattle.jc_plan.specs.Probed.{first_id}
 use Rattle.jc_instrument.specs.Bodies.{AreBodies}
 use Rattle.jc_instrument.specs.Members.{AreCoded, AreNamedIn, IsCoded}
 use Rattle.jc_instrument.specs.Ready.{ArePlanned, method_of}
+use Rattle.jc_instrument.specs.declared.constants.ProbeConstants.{ProbeConstants}
 use Rattle.jc_instrument.specs.declared.ready.PlannedBody.{PlannedBody}
 use Rattle.jc_instrument.proofs.PlannedLaws.{planned_method}
 use Rattle.jc_instrument.proofs.TwinMethodLaws.{IsOld, same_code}
 
-module _ (names : Names) (c : ClassFile) (new : PoolValue) (extends : Extends c.pool new) (is : IsClassFile c) where
+module _ (names : Names) (constants : ProbeConstants) (c : ClassFile) (new : PoolValue) (extends : Extends c.pool new) (is : IsClassFile c) where
   -- what is named is named in the grown pool too
   all_named : (l : List Attribute) → AreNamedIn c.pool l → AreNamedIn new l
   all_named [] named = tt
@@ -57,9 +58,9 @@ module _ (names : Names) (c : ClassFile) (new : PoolValue) (extends : Extends c.
         (λ i j q r less x y. rising (suc i) (suc j) q r (let more : suc i < suc j = omega (arith, less) in more) x y),
   )
 
-  module _ (bodies : List Body) (planned : List PlannedBody) (are : AreBodies names c bodies) (so : ArePlanned names bodies planned) where
+  module _ (bodies : List Body) (planned : List PlannedBody) (are : AreBodies names c bodies) (so : ArePlanned names constants bodies planned) where
     number_is : (i : ℕ) (p : PlannedBody) (at : slice_get planned i ≡ Some p) → method_of p ≡ (so.each i p at).body.method
-    number_is i p at = let one = so.each i p at in planned_method names one.body (first_id bodies i) p one.is
+    number_is i p at = let one = so.each i p at in planned_method names constants one.body (first_id bodies i) p one.is
 
     pub are_coded : AreCoded new c.methods planned
     are_coded =

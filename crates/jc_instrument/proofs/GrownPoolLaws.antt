@@ -8,17 +8,18 @@ use Rattle.std.specs.Bool.{⊤}
 use Rattle.std.specs.List.{flat_map, AllByRecursion}
 use Rattle.std.specs.Prelude.{Contains}
 use Rattle.jc_bytes.proofs.BooleanLaws.{first_in, which_in, none_in}
-use Rattle.jc_pool.specs.Adding.{IsNowhere, IsPut, Extends, HasUtf8, HasClass, HasString, HasLong, HasSignature, HasMember, IsMemberTag, entry_of_member}
-use Rattle.jc_pool.specs.Lookup.{entry_of, long_of, Signature, signature, Member}
+use Rattle.jc_pool.specs.Adding.{IsNowhere, IsPut, Extends, HasUtf8, HasClass, HasString, HasInteger, HasLong, HasSignature, HasMember, HasHandle, HasComputed, IsMemberTag, entry_of_member}
+use Rattle.jc_pool.specs.Lookup.{entry_of, integer_of, long_of, Signature, signature, Member, Handle, Computed}
 use Rattle.jc_pool.specs.Pool.{PoolValue}
 use Rattle.jc_pool.specs.declared.entry.Entry.{Entry}
 use Rattle.jc_pool.specs.declared.entry.Entry.TheVariants as entry
 use Rattle.jc_pool.specs.declared.index.Naming.TheVariants as naming
 use Rattle.jc_pool.proofs.AddedLaws.{AreOne, one_alone, one_utf8, one_naming}
+use Rattle.jc_pool.proofs.AddedLinkedLaws.{one_handle, one_computed}
 use Rattle.jc_pool.proofs.AddedMemberLaws.{one_signature, one_member}
 use Rattle.jc_pool.proofs.AddingLaws.{same_extends, put_extends, extends_more}
 use Rattle.jc_pool.proofs.OneMoreEntryLaws.{entry_stays, entry_past, one_more, by_slots}
-use Rattle.jc_instrument.specs.Contents.{Content, text_entry, class_entry, string_entry, long_entry, signature_entry, member_entry, content_of, class_parts, signature_parts, with_parts, Takes, TakesEach, IsOfClass}
+use Rattle.jc_instrument.specs.Contents.{Content, text_entry, class_entry, string_entry, integer_entry, long_entry, signature_entry, member_entry, handle_entry, computed_entry, content_of, class_parts, signature_parts, member_parts, with_parts, Takes, TakesEach, IsOfClass}
 use Rattle.jc_instrument.specs.GrownPool.{StandsForOne, IsGrown}
 use Rattle.jc_instrument.proofs.ContentLaws.{has_entry, content_kept, content_there, content_nowhere}
 
@@ -38,7 +39,7 @@ nothing_past pool place e behind there = none-some e (sym (entry_past pool place
 no_content_past : (pool : PoolValue) (place : ℕ) (c : Content) → length pool ≤ place → content_of pool place ≡ Some c → ⊥
 no_content_past pool place c behind is = let e = has_entry pool place c is in nothing_past pool place e.0 behind e.1
 
-entry_before : (old new : PoolValue) (place : ℕ) → Extends old new → place < length old → entry_of new place ≡ entry_of old place
+pub entry_before : (old new : PoolValue) (place : ℕ) → Extends old new → place < length old → entry_of new place ≡ entry_of old place
 entry_before old new place more less = ap (λ (l : PoolValue). entry_of l place) more.1 ∙ entry_stays old more.0 place less
 
 same_content : (pool : PoolValue) (place : ℕ) (c d : Content) → content_of pool place ≡ Some c → content_of pool place ≡ Some d → c ≡ d
@@ -48,7 +49,7 @@ same_content pool place c d p q = same_Some c d (sym p ∙ q)
 abbrev last_place : (pool : PoolValue) (e : Entry) (slots : PoolValue) → Type 0
 last_place pool e slots = (place : ℕ) (f : Entry) → length pool ≤ place → entry_of slots place ≡ Some f → place ≡ length pool
 
-put_last : (old new : PoolValue) (e : Entry) (place at : ℕ) (f : Entry) → IsPut old new e place → length old ≤ at → entry_of new at ≡ Some f → at ≡ place
+pub put_last : (old new : PoolValue) (e : Entry) (place at : ℕ) (f : Entry) → IsPut old new e place → length old ≤ at → entry_of new at ≡ Some f → at ≡ place
 put_last old new e place at f put behind there =
     by_slots (last_place old e) old e one more at f behind (ap (λ (l : PoolValue). entry_of l at) (sym put.grown) ∙ there) ∙ sym put.last
   where
@@ -214,6 +215,12 @@ string_grown old new text place (inr put) =
     (content_there old new place (string_entry text) tt (inr put)) (content_nowhere old (string_entry text) put.0)
     (none_listed (string_entry text) (text_entry text ∷ []) ((λ e. cc), tt))
 
+integer_grown : (old new : PoolValue) (value : ℤ) (place : ℕ) → HasInteger old value new place → Grown old new (integer_entry value ∷ [])
+integer_grown old new value place (inl there) = grown_same old new (integer_entry value ∷ []) there.1
+integer_grown old new value place (inr put) =
+    grown_put old old new [] (entry.Integer value) place (integer_entry value) (grown_none old []) put.1
+    (content_there old new place (integer_entry value) tt (inr put)) (content_nowhere old (integer_entry value) put.0) (none_in (integer_entry value))
+
 long_grown : (old new : PoolValue) (value : ℤ) (place : ℕ) → HasLong old value new place → Grown old new (long_entry value ∷ [])
 long_grown old new value place (inl there) = grown_same old new (long_entry value ∷ []) there.1
 long_grown old new value place (inr put) =
@@ -241,13 +248,32 @@ member_grown old new m place is (inr put) =
     (content_there old new place (member_entry m) is (inr put)) (content_nowhere old (member_entry m) put.0)
     (none_listed (member_entry m) parts ((λ e. cc), ((λ e. cc), ((λ e. cc), ((λ e. cc), ((λ e. cc), tt))))))
 
+handle_grown : (old new : PoolValue) (h : Handle) (place : ℕ) → IsMemberTag h.target.tag → HasHandle old h new place → Grown old new (with_parts (handle_entry h))
+handle_grown old new h place is (inl there) = grown_same old new (with_parts (handle_entry h)) there.1
+handle_grown old new h place is (inr put) =
+    let p = put.1 in
+    grown_put old p.0 new (member_parts h.target) (entry.MethodHandle h.kind p.1) place (handle_entry h) (member_grown old p.0 h.target p.1 is p.2) p.3
+    (content_there old new place (handle_entry h) is (inr put)) (content_nowhere old (handle_entry h) put.0)
+    (none_listed (handle_entry h) (member_parts h.target) ((λ e. cc), ((λ e. cc), ((λ e. cc), ((λ e. cc), ((λ e. cc), ((λ e. cc), tt)))))))
+
+computed_grown : (old new : PoolValue) (c : Computed) (place : ℕ) → HasComputed old c new place → Grown old new (with_parts (computed_entry c))
+computed_grown old new c place (inl there) = grown_same old new (with_parts (computed_entry c)) there.1
+computed_grown old new c place (inr put) =
+    let p = put.1 in
+    grown_put old p.0 new (signature_parts c.signed) (entry.Dynamic c.bootstrap p.1) place (computed_entry c) (signature_grown old p.0 c.signed p.1 p.2) p.3
+    (content_there old new place (computed_entry c) tt (inr put)) (content_nowhere old (computed_entry c) put.0)
+    (none_listed (computed_entry c) (signature_parts c.signed) ((λ e. cc), ((λ e. cc), ((λ e. cc), tt))))
+
 takes_grown : (old new : PoolValue) (c : Content) (place : ℕ) → IsOfClass c → Takes old c new place → Grown old new (with_parts c)
 takes_grown old new (text_entry text) place of takes = text_grown old new text place takes
 takes_grown old new (class_entry name) place of takes = class_grown old new name place takes
 takes_grown old new (string_entry text) place of takes = string_grown old new text place takes
+takes_grown old new (integer_entry value) place of takes = integer_grown old new value place takes
 takes_grown old new (long_entry value) place of takes = long_grown old new value place takes
 takes_grown old new (signature_entry s) place of takes = signature_grown old new s place takes
 takes_grown old new (member_entry m) place of takes = member_grown old new m place of takes
+takes_grown old new (handle_entry h) place of takes = handle_grown old new h place of takes
+takes_grown old new (computed_entry c) place of takes = computed_grown old new c place takes
 
 -- ---- each content
 
@@ -294,9 +320,12 @@ one_takes : (old new other : PoolValue) (c : Content) (place at : ℕ) → Takes
 one_takes old new other (text_entry text) place at p q = one_utf8 old new other text place at p q
 one_takes old new other (class_entry name) place at p q = one_naming naming.Class old new other name place at p q
 one_takes old new other (string_entry text) place at p q = one_naming naming.String old new other text place at p q
+one_takes old new other (integer_entry value) place at p q = one_alone integer_of value old (entry.Integer value) new other place at p q
 one_takes old new other (long_entry value) place at p q = one_alone long_of value old (entry.Long value) new other place at p q
 one_takes old new other (signature_entry s) place at p q = one_signature old s new other place at p q
 one_takes old new other (member_entry m) place at p q = one_member old new other m place at p q
+one_takes old new other (handle_entry h) place at p q = one_handle old new other h place at p q
+one_takes old new other (computed_entry c) place at p q = one_computed old new other c place at p q
 
 pub one_taking : (needs : List Content) (old new other : PoolValue) (places others : List ℕ) → TakesEach old needs new places → TakesEach old needs other others
     → (new ≡ other) × (places ≡ others)

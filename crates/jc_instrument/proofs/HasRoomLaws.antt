@@ -10,10 +10,12 @@ use Rattle.jc_emit.specs.Straddling.{NoneStraddles}
 use Rattle.jc_plan.specs.Analysed.{all_probes}
 use Rattle.jc_instrument.specs.Bodies.{AreBodiesOf}
 use Rattle.jc_instrument.specs.Causes.{NoCause, of_class}
+use Rattle.jc_instrument.specs.Constants.{AreConstants}
 use Rattle.jc_instrument.specs.LeftAlone.{is_left_alone}
 use Rattle.jc_instrument.specs.ReadyClass.{making_causes}
 use Rattle.jc_instrument.specs.Reasons.{code_causes}
 use Rattle.jc_instrument.specs.RoomCauses.{HasTooLargeCode, early_room_causes}
+use Rattle.jc_instrument.specs.declared.constants.ProbeConstants.{ProbeConstants}
 use Rattle.jc_instrument.proofs.RoomDecidedLaws.{has_local_room, has_stack_room, none_straddles, short_code}
 use Rattle.jc_instrument.proofs.RoomLaws.{of_class_are}
 use Rattle.jc_instrument.proofs.WrittenCodeLaws.{HasRoom}
@@ -32,16 +34,16 @@ module _ (c : ClassFile) (bodies : List Body) (is : IsClassFile c) (changes : is
           (record { bodies = bodies; are = are; many = many; refusal = refl }))
       by (inr few) = few
 
-  pub has_room : HasRoom bodies
-  has_room = record {
+  pub has_room : (bootstrap : ℕ) (constants : ProbeConstants) → AreConstants c (all_probes bodies) bootstrap constants → HasRoom constants bodies
+  has_room bootstrap constants loads = record {
     locals = λ i place b at lacks.
-        has_local_room c is room.1.1.1.0 are.names b.method b ((of_class_are c bodies changes are).each i b at) lacks.0;
+        has_local_room c is room.1.1.1.1.0 are.names b.method b ((of_class_are c bodies changes are).each i b at) lacks.0;
     stack = λ i place b at lacks.
-        let few = has_stack_room c is room.1.1.1.1.0 are.names b.method b ((of_class_are c bodies changes are).each i b at) in
+        let few = has_stack_room c is room.1.1.1.1.1.0 are.names b.method b ((of_class_are c bodies changes are).each i b at) in
         let many = lacks.0 in
         omega (arith, few, many);
     probes = probes_few;
-    short = short_code c bodies are room.1.1.1.1.1.0;
+    short = short_code c bodies are bootstrap constants loads room.1.1.1.1.1.1.0;
   }
 
   -- and no long or double stands where the array of probes will

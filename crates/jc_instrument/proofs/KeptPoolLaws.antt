@@ -17,6 +17,7 @@ use Rattle.jc_instrument_code.specs.Given.{IsNamedAt}
 use Rattle.jc_instrument_code.specs.TwinCode.{kind_vars_name, lines_name, vars_name}
 use Rattle.jc_instrument_code.specs.declared.code.CodePlaces.{CodePlaces}
 use Rattle.jc_instrument_code.proofs.FirstPlaceLaws.{class_found, text_within}
+use Rattle.jc_instrument.specs.declared.constants.ProbeConstants.{ProbeConstants}
 use Rattle.jc_instrument.specs.BodiesWithStates.{BodyWithStates, emitted_of}
 use Rattle.jc_instrument.specs.Writing.{AreAllNamed, KeepsClasses}
 
@@ -47,12 +48,12 @@ same_places old new keeps (name ∷ l) all =
 -- ---- names of attributes
 
 module _ (old new : PoolValue) (extends : Extends old new) where
-  same_text : (place : ℕ) → place < length old → utf8_of new place ≡ utf8_of old place
+  pub same_text : (place : ℕ) → place < length old → utf8_of new place ≡ utf8_of old place
   unfolding utf8_of
   same_text place less =
       ap (λ (e : Option Entry). e >>= utf8_in) (ap (λ (l : PoolValue). get_or l place None) extends.1 ∙ entry_stays old extends.0 place less)
 
-  first_text_kept : (text : List ℕ) (place : ℕ) → IsFirst (utf8_of old) text place → IsFirst (utf8_of new) text place
+  pub first_text_kept : (text : List ℕ) (place : ℕ) → IsFirst (utf8_of old) text place → IsFirst (utf8_of new) text place
   first_text_kept text place first = record {
     there = utf8_kept old new text place extends first.there;
     first = λ k less at.
@@ -64,14 +65,14 @@ module _ (old new : PoolValue) (extends : Extends old new) where
   named_kept name [] place named = tt
   named_kept name (x ∷ xs) place named = first_text_kept name place named
 
-  pub all_named_kept : (array : ℕ) (places : CodePlaces) (works : List BodyWithStates) → AreAllNamed old array works places
-      → AreAllNamed new array works places
-  all_named_kept array places [] named = tt
-  all_named_kept array places (w ∷ works) named = (
+  pub all_named_kept : (constants : ProbeConstants) (array : ℕ) (places : CodePlaces) (works : List BodyWithStates) → AreAllNamed old constants array works places
+      → AreAllNamed new constants array works places
+  all_named_kept constants array places [] named = tt
+  all_named_kept constants array places (w ∷ works) named = (
     record {
-      lines = named_kept lines_name (emitted_of array w).lines places.lines named.0.lines;
-      vars = named_kept vars_name (emitted_of array w).vars places.vars named.0.vars;
-      kind_vars = named_kept kind_vars_name (emitted_of array w).kind_vars places.kind_vars named.0.kind_vars;
+      lines = named_kept lines_name (emitted_of constants array w).lines places.lines named.0.lines;
+      vars = named_kept vars_name (emitted_of constants array w).vars places.vars named.0.vars;
+      kind_vars = named_kept kind_vars_name (emitted_of constants array w).kind_vars places.kind_vars named.0.kind_vars;
     },
-    all_named_kept array places works named.1,
+    all_named_kept constants array places works named.1,
   )

@@ -3,6 +3,7 @@ use Rattle.std.proofs.Common.{◌≡◌, ℕ, ◌-◌, ◌+◌, List, [], ◌∷
 use Rattle.std.specs.Prelude.{slice_index}
 use Rattle.std.specs.List.{AllByRecursion, flat_map}
 use Rattle.std.proofs.lemmas.List.Concat.{flat_map-cons}
+use Rattle.jc_methods.specs.declared.probe_members.Fetch.{Fetch}
 use Rattle.jc_bytes.specs.BigNumbers.{short}
 use Rattle.jc_methods.specs.VerificationTypes.{Names, VerificationType, top, int, float, double, long, null, uninit_this, object, uninit, TypeStateAt, class_name, class_names, type_state_at}
 use Rattle.jc_methods.specs.declared.body.FrameAt.{FrameAt}
@@ -80,12 +81,12 @@ module _ (f g : List ℕ → ℕ) (start : ℕ → ℕ) where
       (all_frames name frames same)
 
 -- classes at the same places, and the rest is equal
-pub same_laid_text : (old new : PoolValue) (places : CodePlaces) (names : Names) (t : MovedTables) (l : Laid) (frames : List FrameAt)
+pub same_laid_text : (old new : PoolValue) (fetch : Fetch) (places : CodePlaces) (names : Names) (t : MovedTables) (l : Laid) (frames : List FrameAt)
     → AllByRecursion (λ name. class_place old name ≡ class_place new name) (named_by_all (map (type_state_at names) frames))
-    → laid_text old places names t l frames ≡ laid_text new places names t l frames
+    → laid_text old fetch places names t l frames ≡ laid_text new fetch places names t l frames
 unfolding laid_text
-same_laid_text old new places names t l frames same =
-    ap (λ (all : List Attribute). code_text t.max_stack t.max_locals (with_place places.method l.code)
+same_laid_text old new fetch places names t l frames same =
+    ap (λ (all : List Attribute). code_text t.max_stack t.max_locals (with_place fetch places.giver places.array l.code)
     (counted_text (row_text (slice_index l.starts)) t.handlers) all)
     (same_attributes (class_place old) (class_place new) (slice_index l.starts) places.lines places.vars places.kind_vars places.frames t
     (map (type_state_at names) frames) same)

@@ -26,9 +26,14 @@ pub mod GrownPoolLaws
 pub mod RefusedLaws
 pub mod SameItemsLaws
 pub mod RoomCauseLaws
+pub mod StandingLaws
+pub mod FramesNameLaws
 pub mod TwinLaws
 pub mod RoomLaws
 pub mod TakingLaws
+pub mod ConstantsLaws
+pub mod AttributesLaws
+pub mod FramesAskedLaws
 pub mod ClassTakingLaws
 pub mod ProbingLaws
 pub mod TooLargeLaws
@@ -65,4 +70,7 @@ pub mod PlannedLaws
 pub mod GivenLaws
 pub mod LookingLaws
 pub mod LookedLaws
-pub mod VersionLaws
+pub mod BootstrapsLaws
+pub mod BootstrapsDecidedLaws
+pub mod LookedBodiesLaws
+pub mod LayoutsLaws

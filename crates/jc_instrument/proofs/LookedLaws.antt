@@ -15,13 +15,14 @@ use Rattle.jc_body.specs.BodyOf.{BodyOf, Bodiless, FaultOf}
 use Rattle.jc_instrument.specs.Bodies.{AreBodiesBelow, IsReadable}
 use Rattle.jc_instrument.specs.Causes.{InMethod}
 use Rattle.jc_instrument.specs.Found.{AreFramesFine}
-use Rattle.jc_instrument.specs.Looking.{AreLookedAt, HaveBodies, IsLooking, LooksAtBody, LooksOn, PlansOn}
+use Rattle.jc_instrument.specs.Looking.{AreLookedAt, HaveBodies, IsLooking, LooksAtBody, LooksOn}
 use Rattle.jc_instrument.specs.Reasons.{IsFaulty}
 use Rattle.jc_instrument.specs.Steps.{IsKept, IsReading}
 use Rattle.jc_instrument.specs.declared.bodies.Reading.{Reading}
 use Rattle.jc_instrument.specs.declared.looking.Looking.{Looking}
-use Rattle.jc_instrument.specs.declared.ready.PlannedBody.{PlannedBody}
+use Rattle.jc_instrument.specs.declared.looked.LookedBody.{LookedBody}
 use Rattle.jc_instrument.proofs.ListedLaws.{grown_bodies, no_bodies, with_body, without_body}
+use Rattle.jc_instrument.proofs.LookedBodiesLaws.{none_looked_at}
 use Rattle.jc_instrument.proofs.LookingLaws.{body_on, looked_grown, missing_stays}
 use Rattle.jc_instrument.proofs.ReadingLaws.{body_read, fault_kept, none_read}
 use Rattle.jc_instrument.proofs.SmallBodiesLaws.{probes_below}
@@ -143,23 +144,18 @@ other_left names b old new left on = record {
   locals = on.locals;
   stack = on.stack;
   probes = on.probes;
-  planned = λ has few. planned old.large (on.planned has few);
+  looked = on.looked;
 }
-  where
-    planned : (large : Option Refusal) → PlansOn names b (record old { left = left }) new large → PlansOn names b old new large
-    planned (Some r) plans = plans
-    planned None plans = plans
 
 -- ---- the beginning
 
 -- before the first method
-abbrev begun : (left : ℕ) → List PlannedBody → Looking
-begun left planned = record {
+abbrev begun : (left : ℕ) → List LookedBody → Looking
+begun left looked = record {
   bad = None;
   frames = record { missing = None; clash = None };
   room = record { straddling = None; locals = None; stack = None };
-  large = None;
-  bodies = planned;
+  bodies = looked;
   probes = 0;
   left = left;
 }
@@ -167,8 +163,8 @@ begun left planned = record {
 no_body : {X : Type 0} (i : ℕ) (x : X) → slice_get [] i ≡ Some x → ⊥
 no_body i x at = none-some x at
 
-none_looked_at : (names : Names) (left : ℕ) → AreLookedAt names [] (begun left [])
-none_looked_at names left = record {
+nothing_looked_at : (names : Names) (left : ℕ) → AreLookedAt names [] (begun left [])
+nothing_looked_at names left = record {
   made = All-nil IsWellMade;
   frames = λ i b at. absurd (no_body i b at);
   room = λ fine. record {
@@ -178,16 +174,12 @@ none_looked_at names left = record {
       stack = λ i place b at lacks. no_body i b at;
     };
     probes = refl;
-    planned = λ has few. record {
-      count = refl;
-      each = λ i p at. absurd (no_body i p at);
-      short = λ i b less at. absurd (no_body i b at);
-    };
+    looked = λ has few. none_looked_at names;
   };
 }
 
-pub nothing_looked : (names : Names) (c : ClassFile) (left : ℕ) (planned : List PlannedBody) → planned ≡ [] → IsLooking names c 0 (begun left planned)
-nothing_looked names c left planned none = subst (λ (l : List PlannedBody). IsLooking names c 0 (begun left l)) (sym none) (record {
+pub nothing_looked : (names : Names) (c : ClassFile) (left : ℕ) (looked : List LookedBody) → looked ≡ [] → IsLooking names c 0 (begun left looked)
+nothing_looked names c left looked none = subst (λ (l : List LookedBody). IsLooking names c 0 (begun left l)) (sym none) (record {
   no_subroutine = λ before place less. absurd (omega (arith, less));
-  found = record { bodies = []; are = no_bodies names c [] refl; so = none_looked_at names left };
+  found = record { bodies = []; are = no_bodies names c [] refl; so = nothing_looked_at names left };
 })

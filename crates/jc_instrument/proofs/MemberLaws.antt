@@ -37,26 +37,24 @@ single_of bytes (x ∷ y ∷ l) is = absurd (none (ap (drop 1) is))
     none : map (λ (a : Attribute). a.body) (y ∷ l) ≡ [] → ⊥
     none e = cc
 
-module _ (pool : PoolValue) (text : List ℕ) where
-  abbrev named : Attribute → Bool
-  named = has_name pool (codes "Code")
+-- attributes of a name are changed, and others stay
+module _ (named : Attribute → Bool) (change : Attribute → Attribute) where
+  abbrev pub put : Attribute → Attribute
+  put a = if named a then change a else a
 
-  abbrev put : Attribute → Attribute
-  put = with_code pool text
-
-  put_named : (a : Attribute) → named a ≡ true → put a ≡ attribute a.name text
-  put_named a is = ap (λ (t : Bool). if t then attribute a.name text else a) is
+  put_named : (a : Attribute) → named a ≡ true → put a ≡ change a
+  put_named a is = ap (λ (t : Bool). if t then change a else a) is
 
   put_other : (a : Attribute) → named a ≡ false → put a ≡ a
-  put_other a is = ap (λ (t : Bool). if t then attribute a.name text else a) is
+  put_other a is = ap (λ (t : Bool). if t then change a else a) is
 
-  none_put : (l : List Attribute) → filter named l ≡ [] → map put l ≡ l
+  pub none_put : (l : List Attribute) → filter named l ≡ [] → map put l ≡ l
   none_put [] none = refl
   none_put (a ∷ l) none =
       let p = not_kept (named a) a (filter named l) none in
       λ i. put_other a p.0 i ∷ none_put l p.1 i
 
-  none_named : (l : List Attribute) (n : ℕ) (a : Attribute) → filter named l ≡ [] → slice_get l n ≡ Some a → named a ≡ true → ⊥
+  pub none_named : (l : List Attribute) (n : ℕ) (a : Attribute) → filter named l ≡ [] → slice_get l n ≡ Some a → named a ≡ true → ⊥
   none_named [] n a none at is = cc
   none_named (b ∷ l) zero a none at is =
       let p = not_kept (named b) b (filter named l) none in
@@ -65,8 +63,8 @@ module _ (pool : PoolValue) (text : List ℕ) where
   none_named (b ∷ l) (suc n) a none at is =
       none_named l n a (not_kept (named b) b (filter named l) none).1 at is
 
-  one_put : (l : List Attribute) (n : ℕ) (a x : Attribute) → filter named l ≡ x ∷ [] → slice_get l n ≡ Some a → named a ≡ true
-      → map put l ≡ set l n (attribute a.name text)
+  pub one_put : (l : List Attribute) (n : ℕ) (a x : Attribute) → filter named l ≡ x ∷ [] → slice_get l n ≡ Some a → named a ≡ true
+      → map put l ≡ set l n (change a)
   one_put [] n a x one at is = absurd (none at)
     where
       none : slice_get {X = Attribute} [] n ≡ Some a → ⊥
@@ -74,8 +72,8 @@ module _ (pool : PoolValue) (text : List ℕ) where
   one_put (b ∷ l) zero a x one at is = by (one_kept (named b) b x (filter named l) one)
     where
       by : ((named b ≡ true) × (filter named l ≡ [])) ⊎ ((named b ≡ false) × (filter named l ≡ x ∷ []))
-          → map put (b ∷ l) ≡ set (b ∷ l) zero (attribute a.name text)
-      by (inl p) = λ i. (put_named b p.0 ∙ ap (λ (y : Attribute). attribute y.name text) (same_Some b a at)) i ∷ none_put l p.1 i
+          → map put (b ∷ l) ≡ set (b ∷ l) zero (change a)
+      by (inl p) = λ i. (put_named b p.0 ∙ ap change (same_Some b a at)) i ∷ none_put l p.1 i
       by (inr p) = absurd (wrong (sym is ∙ ap named (sym (same_Some b a at)) ∙ p.0))
         where
           wrong : true ≡ false → ⊥
@@ -83,12 +81,12 @@ module _ (pool : PoolValue) (text : List ℕ) where
   one_put (b ∷ l) (suc n) a x one at is = by (one_kept (named b) b x (filter named l) one) (λ rest. one_put l n a x rest at is)
     where
       by : ((named b ≡ true) × (filter named l ≡ [])) ⊎ ((named b ≡ false) × (filter named l ≡ x ∷ []))
-          → (filter named l ≡ x ∷ [] → map put l ≡ set l n (attribute a.name text))
-          → map put (b ∷ l) ≡ set (b ∷ l) (suc n) (attribute a.name text)
+          → (filter named l ≡ x ∷ [] → map put l ≡ set l n (change a))
+          → map put (b ∷ l) ≡ set (b ∷ l) (suc n) (change a)
       by (inl p) later = absurd (none_named l n a p.1 at is)
       by (inr p) later = λ i. put_other b p.0 i ∷ later p.1 i
 
-  none_kept : (l : List Attribute) → NoItem (λ n a. IsTrue (named a)) l → filter named l ≡ []
+  pub none_kept : (l : List Attribute) → NoItem (λ n a. IsTrue (named a)) l → filter named l ≡ []
   none_kept [] none = refl
   none_kept (a ∷ l) none = by (named a) refl (none_kept l (λ n x at fact. none (suc n) x at fact))
     where
@@ -96,33 +94,40 @@ module _ (pool : PoolValue) (text : List ℕ) where
       by true is rest = absurd (none 0 a refl is)
       by false is rest = ap (λ (t : Bool). if t then a ∷ filter named l else filter named l) is ∙ rest
 
+module _ (pool : PoolValue) (text : List ℕ) where
+  abbrev is_code : Attribute → Bool
+  is_code = has_name pool (codes "Code")
+
+  abbrev with_text : Attribute → Attribute
+  with_text a = attribute a.name text
+
   -- one attribute is named Code
-  pub one_named : (method : Member) (l : List Attribute) → HasOneCode pool method → l ≡ method.attributes → NoItem (λ n a. IsTrue (named a)) l → ⊥
+  pub one_named : (method : Member) (l : List Attribute) → HasOneCode pool method → l ≡ method.attributes → NoItem (λ n a. IsTrue (is_code a)) l → ⊥
   one_named method l one is none =
-      let s = single_of one.bytes (filter named method.attributes) one.single in
-      nothing s.0 (sym (none_kept method.attributes (subst (NoItem (λ n a. IsTrue (named a))) is none)) ∙ s.1)
+      let s = single_of one.bytes (filter is_code method.attributes) one.single in
+      nothing s.0 (sym (none_kept is_code with_text method.attributes (subst (NoItem (λ n a. IsTrue (is_code a))) is none)) ∙ s.1)
     where
       nothing : (x : Attribute) → [] ≡ x ∷ [] → ⊥
       nothing x e = cc
 
   -- the one attribute that is named Code gets the text
-  pub code_put : (method : Member) (n : ℕ) (a : Attribute) → HasOneCode pool method → slice_get method.attributes n ≡ Some a → named a ≡ true
-      → map put method.attributes ≡ set method.attributes n (attribute a.name text)
+  pub code_put : (method : Member) (n : ℕ) (a : Attribute) → HasOneCode pool method → slice_get method.attributes n ≡ Some a → is_code a ≡ true
+      → map (with_code pool text) method.attributes ≡ set method.attributes n (attribute a.name text)
   code_put method n a one at is =
-      let s = single_of one.bytes (filter named method.attributes) one.single in
-      one_put method.attributes n a s.0 s.1 at is
+      let s = single_of one.bytes (filter is_code method.attributes) one.single in
+      one_put is_code with_text method.attributes n a s.0 s.1 at is
 
   -- the same, where the list is taken out of the method and put back
   pub list_put : (method : Member) (l items out : List Attribute) (n : ℕ) (b : Attribute) → HasOneCode pool method → l ≡ method.attributes
-      → IsFirstItem (λ n a. IsTrue (named a)) l n → items ≡ method.attributes → b ≡ get_or items n b → out ≡ set items n (attribute b.name text)
-      → out ≡ map put method.attributes
+      → IsFirstItem (λ n a. IsTrue (is_code a)) l n → items ≡ method.attributes → b ≡ get_or items n b → out ≡ set items n (attribute b.name text)
+      → out ≡ map (with_code pool text) method.attributes
   list_put method l items out n b one is first are read set_is =
-      let f = subst (λ (k : List Attribute). IsFirstItem (λ n a. IsTrue (named a)) k n) is first in
+      let f = subst (λ (k : List Attribute). IsFirstItem (λ n a. IsTrue (is_code a)) k n) is first in
       let at = sym (get_or_from_slice_get method.attributes n f.item b f.stands) in
       let same : b ≡ f.item = read ∙ ap (λ (k : List Attribute). get_or k n b) are ∙ sym at in
       set_is ∙ (λ i. set (are i) n (attribute (same i).name text)) ∙ sym (code_put method n f.item one f.stands f.fact)
 
-  pub place_within : (l items : List Attribute) (n : ℕ) → l ≡ items → IsFirstItem (λ n a. IsTrue (named a)) l n → n < length items
+  pub place_within : (l items : List Attribute) (n : ℕ) → l ≡ items → IsFirstItem (λ n a. IsTrue (is_code a)) l n → n < length items
   place_within l items n is first = subst (λ (k : List Attribute). n < length k) is (slice_get_within l n first.item first.stands)
 
 -- ---- lists by their places

@@ -1,5 +1,5 @@
 -- What instrumented code names stands in the grown pool.
-use Rattle.std.proofs.Common.{◌≡◌, ◌⊎◌, inl, inr, ℕ, suc, ◌≤◌, Bool, true, false, List, [], ◌∷◌, ◌++◌, length, map, Some, slice_get, refl, sym, ◌∙◌, ap, subst, if◌then◌else◌}
+use Rattle.std.proofs.Common.{◌≡◌, ◌⊎◌, inl, inr, ℕ, suc, ◌≤◌, Bool, true, false, List, [], ◌∷◌, length, map, Some, slice_get, refl, sym, ◌∙◌, ap, subst, if◌then◌else◌}
 use Rattle.std.specs.Prelude.{filter}
 use Rattle.std.specs.List.{AllByRecursion}
 use Rattle.jc_bytes.specs.Grammar.{Grammar}
@@ -8,7 +8,6 @@ use Rattle.jc_methods.specs.Starts.{insn_number}
 use Rattle.jc_methods.specs.declared.body.Body.{Body}
 use Rattle.jc_methods.specs.declared.body.LineAt.{LineAt}
 use Rattle.jc_methods.specs.declared.body.VarAt.{VarAt}
-use Rattle.jc_methods.specs.declared.probe_members.Fetch.TheVariants as fetches
 use Rattle.jc_pool.specs.Adding.{Extends}
 use Rattle.jc_pool.specs.Lookup.{utf8_of}
 use Rattle.jc_pool.specs.Pool.{PoolValue}
@@ -31,11 +30,12 @@ use Rattle.jc_instrument.specs.Writing.{AreAllNamed}
 use Rattle.jc_instrument.specs.Members.{AreTextPlaces, IsFirstIfAny}
 use Rattle.jc_instrument.specs.BodiesWithStates.{BodyWithStates, all_frames, bodies_of, emitted_of}
 use Rattle.jc_instrument.specs.Contents.{class_entry}
-use Rattle.jc_instrument.specs.Needed.{needs_of, place_list, TakesNeeds}
-use Rattle.jc_instrument.specs.declared.needs.MemberPlaces.{MemberPlaces}
+use Rattle.jc_instrument.specs.TwinText.{TakesNeeds, Writing, constants_of}
+use Rattle.jc_instrument.specs.declared.constants.ProbeConstants.{ProbeConstants}
 use Rattle.jc_instrument.proofs.ContentLaws.{of_content}
-use Rattle.jc_instrument.proofs.GrownPoolLaws.{StandAt, stand_at}
-use Rattle.jc_instrument.proofs.TwinLaws.{each_listed, text_is}
+use Rattle.jc_instrument.proofs.GrownPoolLaws.{StandAt}
+use Rattle.jc_instrument.proofs.StandingLaws.{needs_stand}
+use Rattle.jc_instrument.proofs.TwinLaws.{text_is}
 
 -- ---- classes
 
@@ -47,13 +47,12 @@ each_placed pool (name ∷ l) (place ∷ places) at few =
     (record { place = place; stands = of_content pool place (class_entry name) at.0; fits = few }, each_placed pool l places at.1 few)
 
 -- each class that is named in the frames
-pub all_placed : (id : ℕ) (names : Names) (array : ℕ) (c : ClassFile) (works : List BodyWithStates) (pool : PoolValue) (places : MemberPlaces)
-    → TakesNeeds id names array c works pool places → length pool ≤ 65535
-    → AllByRecursion (HasPlace pool) (named_by_all (all_frames names array works))
-all_placed id names array c works pool places takes few =
-    let at = stand_at (needs_of id names array c works) c.pool pool (place_list places ++ takes.class_places) (each_listed id names array c works)
-    takes.takes in
-    each_placed pool (named_by_all (all_frames names array works)) takes.class_places at.1.1.1.1.1.1.1.1.1.1.1.1 few
+pub all_placed : (id : ℕ) (names : Names) (array : ℕ) (c : ClassFile) (works : List BodyWithStates) (w : Writing)
+    → TakesNeeds id names array c works w → length w.pool ≤ 65535
+    → AllByRecursion (HasPlace w.pool) (named_by_all (all_frames names (constants_of w) array works))
+all_placed id names array c works w takes few =
+    each_placed w.pool (named_by_all (all_frames names (constants_of w) array works)) takes.class_places (needs_stand id names array c works w takes).classes
+    few
 
 -- ---- names of attributes
 
@@ -92,8 +91,8 @@ table_named old new extends name place make none entries places (inr there) =
 -- ---- one body
 
 module _ (names : Names) (c : ClassFile) (new : PoolValue) (extends : Extends c.pool new) (places : CodePlaces) (at : AreTextPlaces new places)
-    (array : ℕ) where
-  pub work_named : (w : BodyWithStates) → BodyOf names c w.body.method w.body → AreNamed new (emitted_of array w) places
+    (constants : ProbeConstants) (array : ℕ) where
+  pub work_named : (w : BodyWithStates) → BodyOf names c w.body.method w.body → AreNamed new (emitted_of constants array w) places
   unfolding emission
   work_named w body =
       let b = w.body in
@@ -101,7 +100,7 @@ module _ (names : Names) (c : ClassFile) (new : PoolValue) (extends : Extends c.
       let number = insn_number is.coded.starts in
       let count = length is.coded.insns in
       let attributes = is.coded.items.attributes in
-      let land = land_of b w.first (narrow fetches.Member) in
+      let land = land_of b w.first (narrow constants.fetch) in
       record {
         lines = subst (λ (ls : List LineAt). IsNamedAt new lines_name (map (moved_line land) ls) places.lines) (sym is.parts.lines)
             (table_named c.pool new extends lines_name places.lines (λ entries. map (moved_line land) (lines_of number count entries)) refl
@@ -116,6 +115,6 @@ module _ (names : Names) (c : ClassFile) (new : PoolValue) (extends : Extends c.
       }
 
   pub are_named : (works : List BodyWithStates)
-      → ((k : ℕ) (b : Body) → slice_get (bodies_of works) k ≡ Some b → BodyOf names c b.method b) → AreAllNamed new array works places
+      → ((k : ℕ) (b : Body) → slice_get (bodies_of works) k ≡ Some b → BodyOf names c b.method b) → AreAllNamed new constants array works places
   are_named [] each = tt
   are_named (w ∷ works) each = (work_named w (each 0 w.body refl), are_named works (λ k b stands. each (suc k) b stands))

@@ -16,13 +16,13 @@ use Rattle.jc_instrument.specs.LeftAlone.{is_left_alone}
 use Rattle.jc_instrument.specs.ReadyClass.{making_causes}
 use Rattle.jc_instrument.specs.Reasons.{code_causes}
 use Rattle.jc_instrument.specs.RoomCauses.{early_room_causes, HasTooLargeCode, room_causes}
-use Rattle.jc_instrument.specs.TwinText.{twin_class}
+use Rattle.jc_instrument.specs.TwinText.{constants_of, twin_class}
 use Rattle.jc_instrument.specs.BodiesWithStates.{bodies_of}
 use Rattle.jc_instrument.specs.declared.whole.Instrumented.{Instrumented}
 use Rattle.jc_instrument.proofs.CauseLaws.{none_in_both}
 use Rattle.jc_instrument.proofs.FramedStatesLaws.{framed_work}
 use Rattle.jc_instrument.proofs.HasRoomLaws.{all_free, has_room}
-use Rattle.jc_instrument.proofs.PassingLaws.{all_checked, class_passes, no_code_cause, no_room_cause, twins, works_written}
+use Rattle.jc_instrument.proofs.PassingLaws.{all_checked, class_loads, class_passes, no_code_cause, no_room_cause, twins, works_written}
 use Rattle.jc_instrument.proofs.WrittenAgainLaws.{AreWrittenWorks}
 use Rattle.jc_instrument.proofs.WrittenCodeLaws.{HasRoom}
 
@@ -43,25 +43,27 @@ module _ (bytes : List ℕ) (a : Instrumented) (are : AreBytes bytes) (size : le
   none_making : NoCause (making_causes is.file)
   none_making =
       none_in_both (code_causes c) (early_room_causes c ++ (HasTooLargeCode c ∷ [])) no_code
-      (no_room.0, (no_room.1.0, (no_room.1.1.0, (no_room.1.1.1.0, (no_room.1.1.1.1.0, (no_room.1.1.1.1.1.0, tt))))))
+      (no_room.0, (no_room.1.0, (no_room.1.1.0, (no_room.1.1.1.0, (no_room.1.1.1.1.0, (no_room.1.1.1.1.1.0, (no_room.1.1.1.1.1.1.0, tt)))))))
 
   of_class : AreBodiesOf is.file (bodies_of has.works)
   of_class = record {
     names = has.names;
-    are = subst (λ (t : Bool). AreBodiesUnless t has.names c (bodies_of has.works)) (sym changes) has.written.are.bodies;
+    are = subst (λ (t : Bool). AreBodiesUnless t has.names c (bodies_of has.works)) (sym changes) has.written.ready.are.bodies;
     checked = all_checked bytes c is.text are size (class_id bytes) no_code has.names has.array has.works has.twin has.written;
   }
 
-  room : HasRoom (bodies_of has.works)
-  room = has_room c (bodies_of has.works) holds changes of_class none_making
+  room : HasRoom (constants_of has.written.with) (bodies_of has.works)
+  room =
+      has_room c (bodies_of has.works) holds changes of_class none_making has.written.with.bootstrap (constants_of has.written.with)
+      (class_loads bytes c is.text are size (class_id bytes) no_code has.names has.array has.works has.twin has.written)
 
   -- its works are written, and make the class
-  pub file_works : AreWrittenWorks (class_id bytes) has.names has.array (map framed_work has.works) is.file has.written.pool has.written.places
+  pub file_works : AreWrittenWorks (class_id bytes) has.names has.array (map framed_work has.works) is.file has.written.with
   file_works =
       works_written bytes c is.text are size (class_id bytes) no_code has.names has.array has.works has.twin has.written a.bytes has.are_bytes has.text room
       (all_free c (bodies_of has.works) holds changes of_class none_making)
 
-  pub file_class : has.twin ≡ twin_class has.names has.array is.file (map framed_work has.works) has.written.pool has.written.places
+  pub file_class : has.twin ≡ twin_class has.names has.array is.file (map framed_work has.works) has.written.with
   file_class = twins bytes c is.text are size (class_id bytes) no_code has.names has.array has.works has.twin has.written
 
   twin_passes : EachPassesAgain has.twin

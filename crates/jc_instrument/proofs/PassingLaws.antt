@@ -19,12 +19,12 @@ use Rattle.jc_instrument_reread.specs.WrittenCode.{IsWrittenCode}
 use Rattle.jc_instrument_reread.proofs.AgainLaws.{each_passes}
 use Rattle.jc_instrument.specs.Causes.{Cause, NoCause, unless}
 use Rattle.jc_instrument.specs.LeftAlone.{is_left_alone}
-use Rattle.jc_instrument.specs.Needed.{name_of, signed_id, TakesNeeded}
+use Rattle.jc_instrument.specs.Needed.{early_list, early_needs, frame_needs, member_needs, name_of, place_list, signed_id, TakesNeeded}
 use Rattle.jc_instrument.specs.Reasons.{class_causes, code_causes, interface_causes}
 use Rattle.jc_instrument.specs.Refused.{probe_causes}
 use Rattle.jc_instrument.specs.RoomCauses.{room_causes}
-use Rattle.jc_instrument.specs.TwinText.{twin_class, work_of, IsWritten}
-use Rattle.jc_instrument.specs.BodiesWithStates.{BodyWithStates, bodies_of, emitted_of, AreBodiesWithStates}
+use Rattle.jc_instrument.specs.TwinText.{constants_of, twin_class, work_of, IsReadyFor, IsWritten}
+use Rattle.jc_instrument.specs.BodiesWithStates.{BodyWithStates, all_frames, bodies_of, emitted_of, AreBodiesWithStates}
 use Rattle.jc_instrument.proofs.DecidedLaws.{none_behind}
 use Rattle.jc_instrument.proofs.FramedStatesLaws.{framed_work, same_bodies, works_are, works_fit}
 use Rattle.jc_instrument.proofs.OneTwinLaws.{one_twin}
@@ -33,8 +33,12 @@ use Rattle.jc_instrument.proofs.ListedLaws.{body_at}
 use Rattle.jc_instrument.proofs.SameWorksLaws.{same_frames}
 use Rattle.jc_instrument.proofs.SomeBodiesLaws.{made_well, passes}
 use Rattle.jc_instrument.proofs.TextSizesLaws.{class_size, method_size}
-use Rattle.jc_instrument.proofs.WrittenAgainLaws.{AreSoundBodies, AreWrittenWorks, texts_short, work_found, written_methods}
+use Rattle.jc_instrument.proofs.WrittenAgainLaws.{AreSoundBodies, AreWrittenWorks, all_written, texts_short, work_found}
 use Rattle.jc_instrument.proofs.WrittenCodeLaws.{HasRoom, code_places, written_code}
+use Rattle.jc_plan.specs.Analysed.{all_probes}
+use Rattle.jc_instrument.specs.Constants.{AreConstants, given_with}
+use Rattle.jc_instrument.specs.declared.constants.ProbeConstants.{ProbeConstants}
+use Rattle.jc_instrument.proofs.StandingLaws.{early_count, takes_split}
 
 -- ---- causes
 
@@ -62,6 +66,9 @@ module _ (id : ℕ) (c : ClassFile) (none : NoCause (probe_causes id c)) (change
 
 module _ (bytes : List ℕ) (c : ClassFile) (text : ClassText bytes c) (are_bytes : AreBytes bytes) (size : length bytes ≤ most_read) (id : ℕ)
     (none : NoCause (code_causes c)) (names : Names) (array : ℕ) (works : List BodyWithStates) (twin : ClassFile) (w : IsWritten id names array works c twin) where
+  abbrev pub constants : ProbeConstants
+  constants = constants_of w.with
+
   is : IsClassFile c
   is = class_holds bytes c are_bytes text
 
@@ -69,11 +76,11 @@ module _ (bytes : List ℕ) (c : ClassFile) (text : ClassText bytes c) (are_byte
   few = let less = class_size bytes c text in omega (arith, less, size)
 
   made : (i : ℕ) (b : Body) → slice_get (bodies_of works) i ≡ Some b → IsWellMadeOfAnySize b
-  made i b at = (made_well c is (class_pool bytes c are_bytes text) few none names (bodies_of works) w.are.bodies i b at).of_any_size
+  made i b at = (made_well c is (class_pool bytes c are_bytes text) few none names (bodies_of works) w.ready.are.bodies i b at).of_any_size
 
   pub all_checked : All (Checked names) (bodies_of works)
   all_checked k d less =
-      passes c is (class_pool bytes c are_bytes text) few none names (bodies_of works) w.are.bodies k (get_or (bodies_of works) k d)
+      passes c is (class_pool bytes c are_bytes text) few none names (bodies_of works) w.ready.are.bodies k (get_or (bodies_of works) k d)
       (slice_get-get_or (bodies_of works) k d less)
 
   -- the works with the states of the frames
@@ -81,26 +88,42 @@ module _ (bytes : List ℕ) (c : ClassFile) (text : ClassText bytes c) (are_byte
   framed = map framed_work works
 
   framed_are : AreBodiesWithStates names array c framed
-  framed_are = works_are names array c works w.are made
+  framed_are = works_are names array c works w.ready.are made
 
   bodies_same : bodies_of framed ≡ bodies_of works
   bodies_same = same_bodies works
 
-  framed_written : IsWritten id names array framed c (twin_class names array c framed w.pool w.places)
-  framed_written = record {
+  -- the pool takes so many probes' needs and these frames' ones
+  abbrev Takes : List Body → List TypeStateAt → Type 0
+  Takes bodies frames =
+      TakesNeeded c.pool w.with.fetch w.with.bootstrap (name_of c) (signed_id id) (all_probes bodies) frames w.with.pool w.with.early w.with.places
+
+  framed_ready : IsReadyFor id names array framed c w.with
+  framed_ready = record {
+    gets = w.ready.gets;
     are = framed_are;
-    pool = w.pool;
-    places = w.places;
-    takes = subst (λ (frames : List TypeStateAt). TakesNeeded c.pool (name_of c) (signed_id id) frames w.pool w.places)
-        (same_frames names names array array c works framed w.are framed_are) w.takes;
-    few = w.few;
-    is = refl;
+    takes = subst (λ (bodies : List Body). Takes bodies (all_frames names constants array framed)) (sym bodies_same)
+        (subst (Takes (bodies_of works)) (same_frames constants names names array array c works framed w.ready.are framed_are) w.ready.takes);
   }
 
-  pub twins : twin ≡ twin_class names array c framed w.pool w.places
-  twins = one_twin id names names array array works framed c twin (twin_class names array c framed w.pool w.places) w framed_written
+  framed_written : IsWritten id names array framed c (twin_class names array c framed w.with)
+  framed_written = record { with = w.with; ready = framed_ready; few = w.few; is = refl }
 
-  module _ (new_bytes : List ℕ) (new_are : AreBytes new_bytes) (new_text : ClassText new_bytes twin) (room : HasRoom (bodies_of works))
+  pub twins : twin ≡ twin_class names array c framed w.with
+  twins = one_twin id names names array array works framed c twin (twin_class names array c framed w.with) w framed_written
+
+  -- the constants are those of the class
+  pub class_loads : AreConstants c (all_probes (bodies_of works)) w.with.bootstrap constants
+  class_loads =
+      let count = all_probes (bodies_of works) in
+      let taken = takes_split c.pool w.with.pool (early_needs w.with.fetch w.with.bootstrap count)
+      (member_needs w.with.fetch (name_of c) (signed_id id) count (all_frames names constants array works) ++ frame_needs (all_frames names constants array works))
+      (early_list w.with.fetch w.with.early)
+      (place_list w.with.fetch count (all_frames names constants array works) w.with.places ++ w.ready.takes.class_places)
+      (early_count w.with.fetch w.with.bootstrap count w.with.early w.ready.takes.integers) w.ready.takes.takes in
+      record { gets = w.ready.gets; early = w.with.early; pool = taken.0; takes = taken.1; are = refl }
+
+  module _ (new_bytes : List ℕ) (new_are : AreBytes new_bytes) (new_text : ClassText new_bytes twin) (room : HasRoom constants (bodies_of works))
       (free : (i : ℕ) (b : Body) → slice_get (bodies_of works) i ≡ Some b → NoneStraddles b) where
     stands : (i : ℕ) (b : Body) → slice_get (bodies_of framed) i ≡ Some b → slice_get (bodies_of works) i ≡ Some b
     stands i b at = ap (λ (l : List Body). slice_get l i) (sym bodies_same) ∙ at
@@ -108,41 +131,37 @@ module _ (bytes : List ℕ) (c : ClassFile) (text : ClassText bytes c) (are_byte
     sound : AreSoundBodies names (bodies_of framed)
     sound = record {
       well_made = λ i b at. made i b (stands i b at);
-      checked = λ i b at. passes c is (class_pool bytes c are_bytes text) few none names (bodies_of works) w.are.bodies i b (stands i b at);
+      checked = λ i b at. passes c is (class_pool bytes c are_bytes text) few none names (bodies_of works) w.ready.are.bodies i b (stands i b at);
       none_straddles = λ i b at. free i b (stands i b at);
     }
 
-    framed_room : HasRoom (bodies_of framed)
-    framed_room = subst HasRoom (sym bodies_same) room
+    framed_room : HasRoom constants (bodies_of framed)
+    framed_room = subst (HasRoom constants) (sym bodies_same) room
 
-    twin_is : IsClassFile (twin_class names array c framed w.pool w.places)
-    twin_is = class_holds new_bytes (twin_class names array c framed w.pool w.places) new_are (subst (ClassText new_bytes) twins new_text)
+    twin_is : IsClassFile (twin_class names array c framed w.with)
+    twin_is = class_holds new_bytes (twin_class names array c framed w.with) new_are (subst (ClassText new_bytes) twins new_text)
 
-    coded : (number : ℕ) (x : BodyWithStates) → work_of number framed ≡ Some x → IsWrittenCode w.pool (code_places w.pool w.places) names (emitted_of array x)
-    unfolding framed_written
+    coded : (number : ℕ) (x : BodyWithStates) → work_of number framed ≡ Some x
+        → IsWrittenCode w.with.pool w.with.fetch (code_places w.with) names (emitted_of constants array x)
     coded number x found =
         let h = work_found number framed x found in
-        written_code id names array c framed (twin_class names array c framed w.pool w.places) framed_written
-        (class_read bytes c are_bytes text).methods framed_room h.index x h.stands (sound.well_made h.index x.body (body_at framed h.index x h.stands))
-        (texts_short id names array framed c (twin_class names array c framed w.pool w.places) framed_written twin_is number x found)
+        written_code id names array c framed w.with framed_ready w.few (class_read bytes c are_bytes text).methods framed_room h.index x h.stands
+        (sound.well_made h.index x.body (body_at framed h.index x h.stands))
+        (texts_short names array framed c (twin_class names array c framed w.with) w.with framed_are refl twin_is number x found)
 
-    pub works_written : AreWrittenWorks id names array framed c w.pool w.places
-    unfolding framed_written
+    pub works_written : AreWrittenWorks id names array framed c w.with
     works_written = record {
       is = is;
-      are = framed_are;
-      takes = framed_written.takes;
+      ready = framed_ready;
       few = w.few;
-      fits = works_fit names array c works w.are made;
+      fits = works_fit names array c works w.ready.are made;
       sound = sound;
       probes = framed_room.probes;
       coded = coded;
     }
 
     pub class_passes : EachPassesAgain twin
-    unfolding framed_written
     class_passes =
         subst EachPassesAgain (sym twins)
-        (each_passes names c (twin_class names array c framed w.pool w.places) (code_places w.pool w.places) array
-        (written_methods id names array framed c (twin_class names array c framed w.pool w.places) framed_written is
-        (works_fit names array c works w.are made) sound framed_room.probes coded))
+        (each_passes names c (twin_class names array c framed w.with) w.with.bootstrap (code_places w.with) (given_with constants array)
+        (all_written id names array framed c w.with works_written))

@@ -2,51 +2,32 @@
 use Rattle.std.proofs.Common.{◌≡◌, ℕ, zero, suc, ◌+◌, ◌≤◌, Bool, true, false, List, [], ◌∷◌, ◌++◌, Option, Some, None, slice_get, length, map, refl, sym, ◌∙◌, ap, subst, if◌then◌else◌}
 use Rattle.std.specs.Prelude.{IfSome}
 use Rattle.std.specs.List.{list_any}
-use Rattle.std.proofs.lemmas.List.Sums.{sum_by_push}
 use Rattle.std.proofs.lemmas.Option.{none-some, same_Some}
-use Rattle.jc_methods.specs.ProbeMembers.{most_probes}
 use Rattle.jc_methods.specs.VerificationTypes.{Names, Grows, AreNumberedFrames, type_state_at}
-use Rattle.jc_methods.specs.WellMade.{IsWellMade}
 use Rattle.jc_methods.specs.declared.body.Body.{Body}
-use Rattle.jc_methods.specs.declared.insn.Insn.{Insn}
-use Rattle.jc_methods.specs.declared.kind.State.{State}
-use Rattle.jc_methods.specs.declared.probe_members.Fetch.TheVariants as fetches
-use Rattle.jc_methods.specs.declared.plan.Plan.{Plan}
 use Rattle.jc_methods.proofs.NumberedLaws.{frames_numbered, grown_count}
 use Rattle.jc_bytes.specs.declared.fail.Fail.TheVariants as fails
 use Rattle.jc_class.specs.declared.class_file.ClassFile.{ClassFile}
 use Rattle.jc_body.specs.BodyOf.{BodyOf}
 use Rattle.jc_plan.specs.Plan.{plan_of}
-use Rattle.jc_kinds.specs.Answers.{AreStates}
 use Rattle.jc_kinds.specs.Checked.{Checked}
-use Rattle.jc_emit.specs.Emission.{emission}
-use Rattle.jc_emit.specs.Placing.{ArePlacesFor}
-use Rattle.jc_emit.specs.Refusing.{HasRoom, IsTaken}
-use Rattle.jc_emit.specs.declared.places.Places.{Places}
-use Rattle.jc_layout.specs.Layout.{chosen_length}
-use Rattle.jc_layout.specs.declared.layouts.Laid.{Laid}
-use Rattle.jc_instrument_code.proofs.LaidLaws.{laid_length}
 use Rattle.jc_instrument_reread.proofs.SameBodyLaws.{grown_same, same_check}
-use Rattle.jc_instrument_reread.specs.WrittenCode.{by_method}
 use Rattle.jc_instrument.specs.Bodies.{AreBodies}
 use Rattle.jc_instrument.specs.BodiesWithStates.{BodyWithStates}
-use Rattle.jc_instrument.specs.KeptStates.{places_kept, planned_places}
-use Rattle.jc_instrument.specs.Looking.{PutsPlanned}
-use Rattle.jc_instrument.specs.Ready.{ArePlanned, AreReadyFrom, IsLaidFor, IsPlannedBody, IsReadAgain, IsReadyFrom, IsSource, TakesProbes, is_unread, method_of, source_of}
-use Rattle.jc_instrument.specs.RoomCauses.{probed_code}
+use Rattle.jc_instrument.specs.Ready.{ArePlanned, AreReadyFrom, IsPlannedBody, IsReadAgain, IsReadyFrom, IsSource, TakesProbes, is_unread, method_of, source_of}
 use Rattle.jc_instrument.specs.Writing.{IsPlannedWork, IsWorkOf}
+use Rattle.jc_instrument.specs.declared.constants.ProbeConstants.{ProbeConstants}
 use Rattle.jc_instrument.specs.declared.ready.PlannedBody.{PlannedBody}
 use Rattle.jc_instrument.specs.declared.ready.PlannedBody.TheVariants.{Ready, Unread}
 use Rattle.jc_instrument.specs.declared.ready.ReadyBody.{ReadyBody}
 use Rattle.jc_instrument.specs.declared.ready.UnreadBody.{UnreadBody}
 use Rattle.jc_instrument.proofs.OneBodyLaws.{grown_body}
-use Rattle.jc_instrument.proofs.ProbingLaws.{emission_code}
 use Rattle.jc_instrument.proofs.WritingLaws.{ready_grown}
 
 -- the number of its method
-pub planned_method : (names : Names) (b : Body) (first : ℕ) (p : PlannedBody) → IsPlannedBody names b first p → method_of p ≡ b.method
-planned_method names b first (Ready r) is = ap (λ (x : Body). x.method) is.1
-planned_method names b first (Unread u) is = is.0
+pub planned_method : (names : Names) (constants : ProbeConstants) (b : Body) (first : ℕ) (p : PlannedBody) → IsPlannedBody names constants b first p → method_of p ≡ b.method
+planned_method names constants b first (Ready r) is = ap (λ (x : Body). x.method) is.1
+planned_method names constants b first (Unread u) is = is.0
 
 -- what is said isn't want of memory
 pub none_said : {E : Type 0} (e : E) → fails.Said e ≡ fails.Memory → ⊥
@@ -56,8 +37,8 @@ none_said e is = cc
 pub check_grown : (old new : Names) (b : Body) → Grows old new → AreNumberedFrames (length old) b.frames → Checked old b → Checked new b
 check_grown old new b grows numbered checked = same_check old new b b (grown_same old new b grows numbered) checked
 
-module _ (old new : Names) (grows : Grows old new) where
-  pub again_grown : (c : ClassFile) (u : UnreadBody) → IsReadAgain old c u → IsReadAgain new c u
+module _ (constants : ProbeConstants) (old new : Names) (grows : Grows old new) where
+  pub again_grown : (c : ClassFile) (u : UnreadBody) → IsReadAgain old constants c u → IsReadAgain new constants c u
   again_grown c u a = record {
     source = a.source;
     body = a.body;
@@ -66,12 +47,12 @@ module _ (old new : Names) (grows : Grows old new) where
     takes = a.takes;
   }
 
-  pub ready_from_grown : (source : Option ClassFile) (p : PlannedBody) → IsReadyFrom old source p → IsReadyFrom new source p
+  pub ready_from_grown : (source : Option ClassFile) (p : PlannedBody) → IsReadyFrom old constants source p → IsReadyFrom new constants source p
   ready_from_grown source (Ready r) ready = ready_grown old new r grows ready
   ready_from_grown None (Unread u) ready = absurd ready
   ready_from_grown (Some c) (Unread u) ready = again_grown c u ready
 
-  pub planned_grown : (b : Body) (first : ℕ) (p : PlannedBody) → IsPlannedBody old b first p → IsPlannedBody new b first p
+  pub planned_grown : (b : Body) (first : ℕ) (p : PlannedBody) → IsPlannedBody old constants b first p → IsPlannedBody new constants b first p
   planned_grown b first (Ready r) is = (ready_grown old new r grows is.0, is.1, is.2)
   planned_grown b first (Unread u) is = is
 
@@ -79,11 +60,11 @@ module _ (old new : Names) (grows : Grows old new) where
   source_grown None b body = tt
   source_grown (Some c) b body = grown_body old new c b.method b grows body
 
-  module _ (others : Names) (array : ℕ) (source : Option ClassFile) (p : PlannedBody) (w : BodyWithStates) (of : IsPlannedWork old others array source p w) where
+  module _ (others : Names) (array : ℕ) (source : Option ClassFile) (p : PlannedBody) (w : BodyWithStates) (of : IsPlannedWork old others constants array source p w) where
     seen_now : map (type_state_at new) w.body.frames ≡ map (type_state_at others) w.body.frames
     seen_now = sym (grown_same old new w.body grows of.numbered).seen ∙ of.seen
 
-    pub planned_work_on : IsPlannedWork new others array source p w
+    pub planned_work_on : IsPlannedWork new others constants array source p w
     planned_work_on = record {
       planned = planned_grown w.body w.first p of.planned;
       body = source_grown source w.body of.body;
@@ -102,53 +83,6 @@ module _ (old new : Names) (grows : Grows old new) where
       states = of.states;
       array_is = of.array_is;
     }
-
--- ---- one body more
-
-module _ (names : Names) (b : Body) (plan : Plan) (first : ℕ) (l : Laid) (plan_is : plan ≡ plan_of b first) (laid : IsLaidFor b plan l) where
-  -- code that is laid isn't too large
-  laid_short : chosen_length (probed_code b first) ≤ 65535
-  laid_short =
-      subst (λ (code : List Insn). chosen_length code ≤ 65535) (emission_code b first [] 0) (laid_length (emission b first [] (by_method 0)) l (laid first [] 0 plan_is))
-
-  module _ (old new : List PlannedBody) where
-    pub puts_ready : (places : Places) (states : List State) → ArePlacesFor b plan fetches.Member places → IsWellMade b → plan.next ≤ most_probes → HasRoom b
-        → length b.handlers ≤ 65535 → AreNumberedFrames (length names) b.frames → AreStates names b states
-        → new ≡ old ++ Ready (record { body = b; plan = plan; laid = l; insn_places = places; states = states }) ∷ []
-        → PutsPlanned names b first old new
-    puts_ready places states placed made few room rows numbered are put = record {
-      planned = Ready (record { body = b; plan = plan; laid = l; insn_places = places; states = states });
-      put = put;
-      is = (
-        record {
-          made = made;
-          numbered = numbered;
-          plan = (first, plan_is);
-          next = few;
-          room = room;
-          rows = rows;
-          laid = laid;
-          placed = placed;
-          states = are;
-        },
-        refl,
-        plan_is,
-      );
-      short = laid_short;
-    }
-
-    pub puts_unread : IsWellMade b → IsTaken b → length b.handlers ≤ 65535 → plan.next ≤ most_probes → new ≡ old ++ Unread (record { method = b.method; first = first }) ∷ []
-        → PutsPlanned names b first old new
-    puts_unread made taken rows few put = record {
-      planned = Unread (record { method = b.method; first = first });
-      put = put;
-      is = (refl, refl, record { made = made; taken = taken; rows = rows; next = subst (λ (p : Plan). p.next ≤ most_probes) plan_is few; short = laid_short });
-      short = laid_short;
-    }
-
--- the places of one more
-pub places_put : (old new : List PlannedBody) (p : PlannedBody) → new ≡ old ++ p ∷ [] → places_kept new ≡ places_kept old + planned_places p
-places_put old new p put = ap places_kept put ∙ sum_by_push planned_places old p
 
 -- ---- the class file from which bodies are read again
 
@@ -170,25 +104,25 @@ is_some (Ready r ∷ planned) zero u at = absurd (kept_or_unread (same_Some (Rea
     kept_or_unread e = cc
 is_some (Ready r ∷ planned) (suc i) u at = is_some planned i u at
 
-module _ (names : Names) (c : ClassFile) (bodies : List Body) (planned : List PlannedBody) (are : AreBodies names c bodies)
-    (checked : (i : ℕ) (b : Body) → slice_get bodies i ≡ Some b → Checked names b) (so : ArePlanned names bodies planned) (from : IsSource c) where
-  one_ready : (i : ℕ) (p : PlannedBody) → slice_get planned i ≡ Some p → IsReadyFrom names (source_of planned c) p
+module _ (names : Names) (constants : ProbeConstants) (c : ClassFile) (bodies : List Body) (planned : List PlannedBody) (are : AreBodies names c bodies)
+    (checked : (i : ℕ) (b : Body) → slice_get bodies i ≡ Some b → Checked names b) (so : ArePlanned names constants bodies planned) (from : IsSource c) where
+  one_ready : (i : ℕ) (p : PlannedBody) → slice_get planned i ≡ Some p → IsReadyFrom names constants (source_of planned c) p
   one_ready i (Ready r) at = (so.each i (Ready r) at).is.0
   one_ready i (Unread u) at =
       let one = so.each i (Unread u) at in
-      subst (λ (t : Bool). IsReadyFrom names (if t then Some c else None) (Unread u)) (sym (is_some planned i u at)) (record {
+      subst (λ (t : Bool). IsReadyFrom names constants (if t then Some c else None) (Unread u)) (sym (is_some planned i u at)) (record {
         source = from;
         body = one.body;
         is = subst (λ (n : ℕ). BodyOf names c n one.body) (sym one.is.0) (are.each i one.body one.stands);
         checked = checked i one.body one.stands;
-        takes = subst (TakesProbes one.body) (sym one.is.1) one.is.2;
+        takes = subst (TakesProbes constants one.body) (sym one.is.1) one.is.2;
       })
 
-  all_ready : (source : Option ClassFile) (rest : List PlannedBody) → ((i : ℕ) (p : PlannedBody) → slice_get rest i ≡ Some p → IsReadyFrom names source p)
-      → AreReadyFrom names source rest
+  all_ready : (source : Option ClassFile) (rest : List PlannedBody) → ((i : ℕ) (p : PlannedBody) → slice_get rest i ≡ Some p → IsReadyFrom names constants source p)
+      → AreReadyFrom names constants source rest
   all_ready source [] each = tt
   all_ready source (p ∷ rest) each = (each 0 p refl, all_ready source rest (λ i q at. each (suc i) q at))
 
   -- each that was kept is ready, and each other is read again from the class
-  pub are_ready_from : (source : Option ClassFile) → source ≡ source_of planned c → AreReadyFrom names source planned
-  are_ready_from source is = subst (λ (o : Option ClassFile). AreReadyFrom names o planned) (sym is) (all_ready (source_of planned c) planned one_ready)
+  pub are_ready_from : (source : Option ClassFile) → source ≡ source_of planned c → AreReadyFrom names constants source planned
+  are_ready_from source is = subst (λ (o : Option ClassFile). AreReadyFrom names constants o planned) (sym is) (all_ready (source_of planned c) planned one_ready)

@@ -5,38 +5,63 @@ use Rattle.std.proofs.lemmas.List.{get_or_past}
 use Rattle.std.proofs.lemmas.Option.{none-some, slice_get-get_or}
 use Rattle.jc_methods.specs.VerificationTypes.{Names, AreNumberedFrames, Grows}
 use Rattle.jc_methods.specs.declared.body.Body.{Body}
+use Rattle.jc_methods.specs.declared.emitted.Emitted.{Emitted}
+use Rattle.jc_methods.specs.declared.insn.Insn.{Insn}
 use Rattle.jc_methods.specs.declared.kind.State.{State}
-use Rattle.jc_methods.specs.declared.probe_members.Fetch.TheVariants as fetches
+use Rattle.jc_methods.specs.declared.probe_members.Fetch.{Fetch}
 use Rattle.jc_methods.specs.WellMade.{IsWellMadeOfAnySize}
 use Rattle.jc_emit.specs.Emission.{emission, IsArrayNumber}
 use Rattle.jc_emit.specs.Shift.{probe_array_class}
-use Rattle.jc_emit.specs.Stages.{moved_tables}
+use Rattle.jc_emit.specs.Stages.{emitted_code, moved_tables}
 use Rattle.jc_emit.specs.Written.{integer_in}
 use Rattle.jc_layout.specs.Layable.{IsLayable}
-use Rattle.jc_layout.proofs.LayableLaws.{all_formed, all_within, few_in}
+use Rattle.jc_layout.specs.LaidBody.{ready_code}
+use Rattle.jc_layout.proofs.LayableLaws.{all_formed, all_within, few_in, ready_layable}
 use Rattle.jc_instrument_code.specs.TwinCode.{tables_in}
-use Rattle.jc_instrument_reread.specs.WrittenCode.{by_method}
-use Rattle.jc_instrument.specs.RoomCauses.{probed_code}
+use Rattle.jc_instrument_reread.specs.WrittenCode.{ready_emission}
+use Rattle.jc_instrument.specs.Constants.{given_with, probed_code}
+use Rattle.jc_instrument.specs.declared.constants.ProbeConstants.{ProbeConstants}
 use Rattle.jc_instrument.specs.BodiesWithStates.{BodyWithStates, IsBodyWithStates}
 use Rattle.jc_instrument.proofs.KeptStatesLaws.{states_grown}
 
 -- ---- one body
 
-pub emission_code : (b : Body) (first : ℕ) (states : List State) (array : ℕ) → (emission b first states (by_method array)).code ≡ probed_code b first
-unfolding emission
-emission_code b first states array = refl
+module _ (constants : ProbeConstants) (b : Body) (first : ℕ) (states : List State) (array : ℕ) where
+  pub emission_code : (ready_emission b first states (given_with constants array) constants.giver).code ≡ probed_code constants b first
+  unfolding emission
+  emission_code = refl
 
-pub emission_tables : (b : Body) (first : ℕ) (states : List State) (array : ℕ) → moved_tables b first fetches.Member ≡ tables_in (emission b first states (by_method array))
-unfolding emission
-emission_tables b first states array = refl
+  pub emission_tables : moved_tables b first constants.fetch ≡ tables_in (ready_emission b first states (given_with constants array) constants.giver)
+  unfolding emission
+  emission_tables = refl
 
-pub emission_layable : (b : Body) (first : ℕ) (states : List State) (array : ℕ) → IsWellMadeOfAnySize b → IsLayable (emission b first states (by_method array)).code
-unfolding emission
-emission_layable b first states array made = record {
-  well_formed = all_formed b first fetches.Member (integer_in []) made.code;
-  places = all_within b first fetches.Member (integer_in []) made.code;
-  few = few_in b first states (by_method array) made.code;
+  pub emission_layable : IsWellMadeOfAnySize b → IsLayable (emitted_code b first constants.fetch (integer_in constants.integers))
+  unfolding emission
+  emission_layable made = record {
+    well_formed = all_formed b first constants.fetch (integer_in constants.integers) made.code;
+    places = all_within b first constants.fetch (integer_in constants.integers) made.code;
+    few = few_in b first states (given_with constants array) made.code;
+  }
+
+-- code of no body, with nothing else
+abbrev alone : List Insn → Emitted
+alone code = record {
+  code = code;
+  at = [];
+  own = [];
+  extra = [];
+  handlers = [];
+  lines = [];
+  vars = [];
+  kind_vars = [];
+  frames = [];
+  wide_frames = [];
+  max_stack = 0;
+  max_locals = 0;
 }
+
+pub code_layable : (fetch : Fetch) (giver : ℕ) (code : List Insn) → IsLayable code → IsLayable (ready_code fetch giver code)
+code_layable fetch giver code layable = ready_layable fetch giver (alone code) layable
 
 -- ---- more names
 

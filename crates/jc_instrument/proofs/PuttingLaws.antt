@@ -1,13 +1,13 @@
 -- Methods that get their instrumented code, one after the other, while the pool takes the classes that frames name.
-use Rattle.std.proofs.Common.{◌≡◌, ◌≢◌, ℕ, zero, suc, ◌+◌, ◌<◌, ◌≤◌, Bool, List, [], ◌∷◌, ◌++◌, length, map, drop, get_or, set, Option, Some, None, slice_get, refl, sym, ◌∙◌, ap, subst, arith, add-one, if◌then◌else◌}
+use Rattle.std.proofs.Common.{◌≡◌, ◌≢◌, ⊎_elim, ℕ, zero, suc, ◌+◌, ◌<◌, ◌≤◌, Bool, List, [], ◌∷◌, ◌++◌, length, map, drop, get_or, set, Option, Some, None, slice_get, refl, sym, ◌∙◌, ap, subst, arith, add-one, if◌then◌else◌}
 use Rattle.std.proofs.Math.ListN.{drop_of_length-le}
 use Rattle.std.specs.List.{AllByRecursion, AllZip}
 use Rattle.std.proofs.lemmas.Bool.{eq-eqb, ne_eqb}
-use Rattle.std.proofs.lemmas.Grind.{flat_map-append}
 use Rattle.std.proofs.lemmas.List.Concat.{flat_map-cons}
 use Rattle.std.proofs.lemmas.Option.{get_or_from_slice_get, slice_get_read, slice_get_within}
 use Rattle.std.proofs.lemmas.Slice.Zip.{AllZip-long}
-use Rattle.jc_methods.specs.VerificationTypes.{Grows, Names, TypeStateAt}
+use Rattle.jc_methods.specs.VerificationTypes.{Grows, Names}
+use Rattle.jc_methods.specs.declared.emitted.Emitted.{Emitted}
 use Rattle.jc_methods.proofs.MetNamesLaws.{grows_both, grows_none}
 use Rattle.jc_bytes.specs.declared.fail.Fail.{Fail}
 use Rattle.jc_bytes.proofs.AppendingLaws.{drop_is}
@@ -19,8 +19,6 @@ use Rattle.jc_pool.proofs.AddingLaws.{extends_more, same_extends}
 use Rattle.jc_class.specs.declared.class_file.Attribute.{Attribute}
 use Rattle.jc_class.specs.declared.class_file.ClassFile.{ClassFile}
 use Rattle.jc_class.specs.declared.class_file.Member.{Member}
-use Rattle.jc_frames.specs.FullTable.{RefusesClasses, named_by, named_by_all}
-use Rattle.jc_frames.proofs.TakenLaws.{Taking, all_taken, refuses_here, takes_more, taking_begun}
 use Rattle.jc_instrument_code.specs.Given.{AreNamed}
 use Rattle.jc_instrument_code.specs.TwinCode.{written_frames}
 use Rattle.jc_instrument_code.specs.declared.code.CodePlaces.{CodePlaces}
@@ -28,9 +26,10 @@ use Rattle.jc_instrument.specs.BodiesWithStates.{BodyWithStates, all_frames, emi
 use Rattle.jc_instrument.specs.Members.{AreCoded, HasOneCode, IsCoded}
 use Rattle.jc_instrument.specs.Ready.{AreReadyFrom, IsReadyFrom, method_of}
 use Rattle.jc_instrument.specs.TwinText.{twin_method, twin_methods, with_code, work_of}
-use Rattle.jc_instrument.specs.Writing.{AreAllNamed, ArePlannedWorks, ArePut, IsPlannedWork, IsWrittenBody, KeepsClasses, code_over}
+use Rattle.jc_instrument.specs.Writing.{AreAllNamed, ArePlannedWorks, ArePut, IsPlannedWork, IsWrittenWork, KeepsClasses, RefusesWork, RefusesWorks, code_over}
+use Rattle.jc_instrument.specs.declared.constants.ProbeConstants.{ProbeConstants}
 use Rattle.jc_instrument.specs.declared.ready.PlannedBody.{PlannedBody}
-use Rattle.jc_instrument.proofs.KeptPoolLaws.{takes_keep}
+use Rattle.jc_instrument.proofs.FramesAskedLaws.{FramesTaking, IsNameAt, frames_all, frames_begun, frames_extend, frames_here, frames_keep, frames_more, name_each, name_stays, one_name, without_frames}
 use Rattle.jc_instrument.proofs.MemberLaws.{one_changed, other_kept, unchanged}
 use Rattle.jc_instrument.proofs.PlannedLaws.{planned_method, planned_work_on, ready_from_grown}
 use Rattle.jc_instrument.proofs.TwinMethodLaws.{same_attributes, same_code}
@@ -65,17 +64,17 @@ zip_dropped R (suc n) (x ∷ xs) (y ∷ ys) all = zip_dropped R n xs ys all.1
 abbrev AreLater : ℕ → List PlannedBody → Type 0
 AreLater number ready = AllByRecursion (λ q. number < method_of q) ready
 
-none_later : (others : Names) (array : ℕ) (source : Option ClassFile) (first : Names) (number : ℕ) (ready : List PlannedBody) (works : List BodyWithStates)
-    → AreLater number ready → ArePlannedWorks first others array source ready works → work_of number works ≡ None
-none_later others array source first number [] [] later of = refl
-none_later others array source first number [] (w ∷ works) later of = absurd of
-none_later others array source first number (r ∷ ready) [] later of = absurd of
-none_later others array source first number (r ∷ ready) (w ∷ works) later of =
+none_later : (constants : ProbeConstants) (others : Names) (array : ℕ) (source : Option ClassFile) (first : Names) (number : ℕ) (ready : List PlannedBody) (works : List BodyWithStates)
+    → AreLater number ready → ArePlannedWorks first others constants array source ready works → work_of number works ≡ None
+none_later constants others array source first number [] [] later of = refl
+none_later constants others array source first number [] (w ∷ works) later of = absurd of
+none_later constants others array source first number (r ∷ ready) [] later of = absurd of
+none_later constants others array source first number (r ∷ ready) (w ∷ works) later of =
     let less = later.0 in
-    let same = planned_method first w.body w.first r of.0.planned in
+    let same = planned_method first constants w.body w.first r of.0.planned in
     let ne : w.body.method ≢ number = omega (arith, less, same) in
     ap (λ (t : Bool). if t then Some w else work_of number works) (ne_eqb w.body.method number ne)
-    ∙ none_later others array source first number ready works later.1 of.1
+    ∙ none_later constants others array source first number ready works later.1 of.1
 
 module _ (old : PoolValue) (code : BodyWithStates → List ℕ) where
   abbrev with : List BodyWithStates → ℕ → Member → Member
@@ -110,30 +109,30 @@ coded_after pool number m methods (q ∷ ready) later coded =
       coded_after pool number m methods ready later.1 coded.2,
     )
 
--- the classes that the frames of the next work name, and those behind them
-names_split : (others : Names) (array : ℕ) (works : List BodyWithStates) (n : ℕ) (w : BodyWithStates) → drop n works ≡ w ∷ drop (n + 1) works
-    → named_by_all (all_frames others array (drop n works))
-    ≡ named_by_all (written_frames others (emitted_of array w)) ++ named_by_all (all_frames others array (drop (n + 1) works))
-names_split others array works n w split =
-    let frames : BodyWithStates → List TypeStateAt = λ v. written_frames others (emitted_of array v) in
-    ap (λ (l : List BodyWithStates). named_by_all (all_frames others array l)) split
-    ∙ ap named_by_all (flat_map-cons frames w (drop (n + 1) works))
-    ∙ flat_map-append named_by (frames w) (all_frames others array (drop (n + 1) works))
+-- the frames of the next work, and those behind them
+frames_split : (constants : ProbeConstants) (others : Names) (array : ℕ) (works : List BodyWithStates) (n : ℕ) (w : BodyWithStates) → drop n works ≡ w ∷ drop (n + 1) works
+    → all_frames others constants array (drop n works) ≡ written_frames others (emitted_of constants array w) ++ all_frames others constants array (drop (n + 1) works)
+frames_split constants others array works n w split =
+    ap (λ (l : List BodyWithStates). all_frames others constants array l) split
+    ∙ flat_map-cons (λ v. written_frames others (emitted_of constants array v)) w (drop (n + 1) works)
 
 -- ---- the methods so far
 
-module _ (first : Names) (source : Option ClassFile) (old : PoolValue) (places : CodePlaces) (ready : List PlannedBody) (methods : List Member) where
+module _ (first : Names) (constants : ProbeConstants) (source : Option ClassFile) (old : PoolValue) (places : CodePlaces) (ready : List PlannedBody) (methods : List Member) where
   -- whatever is put of the works that are left completes all of them
   pub record ArePutting (others : Names) (array : ℕ) (works : List BodyWithStates) (n : ℕ) (pool : PoolValue) (now : List Member) : Type 0 where
-    pub taking : Taking old (named_by_all (all_frames others array works)) pool (named_by_all (all_frames others array (drop n works)))
-    pub rest : (grown : PoolValue) → KeepsClasses pool grown → AreAllNamed grown array works places
-        → twin_methods old (code_over grown places others array) works methods ≡ twin_methods old (code_over grown places others array) (drop n works) now
+    pub taking : FramesTaking constants.fetch old (all_frames others constants array works) places.frames pool (all_frames others constants array (drop n works))
+    pub rest : (grown : PoolValue) → KeepsClasses pool grown → Extends pool grown → (frames : ℕ)
+        → AllByRecursion (λ w. IsNameAt constants.fetch grown (written_frames others (emitted_of constants array w)) places.frames frames) works
+        → AreAllNamed grown constants array works places
+        → twin_methods old (code_over grown places frames others constants array) works methods
+        ≡ twin_methods old (code_over grown places frames others constants array) (drop n works) now
 
   pub record IsPutting (n : ℕ) (names : Names) (pool : PoolValue) (now : List Member) : Type 0 where
     pub grows : Grows first names
     pub extends : Extends old pool
     pub coded : AreCoded old now (drop n ready)
-    pub put : (others : Names) (array : ℕ) (works : List BodyWithStates) → ArePlannedWorks first others array source ready works
+    pub put : (others : Names) (array : ℕ) (works : List BodyWithStates) → ArePlannedWorks first others constants array source ready works
         → ArePutting others array works n pool now
 
   pub putting_begun : (now : List Member) → now ≡ methods → AreCoded old methods ready → IsPutting 0 first old now
@@ -142,21 +141,21 @@ module _ (first : Names) (source : Option ClassFile) (old : PoolValue) (places :
     extends = same_extends old old refl;
     coded = subst (λ (l : List Member). AreCoded old l ready) (sym is) coded;
     put = λ others array works of. record {
-      taking = taking_begun old (named_by_all (all_frames others array works));
-      rest = λ grown keeps named. ap (twin_methods old (code_over grown places others array) works) (sym is);
+      taking = frames_begun constants.fetch old (all_frames others constants array works) places.frames;
+      rest = λ grown keeps more frames names named. ap (twin_methods old (code_over grown places frames others constants array) works) (sym is);
     };
   }
 
   module _ (n : ℕ) (names : Names) (pool : PoolValue) (now : List Member) (r : PlannedBody) (less : n < length ready) (is : r ≡ get_or ready n r)
-      (all : AreReadyFrom first source ready) (so : IsPutting n names pool now) where
+      (all : AreReadyFrom first constants source ready) (so : IsPutting n names pool now) where
     split : drop n ready ≡ r ∷ drop (n + 1) ready
     split = drop_is ready n r less is
 
-    pub next_first : IsReadyFrom first source r
-    next_first = all_at (IsReadyFrom first source) ready n r all (slice_get_read ready (length ready) n r refl less is)
+    pub next_first : IsReadyFrom first constants source r
+    next_first = all_at (IsReadyFrom first constants source) ready n r all (slice_get_read ready (length ready) n r refl less is)
 
-    pub next_ready : IsReadyFrom names source r
-    next_ready = ready_from_grown first names so.grows source r next_first
+    pub next_ready : IsReadyFrom names constants source r
+    next_ready = ready_from_grown constants first names so.grows source r next_first
 
     coded_now : AreCoded old now (r ∷ drop (n + 1) ready)
     coded_now = subst (AreCoded old now) split so.coded
@@ -183,8 +182,8 @@ module _ (first : Names) (source : Option ClassFile) (old : PoolValue) (places :
 
         module _ (more : Names) (grows : Grows names more) (text : List ℕ) (x new : Member) (read : x ≡ get_or now number x)
             (new_is : new ≡ record x { attributes = map (with_code next text) x.attributes })
-            (written : (others : Names) (array : ℕ) (w : BodyWithStates) → IsPlannedWork names others array source r w
-            → IsWrittenBody pool places others (emitted_of array w) next text) where
+            (written : (others : Names) (array : ℕ) (w : BodyWithStates) → IsPlannedWork names others constants array source r w
+            → IsWrittenWork pool constants places others array w next text) where
           put_is : new ≡ record (here.method) { attributes = map (with_code old text) here.method.attributes }
           put_is =
               new_is
@@ -192,12 +191,12 @@ module _ (first : Names) (source : Option ClassFile) (old : PoolValue) (places :
               ∙ ap (λ (l : List Attribute). record (here.method) { attributes = l })
               (same_attributes old next grown_so_far text here.method.attributes here.named)
 
-          module _ (others : Names) (array : ℕ) (works : List BodyWithStates) (of : ArePlannedWorks first others array source ready works) where
+          module _ (others : Names) (array : ℕ) (works : List BodyWithStates) (of : ArePlannedWorks first others constants array source ready works) where
             abbrev before : ArePutting others array works n pool now
             before = so.put others array works of
 
-            abbrev belongs : IsNextOf (IsPlannedWork first others array source) works n r
-            belongs = next_of (IsPlannedWork first others array source) ready works n r of less is
+            abbrev belongs : IsNextOf (IsPlannedWork first others constants array source) works n r
+            belongs = next_of (IsPlannedWork first others constants array source) ready works n r of less is
 
             abbrev w : BodyWithStates
             w = belongs.item
@@ -208,32 +207,50 @@ module _ (first : Names) (source : Option ClassFile) (old : PoolValue) (places :
             works_split : drop n works ≡ w ∷ left
             works_split = rw add-one belongs.split
 
-            one : IsWrittenBody pool places others (emitted_of array w) next text
-            one = written others array w (planned_work_on first names so.grows others array source r w belongs.holds)
+            one : IsWrittenWork pool constants places others array w next text
+            one = written others array w (planned_work_on constants first names so.grows others array source r w belongs.holds)
 
-            named_split : named_by_all (all_frames others array (drop n works))
-                ≡ named_by_all (written_frames others (emitted_of array w)) ++ named_by_all (all_frames others array left)
-            named_split = names_split others array works n w works_split
+            abbrev e : Emitted
+            e = emitted_of constants array w
+
+            left_split : all_frames others constants array (drop n works) ≡ written_frames others e ++ all_frames others constants array left
+            left_split = frames_split constants others array works n w works_split
 
             method_is : w.body.method ≡ number
-            method_is = sym (planned_method first w.body w.first r belongs.holds.planned) ∙ sym number_is
+            method_is = sym (planned_method first constants w.body w.first r belongs.holds.planned) ∙ sym number_is
 
             not_left : work_of number left ≡ None
             not_left =
-                none_later others array source first number (drop (n + 1) ready) left (subst (λ k. AreLater k (drop (n + 1) ready)) (sym number_is) coded_now.1)
-                (zip_dropped (IsPlannedWork first others array source) (n + 1) ready works of)
+                none_later constants others array source first number (drop (n + 1) ready) left (subst (λ k. AreLater k (drop (n + 1) ready)) (sym number_is) coded_now.1)
+                (zip_dropped (IsPlannedWork first others constants array source) (n + 1) ready works of)
 
             at_there : slice_get now number ≡ Some here.method
             at_there = ap (slice_get now) number_is ∙ here.at
 
-            rest_on : (grown : PoolValue) → KeepsClasses next grown → AreAllNamed grown array works places
-                → twin_methods old (code_over grown places others array) works methods
-                ≡ twin_methods old (code_over grown places others array) left (set now number new)
-            rest_on grown keeps named =
-                let code = code_over grown places others array in
-                let text_is = one.text_is grown keeps
-                (all_at (λ (v : BodyWithStates). AreNamed grown (emitted_of array v) places) works n w named belongs.stands) in
-                before.rest grown (λ name place first. keeps name place (takes_keep pool next _ one.takes name place first)) named
+            -- with the name of the attribute at the place that all have
+            text_so : (grown : PoolValue) → KeepsClasses next grown → Extends next grown → (frames : ℕ) → IsNameAt constants.fetch grown (written_frames others e) places.frames frames
+                → AreNamed grown e places → text ≡ code_over grown places frames others constants array w
+            text_so grown keeps more frames name named =
+                one.text_is grown keeps named
+                ∙ ⊎_elim (λ same. ap (λ (f : ℕ). code_over grown places f others constants array w) same)
+                (λ none. without_frames grown constants.fetch places.giver places.array one.frames frames others e none)
+                (one_name constants.fetch grown (written_frames others e) places.frames one.frames frames
+                (name_stays constants.fetch pool next grown (written_frames others e) places.frames one.frames one.takes more) name)
+
+            rest_on : (grown : PoolValue) → KeepsClasses next grown → Extends next grown → (frames : ℕ)
+                → AllByRecursion (λ v. IsNameAt constants.fetch grown (written_frames others (emitted_of constants array v)) places.frames frames) works
+                → AreAllNamed grown constants array works places
+                → twin_methods old (code_over grown places frames others constants array) works methods
+                ≡ twin_methods old (code_over grown places frames others constants array) left (set now number new)
+            rest_on grown keeps more frames names named =
+                let code = code_over grown places frames others constants array in
+                let text_is = text_so grown keeps more frames
+                (all_at (λ (v : BodyWithStates). IsNameAt constants.fetch grown (written_frames others (emitted_of constants array v)) places.frames frames) works n w names
+                belongs.stands)
+                (all_at (λ (v : BodyWithStates). AreNamed grown (emitted_of constants array v) places) works n w named belongs.stands) in
+                let taken = written_frames others e in
+                before.rest grown (λ name place first. keeps name place (frames_keep constants.fetch pool next taken places.frames one.frames one.takes name place first))
+                (extends_more pool next grown (frames_extend constants.fetch pool next taken places.frames one.frames one.takes) more) frames names named
                 ∙ ap (λ (l : List BodyWithStates). twin_methods old code l now) works_split
                 ∙ one_method old code w left number now here.method method_is at_there not_left
                 ∙ ap (λ (m : Member). twin_methods old code left (set now number m))
@@ -241,7 +258,8 @@ module _ (first : Names) (source : Option ClassFile) (old : PoolValue) (places :
 
             put_on : ArePutting others array works (n + 1) next (set now number new)
             put_on = record {
-              taking = takes_more old pool next (named_by_all (all_frames others array works)) _ _ _ named_split one.takes before.taking;
+              taking = frames_more constants.fetch old pool next (all_frames others constants array works) (written_frames others e) (all_frames others constants array left)
+                  (all_frames others constants array (drop n works)) places.frames one.frames left_split one.takes before.taking;
               rest = rest_on;
             }
 
@@ -254,27 +272,36 @@ module _ (first : Names) (source : Option ClassFile) (old : PoolValue) (places :
             put = put_on;
           }
 
-    pub putting_refused : (others : Names) (array : ℕ) (works : List BodyWithStates) → ArePlannedWorks first others array source ready works → (next : PoolValue) (fail : Fail PoolFull)
-        → ((w : BodyWithStates) → IsPlannedWork names others array source r w → RefusesClasses pool (named_by_all (written_frames others (emitted_of array w))) next fail)
-        → RefusesClasses old (named_by_all (all_frames others array works)) next fail
-    putting_refused others array works of next fail refused =
-        let belongs = next_of (IsPlannedWork first others array source) ready works n r of less is in
+    pub putting_refused : (others : Names) (array : ℕ) (works : List BodyWithStates) → ArePlannedWorks first others constants array source ready works → (fail : Fail PoolFull)
+        → ((w : BodyWithStates) → IsPlannedWork names others constants array source r w → RefusesWork pool constants others array w fail)
+        → RefusesWorks old constants others array works fail
+    putting_refused others array works of fail refused =
+        let belongs = next_of (IsPlannedWork first others constants array source) ready works n r of less is in
         let w = belongs.item in
         let works_split : drop n works ≡ w ∷ drop (n + 1) works = rw add-one belongs.split in
-        refuses_here old pool next (named_by_all (all_frames others array works)) _ _ _ fail (names_split others array works n w works_split)
-        (refused w (planned_work_on first names so.grows others array source r w belongs.holds)) (so.put others array works of).taking
+        frames_here constants.fetch old pool (all_frames others constants array works) (written_frames others (emitted_of constants array w))
+        (all_frames others constants array (drop (n + 1) works)) (all_frames others constants array (drop n works)) places.frames fail
+        (frames_split constants others array works n w works_split) (refused w (planned_work_on constants first names so.grows others array source r w belongs.holds))
+        (so.put others array works of).taking
 
   pub all_put : (n : ℕ) (names : Names) (pool : PoolValue) (now : List Member) → length ready ≤ n → IsPutting n names pool now
-      → (others : Names) (array : ℕ) (works : List BodyWithStates) → ArePlannedWorks first others array source ready works
-      → ArePut old places others array works methods pool now
+      → (others : Names) (array : ℕ) (works : List BodyWithStates) → ArePlannedWorks first others constants array source ready works
+      → ArePut old places others constants array works methods pool now
   all_put n names pool now end so others array works of =
       let p = so.put others array works of in
-      let count = AllZip-long (IsPlannedWork first others array source) ready works of in
+      let all = all_frames others constants array works in
+      let count = AllZip-long (IsPlannedWork first others constants array source) ready works of in
       let none : drop n works ≡ [] = drop_of_length-le works (omega (arith, count, end)) in
+      let taken = frames_all constants.fetch old pool all (all_frames others constants array (drop n works)) places.frames
+      (ap (λ (l : List BodyWithStates). all_frames others constants array l) none) p.taking in
+      let still = same_extends pool pool refl in
+      let names = name_each others constants array constants.fetch pool places.frames taken.0 works
+      (name_stays constants.fetch old pool pool all places.frames taken.0 taken.1 still) in
       record {
-        takes = all_taken old pool (named_by_all (all_frames others array works)) _ (ap (λ (l : List BodyWithStates). named_by_all (all_frames others array l)) none) p.taking;
+        frames = taken.0;
+        takes = taken.1;
         methods_are = λ named.
-            sym (p.rest pool (λ name place first. first) named
-            ∙ ap (λ (l : List BodyWithStates). twin_methods old (code_over pool places others array) l now) none
-            ∙ no_method old (code_over pool places others array) now);
+            sym (p.rest pool (λ name place first. first) still taken.0 names named
+            ∙ ap (λ (l : List BodyWithStates). twin_methods old (code_over pool places taken.0 others constants array) l now) none
+            ∙ no_method old (code_over pool places taken.0 others constants array) now);
       }

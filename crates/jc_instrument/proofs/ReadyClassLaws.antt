@@ -1,16 +1,18 @@
 -- The bodies of a class, ready for their code to be written, or why there is none.
-use Rattle.std.proofs.Common.{◌≡◌, ◌⊎◌, inl, inr, ℕ, ◌<◌, ◌≤◌, Bool, false, List, [], ◌∷◌, ◌++◌, length, get_or, Option, Some, None, slice_get, refl, sym, ◌∙◌, ap, subst}
-use Rattle.std.specs.Prelude.{All, IfSome}
+use Rattle.std.proofs.Common.{◌≡◌, ◌⊎◌, inl, inr, ℕ, ◌<◌, ◌≤◌, Bool, false, List, [], ◌∷◌, ◌++◌, length, get_or, Option, Some, None, Result, Ok, Err, slice_get, refl, sym, ◌∙◌, ap, subst}
+use Rattle.std.specs.Prelude.{All, IfErr, IfOk, IfSome}
 use Rattle.std.specs.Option.{MatchOption}
 use Rattle.std.proofs.lemmas.Bool.{cases_lt}
 use Rattle.std.proofs.lemmas.List.{length-map}
 use Rattle.std.proofs.lemmas.List.Elements.{All-nil}
 use Rattle.std.proofs.lemmas.Option.{same_Some, slice_get-get_or}
 use Rattle.jc_methods.specs.ProbeMembers.{most_probes}
-use Rattle.jc_methods.specs.VerificationTypes.{Names}
+use Rattle.jc_methods.specs.VerificationTypes.{Grows, Names}
 use Rattle.jc_methods.specs.WellMade.{IsWellMade}
 use Rattle.jc_methods.specs.declared.body.Body.{Body}
 use Rattle.jc_methods.proofs.MetNamesLaws.{grows_none}
+use Rattle.jc_bytes.specs.Failing.{Said}
+use Rattle.jc_bytes.specs.declared.fail.Fail.{Fail}
 use Rattle.jc_bytes.specs.declared.refusal.Refusal.{Refusal}
 use Rattle.jc_bytes.specs.declared.refusal.RefusalKind.TheVariants as kinds
 use Rattle.jc_class.specs.declared.class_file.ClassFile.{ClassFile}
@@ -18,27 +20,30 @@ use Rattle.jc_body.specs.BodyOf.{BodyOf}
 use Rattle.jc_kinds.specs.Checked.{Checked}
 use Rattle.jc_plan.specs.Analysed.{all_probes}
 use Rattle.jc_plan.specs.Probed.{first_id}
-use Rattle.jc_instrument_reread.proofs.SameBodyLaws.{grown_same}
+use Rattle.jc_instrument_reread.proofs.SameBodyLaws.{grown_same, same_check}
 use Rattle.jc_instrument.specs.Bodies.{AreBodiesUnless, AreBodiesOf}
 use Rattle.jc_instrument.specs.BodiesWithStates.{AreBodiesWithStates, BodyWithStates, bodies_of}
 use Rattle.jc_instrument.specs.Causes.{Cause, IsFirstCause, NoCause, InMethod}
+use Rattle.jc_instrument.specs.Constants.{AreConstants}
 use Rattle.jc_instrument.specs.Found.{first_of}
 use Rattle.jc_instrument.specs.LeftAlone.{is_left_alone}
 use Rattle.jc_instrument.specs.Looking.{HaveBodies, IsLooking, RoomSoFar}
-use Rattle.jc_instrument.specs.Probing.{IsFirstTooLong}
+use Rattle.jc_instrument.specs.Probing.{AreShortBelow, IsFirstTooLong}
 use Rattle.jc_instrument.specs.Ready.{ArePlanned, IsPlannedBody}
 use Rattle.jc_instrument.specs.ReadyClass.{IsReadyClass, making_causes}
 use Rattle.jc_instrument.specs.Reasons.{IsFaulty, code_causes, frame_causes, method_causes}
 use Rattle.jc_instrument.specs.RoomCauses.{HasTooLargeCode, early_room_causes}
 use Rattle.jc_instrument.specs.Steps.{AreCheckedUnder}
 use Rattle.jc_instrument.specs.Writing.{ArePlannedWorks, IsPlannedWork}
+use Rattle.jc_instrument.specs.declared.constants.ProbeConstants.{ProbeConstants}
 use Rattle.jc_instrument.specs.declared.looking.Looking.{Looking}
 use Rattle.jc_instrument.specs.declared.ready.PlannedBody.{PlannedBody}
 use Rattle.jc_instrument.specs.declared.ready_class.ReadyClass.{ReadyClass}
+use Rattle.jc_instrument.proofs.AnswerLaws.{said_more}
 use Rattle.jc_instrument.proofs.CauseLaws.{first_behind, first_in_front, none_in_both}
 use Rattle.jc_instrument.proofs.CheckingLaws.{all_checked, frame_found, frames_fine}
 use Rattle.jc_instrument.proofs.FrameCauseLaws.{each_at}
-use Rattle.jc_instrument.proofs.ListedLaws.{body_at}
+use Rattle.jc_instrument.proofs.ListedLaws.{body_at, grown_bodies}
 use Rattle.jc_instrument.proofs.ReadingLaws.{bad_code_refused}
 use Rattle.jc_instrument.proofs.SameWorksLaws.{zip_of_places}
 use Rattle.jc_instrument.proofs.SomeWorksLaws.{works_under}
@@ -46,7 +51,7 @@ use Rattle.jc_instrument.proofs.TooLargeLaws.{none_too_large, too_large_found}
 use Rattle.jc_instrument.proofs.WholeLaws.{check_refused, no_code_cause}
 
 -- the causes behind those of code
-abbrev room : ClassFile → List Cause
+abbrev pub room : ClassFile → List Cause
 room c = early_room_causes c ++ (HasTooLargeCode c ∷ [])
 
 module _ (names : Names) (c : ClassFile) (bodies : List Body) (changes : is_left_alone c ≡ false) (is : AreCheckedUnder names c bodies) where
@@ -60,34 +65,39 @@ module _ (names : Names) (c : ClassFile) (bodies : List Body) (changes : is_left
   no_code : NoCause (code_causes c)
   no_code = no_code_cause c bodies (record { names = names; are = is.are; checked = is.checked })
 
-  pub room_first : (r : Refusal) → IsFirstCause (early_room_causes c) r → IsFirstCause (making_causes c) r
-  room_first r first =
-      first_behind (code_causes c) (room c) r no_code (first_in_front (early_room_causes c) (HasTooLargeCode c ∷ []) r first)
+  pub room_refused : (r : Refusal) → IsFirstCause (room c) r → IsFirstCause (making_causes c) r
+  room_refused r first = first_behind (code_causes c) (room c) r no_code first
 
-  module _ (none : NoCause (early_room_causes c)) where
-    pub few_probes_then : all_probes bodies ≤ most_probes
-    few_probes_then = by (cases_lt most_probes (all_probes bodies))
-      where
-        by : (most_probes < all_probes bodies) ⊎ (all_probes bodies ≤ most_probes) → all_probes bodies ≤ most_probes
-        by (inl many) = absurd (none.1.0 _ (record { bodies = bodies; are = of_class; many = many; refusal = refl }))
-        by (inr few) = few
+  pub class_ready : (r : ReadyClass) → All IsWellMade bodies → ArePlanned names r.constants bodies r.bodies → r.probes ≡ all_probes bodies
+      → AreConstants c r.probes r.bootstrap r.constants → NoCause (room c) → IsReadyClass names c r
+  class_ready r made so count_is loads none = record {
+    bodies = bodies;
+    are = is;
+    made = made;
+    planned = so;
+    probes = count_is;
+    loads = loads;
+    no_cause = none_in_both (code_causes c) (room c) no_code none;
+  }
 
-    pub large_first : (r : Refusal) → IsFirstTooLong bodies r → IsFirstCause (making_causes c) r
-    large_first r found =
-        first_behind (code_causes c) (room c) r no_code
-        (first_behind (early_room_causes c) (HasTooLargeCode c ∷ []) r none (inl (too_large_found c bodies of_class r found)))
+-- ---- room and layouts
 
-    pub class_ready : (planned : List PlannedBody) (count : ℕ) → All IsWellMade bodies → ArePlanned names bodies planned → count ≡ all_probes bodies
-        → IsReadyClass names c (record { bodies = planned; probes = count })
-    class_ready planned count made so count_is = record {
-      bodies = bodies;
-      are = is;
-      made = made;
-      planned = so;
-      probes = count_is;
-      no_cause = none_in_both (code_causes c) (room c) no_code
-          (none_in_both (early_room_causes c) (HasTooLargeCode c ∷ []) none (none_too_large c bodies of_class so.short, tt));
-    }
+-- a refusal of those that are looked for before layouts comes before that of a layout
+pub early_first : (c : ClassFile) (r : Refusal) → IsFirstCause (early_room_causes c) r → IsFirstCause (room c) r
+early_first c r first = first_in_front (early_room_causes c) (HasTooLargeCode c ∷ []) r first
+
+module _ (c : ClassFile) (bodies : List Body) (are : AreBodiesOf c bodies) (none : NoCause (early_room_causes c)) (count bootstrap : ℕ) (constants : ProbeConstants)
+    (count_is : count ≡ all_probes bodies) (loads : AreConstants c count bootstrap constants) where
+  loads_all : AreConstants c (all_probes bodies) bootstrap constants
+  loads_all = subst (λ (n : ℕ). AreConstants c n bootstrap constants) count_is loads
+
+  pub large_first : (r : Refusal) → IsFirstTooLong constants bodies r → IsFirstCause (room c) r
+  large_first r found =
+      first_behind (early_room_causes c) (HasTooLargeCode c ∷ []) r none (inl (too_large_found c bodies are bootstrap constants loads_all r found))
+
+  pub none_of_room : AreShortBelow constants bodies (length bodies) → NoCause (room c)
+  none_of_room short =
+      none_in_both (early_room_causes c) (HasTooLargeCode c ∷ []) none (none_too_large c bodies are bootstrap constants loads_all short, tt)
 
 -- ---- what was found in all methods
 
@@ -136,6 +146,32 @@ module _ (names : Names) (c : ClassFile) (s : Looking) (so : IsLooking names c (
   pub are_fine : first_of s.bad (first_of s.frames.missing s.frames.clash) ≡ None → AreFine names c s
   are_fine is = fine_of s.bad so.found is
 
+-- ---- what the layouts answer
+
+checked_grown : (old new : Names) (c : ClassFile) (bodies : List Body) → Grows old new → AreCheckedUnder old c bodies → AreCheckedUnder new c bodies
+checked_grown old new c bodies grows is = record {
+  are = grown_bodies old new c (length c.methods) bodies grows is.are;
+  checked = λ k d less.
+      let b = get_or bodies k d in
+      let numbers = (is.are.each k b (slice_get-get_or bodies k d less)).is.parts.numbers in
+      same_check old new b b (grown_same old new b grows numbers) (is.checked k d less);
+}
+
+abbrev Answer : Type 0
+Answer = Result ReadyClass (Fail Refusal)
+
+module _ (old new : Names) (grows : Grows old new) (c : ClassFile) (changes : is_left_alone c ≡ false) (s : Looking) (fine : AreFine old c s) where
+  pub ready_from : (answer : Answer) → IfOk answer (λ r. ArePlanned new r.constants fine.bodies r.bodies) → IfOk answer (λ r. r.probes ≡ s.probes)
+      → IfOk answer (λ r. AreConstants c r.probes r.bootstrap r.constants) → IfOk answer (λ r. NoCause (room c)) → IfOk answer (IsReadyClass new c)
+  ready_from (Ok r) planned probes loads none =
+      class_ready new c fine.bodies changes (checked_grown old new c fine.bodies grows fine.are) r fine.made planned (probes ∙ fine.room.probes) loads none
+  ready_from (Err e) planned probes loads none = tt
+
+  pub refused_from : (answer : Answer) → IfErr answer (λ e. Said e (IsFirstCause (room c))) → IfErr answer (λ e. Said e (IsFirstCause (making_causes c)))
+  refused_from (Ok r) refused = tt
+  refused_from (Err e) refused =
+      said_more (IsFirstCause (room c)) (IsFirstCause (making_causes c)) e (room_refused old c fine.bodies changes fine.are) refused
+
 -- ---- works
 
 -- The bodies of the class have works, under more names, which what is planned stands for.
@@ -144,7 +180,7 @@ pub record ReadyWorks (names : Names) (c : ClassFile) (r : ReadyClass) : Type 0 
   pub array : ℕ
   pub works : List BodyWithStates
   pub are : AreBodiesWithStates others array c works
-  pub of : (source : Option ClassFile) → IfSome source (λ s. s ≡ c) → ArePlannedWorks names others array source r.bodies works
+  pub of : (source : Option ClassFile) → IfSome source (λ s. s ≡ c) → ArePlannedWorks names others r.constants array source r.bodies works
   pub count : r.probes ≡ all_probes (bodies_of works)
 
 from_source : (names : Names) (c : ClassFile) (source : Option ClassFile) (b : Body) → IfSome source (λ s. s ≡ c) → BodyOf names c b.method b
@@ -165,15 +201,15 @@ ready_works names c r is =
       array = some.array;
       works = works;
       are = some.are;
-      of = λ source same. zip_of_places (IsPlannedWork names some.names some.array source) r.bodies works
+      of = λ source same. zip_of_places (IsPlannedWork names some.names r.constants some.array source) r.bodies works
           (is.planned.count ∙ ap (λ (l : List Body). length l) (sym some.same) ∙ length-map works (λ (w : BodyWithStates). w.body))
           (λ i p w at stands.
           let one = is.planned.each i p at in
           let body = is.are.are.each i w.body (there i w stands) in
           let first : first_id bodies i ≡ w.first = ap (λ (l : List Body). first_id l i) (sym some.same) ∙ sym (some.are.each i w stands).first in
           record {
-            planned = subst (λ (n : ℕ). IsPlannedBody names w.body n p) first
-                (subst (λ (b : Body). IsPlannedBody names b (first_id bodies i) p) (same_Some one.body w.body (sym one.stands ∙ there i w stands)) one.is);
+            planned = subst (λ (n : ℕ). IsPlannedBody names r.constants w.body n p) first
+                (subst (λ (b : Body). IsPlannedBody names r.constants b (first_id bodies i) p) (same_Some one.body w.body (sym one.stands ∙ there i w stands)) one.is);
             body = from_source names c source w.body same body;
             numbered = body.is.parts.numbers;
             seen = (grown_same names some.names w.body some.grows body.is.parts.numbers).seen;

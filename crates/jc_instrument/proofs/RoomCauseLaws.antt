@@ -23,12 +23,16 @@ use Rattle.jc_layout.specs.Layout.{chosen_length}
 use Rattle.jc_plan.specs.Analysed.{all_probes}
 use Rattle.jc_instrument.specs.Bodies.{AreBodiesUnless, AreBodiesOf}
 use Rattle.jc_instrument.specs.Causes.{of_class, unless}
+use Rattle.jc_instrument.specs.Constants.{AreConstants, probed_code}
 use Rattle.jc_instrument.specs.LeftAlone.{is_left_alone}
 use Rattle.jc_instrument.specs.Reasons.{analysis_causes}
 use Rattle.jc_instrument.specs.Refused.{probe_causes, Reason}
-use Rattle.jc_instrument.specs.RoomCauses.{StraddlesArguments, HasTooManyProbes, HasFullMembers, FillsLocals, FillsStack, probed_code, IsTooLarge, HasFullPool, room_causes}
+use Rattle.jc_instrument.specs.RoomCauses.{StraddlesArguments, HasTooManyProbes, HasFullMembers, FillsLocals, FillsStack, IsTooLarge, HasFullPool, room_causes}
 use Rattle.jc_instrument.specs.SameAnalysis.{without_frames}
+use Rattle.jc_instrument.specs.declared.constants.ProbeConstants.{ProbeConstants}
+use Rattle.jc_instrument.proofs.BootstrapsDecidedLaws.{one_bootstraps}
 use Rattle.jc_instrument.proofs.CauseLaws.{IsSingle, AreSingle, both_single, one_method}
+use Rattle.jc_instrument.proofs.ConstantsLaws.{one_constants}
 use Rattle.jc_instrument.proofs.OneBodyLaws.{same_body}
 use Rattle.jc_instrument.proofs.OneReasonLaws.{causes_single, single_unless, one_reason_by}
 use Rattle.jc_instrument.proofs.SameAnalysisLaws.{same_bodies, same_probes, same_first}
@@ -134,6 +138,13 @@ body_there (z ∷ xs) [] same i x at = absurd (no_bodies same)
 body_there (z ∷ xs) (y ∷ ys) same zero x at = (y, refl, ap without_frames (sym (same_Some z x at)) ∙ head_body same)
 body_there (z ∷ xs) (y ∷ ys) same (suc i) x at = body_there xs ys (tail_bodies same) i x at
 
+-- the constants of one class are the same, by whichever bodies its probes are counted
+pub same_constants : (c : ClassFile) (xs ys : List Body) → map without_frames xs ≡ map without_frames ys → (a b : ℕ) (p q : ProbeConstants)
+    → AreConstants c (all_probes xs) a p → AreConstants c (all_probes ys) b q → p ≡ q
+same_constants c xs ys bodies a b p q from to =
+    let count = same_probes xs ∙ ap all_probes bodies ∙ sym (same_probes ys) in
+    (one_constants c (all_probes ys) a b p q (subst (λ (n : ℕ). AreConstants c n a p) count from) to).0
+
 -- a class has one body of the method with this number
 one_index : (c : ClassFile) (bodies : List Body) → AreBodiesOf c bodies → (i j : ℕ) (x y : Body) → slice_get bodies i ≡ Some x → slice_get bodies j ≡ Some y
     → x.method ≡ y.method → i ≡ j
@@ -158,8 +169,11 @@ one_large c number p q a b =
     same_first a.bodies a.index ∙ ap (λ (l : List Body). first_id l a.index) bodies ∙ sym (same_first b.bodies a.index)
     ∙ ap (first_id b.bodies) places in
     a.size
+    ∙ ap (λ (k : ProbeConstants). chosen_length (probed_code k a.body (first_id a.bodies a.index)))
+    (same_constants c a.bodies b.bodies bodies a.bootstrap b.bootstrap a.constants b.constants a.loads b.loads)
     ∙ ap chosen_length
-    (same_code a.body (first_id a.bodies a.index) ∙ ap₂ probed_code bare first ∙ sym (same_code b.body (first_id b.bodies b.index)))
+    (same_code b.constants a.body (first_id a.bodies a.index) ∙ ap₂ (probed_code b.constants) bare first
+    ∙ sym (same_code b.constants b.body (first_id b.bodies b.index)))
     ∙ sym b.size
 
 -- ---- all of them
@@ -172,10 +186,13 @@ room_single id c = (
     (
       one_members c,
       (
-        one_method kinds.LocalsFull (FillsLocals c) (one_locals c),
+        one_bootstraps c,
         (
-          one_method kinds.StackFull (FillsStack c) (one_stack c),
-          (one_method kinds.CodeTooLarge (IsTooLarge c) (one_large c), (one_pool id c, tt)),
+          one_method kinds.LocalsFull (FillsLocals c) (one_locals c),
+          (
+            one_method kinds.StackFull (FillsStack c) (one_stack c),
+            (one_method kinds.CodeTooLarge (IsTooLarge c) (one_large c), (one_pool id c, tt)),
+          ),
         ),
       ),
     ),

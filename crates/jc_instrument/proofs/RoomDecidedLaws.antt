@@ -3,7 +3,7 @@ use Rattle.std.proofs.Common.{◌≡◌, ◌≢◌, ◌⊎◌, inl, inr, ℕ, ze
 use Rattle.std.specs.Prelude.{Contains}
 use Rattle.std.proofs.lemmas.Bool.{cases_lt, cases_eq}
 use Rattle.std.proofs.lemmas.Option.{none-some, same_Some, slice_get_within, slice_get_cases}
-use Rattle.jc_methods.specs.ProbeMembers.{most_probes}
+use Rattle.jc_methods.specs.ProbeMembers.{fetch_of, most_probes}
 use Rattle.jc_methods.specs.VerificationTypes.{Names}
 use Rattle.jc_methods.specs.InsnUse.{is_of_two_slots}
 use Rattle.jc_bytes.specs.Least.{IsLeast}
@@ -13,6 +13,8 @@ use Rattle.jc_methods.specs.declared.body.FrameAt.{FrameAt}
 use Rattle.jc_methods.specs.declared.insn.Insn.{Insn}
 use Rattle.jc_methods.specs.declared.insn.Insn.TheVariants as insns
 use Rattle.jc_methods.specs.declared.kind.Kind.TheVariants as variants
+use Rattle.jc_methods.specs.declared.probe_members.Fetch.{Fetch}
+use Rattle.jc_methods.specs.declared.probe_members.Fetch.TheVariants as fetches
 use Rattle.jc_bytes.specs.declared.refusal.Refusal.{Refusal}
 use Rattle.jc_bytes.specs.declared.refusal.RefusalKind.{RefusalKind}
 use Rattle.jc_bytes.specs.declared.refusal.RefusalKind.TheVariants as kinds
@@ -20,6 +22,7 @@ use Rattle.jc_bytes.proofs.BooleanLaws.{which_in, none_in}
 use Rattle.jc_class.specs.Writable.{IsClassFile}
 use Rattle.jc_class.specs.declared.class_file.ClassFile.{ClassFile}
 use Rattle.jc_body.specs.BodyOf.{BodyOf}
+use Rattle.jc_bootstraps.specs.Bootstraps.{bootstrap_bodies}
 use Rattle.jc_kinds_after.specs.Shift.{Straddles}
 use Rattle.jc_kinds.specs.StateShift.{FrameStraddles, IsStraddled}
 use Rattle.jc_emit.specs.Straddling.{NoneStraddles}
@@ -28,10 +31,16 @@ use Rattle.jc_plan.specs.Probed.{first_id}
 use Rattle.jc_plan.specs.Analysed.{all_probes}
 use Rattle.jc_instrument.specs.Bodies.{AreBodiesOf}
 use Rattle.jc_instrument.specs.Causes.{Never, of_class, of_method, InMethod}
+use Rattle.jc_instrument.specs.Constants.{AreConstants, probed_code}
+use Rattle.jc_instrument.specs.Needed.{GetsBy, IsNextBootstrap}
 use Rattle.jc_instrument.specs.Probing.{AreShortBelow, IsFirstTooLong}
 use Rattle.jc_instrument.specs.Room.{LacksRoom}
-use Rattle.jc_instrument.specs.RoomCauses.{HasStraddling, HasTooManyProbes, IsFull, HasFullMembers, HasFullLocals, HasFullStack, HasTooLargeCode, early_room_causes, probed_code}
+use Rattle.jc_instrument.specs.RoomCauses.{HasStraddling, HasTooManyProbes, IsFull, HasFullMembers, HasFullLocals, HasFullStack, IsTooLarge, HasTooLargeCode, early_room_causes}
+use Rattle.jc_instrument.specs.declared.constants.ProbeConstants.{ProbeConstants}
+use Rattle.jc_instrument.proofs.BootstrapsDecidedLaws.{bootstraps_decided, next_or_none}
+use Rattle.jc_instrument.proofs.CauseLaws.{never_in_method}
 use Rattle.jc_instrument.proofs.CausesDecidedLaws.{of_body_at, of_body_below}
+use Rattle.jc_instrument.proofs.ConstantsLaws.{some_constants}
 use Rattle.jc_instrument.proofs.DecidedLaws.{OrNot, either_or_not, true_or_not, some_or_none, IsDecided, AreDecided, in_method_decided, nowhere}
 use Rattle.jc_instrument.proofs.LastBodyLaws.{less_or_last}
 use Rattle.jc_instrument.proofs.RoomLaws.{Lacking, moved_room, few_probes}
@@ -200,20 +209,24 @@ probes_decided c bodies are = by (cases_lt most_probes (all_probes bodies))
     by (inl many) = inl (of_class kinds.TooManyProbes (all_probes bodies), record { bodies = bodies; are = are; many = many; refusal = refl })
     by (inr few) = inr (few_probes c bodies are few)
 
+full_or_not : (fetch : Fetch) (c : ClassFile) → OrNot (IsFull fetch c)
+full_or_not fetches.Member c = either_or_not _ _ (cases_eq (length c.fields) 65535) (cases_eq (length c.methods) 65535)
+full_or_not fetches.Constant c = cases_eq (length c.methods) 65535
+
 members_decided : (c : ClassFile) → IsDecided (HasFullMembers c)
-members_decided c = by (either_or_not _ _ (cases_eq (length c.fields) 65535) (cases_eq (length c.methods) 65535))
+members_decided c = by (full_or_not (fetch_of c.major) c)
   where
-    by : OrNot (IsFull c) → IsDecided (HasFullMembers c)
+    by : OrNot (IsFull (fetch_of c.major) c) → IsDecided (HasFullMembers c)
     by (inl full) = inl (of_class kinds.MembersFull 65536, record { full = full; refusal = refl })
     by (inr room) = inr (λ r full. room full.full)
 
 -- ---- code that is too large
 
-module _ (bodies : List Body) where
+module _ (constants : ProbeConstants) (bodies : List Body) where
   abbrev size_at : ℕ → Body → ℕ
-  size_at i b = chosen_length (probed_code b (first_id bodies i))
+  size_at i b = chosen_length (probed_code constants b (first_id bodies i))
 
-  module _ (n : ℕ) (before : AreShortBelow bodies n) where
+  module _ (n : ℕ) (before : AreShortBelow constants bodies n) where
     short : (b : Body) → slice_get bodies n ≡ Some b → size_at n b ≤ 65535 → (i : ℕ) (x : Body) → slice_get bodies i ≡ Some x
         → (i < n) ⊎ (i ≡ n) → size_at i x ≤ 65535
     short b stands few i x at (inl less) = before i x less at
@@ -225,38 +238,64 @@ module _ (bodies : List Body) where
     past i x end at = let less = slice_get_within bodies i x at in before i x (omega (arith, less, end)) at
 
     with_body : (b : Body) → slice_get bodies n ≡ Some b → (65535 < size_at n b) ⊎ (size_at n b ≤ 65535)
-        → ((r : Refusal) × IsFirstTooLong bodies r) ⊎ AreShortBelow bodies (suc n)
+        → ((r : Refusal) × IsFirstTooLong constants bodies r) ⊎ AreShortBelow constants bodies (suc n)
     with_body b stands (inl large) = inl (
       of_method kinds.CodeTooLarge b.method (size_at n b),
       record { index = n; body = b; stands = stands; large = record { refusal = refl; large = large }; before = before },
     )
     with_body b stands (inr few) = inr (λ i x less at. short b stands few i x at (less_or_last n i less))
 
-  first_long : (n : ℕ) → ((r : Refusal) × IsFirstTooLong bodies r) ⊎ AreShortBelow bodies n
+  first_long : (n : ℕ) → ((r : Refusal) × IsFirstTooLong constants bodies r) ⊎ AreShortBelow constants bodies n
   first_long zero = inr (λ i b less at. absurd (omega (arith, less)))
   first_long (suc n) = by (first_long n) (slice_get_cases bodies n).1
     where
-      by : ((r : Refusal) × IsFirstTooLong bodies r) ⊎ AreShortBelow bodies n
+      by : ((r : Refusal) × IsFirstTooLong constants bodies r) ⊎ AreShortBelow constants bodies n
           → ((b : Body) × (n < length bodies) × (slice_get bodies n ≡ Some b) × (get_or bodies n b ≡ b)) ⊎ ((length bodies ≤ n) × (slice_get bodies n ≡ None))
-          → ((r : Refusal) × IsFirstTooLong bodies r) ⊎ AreShortBelow bodies (suc n)
+          → ((r : Refusal) × IsFirstTooLong constants bodies r) ⊎ AreShortBelow constants bodies (suc n)
       by (inl found) here = inl found
       by (inr before) (inl here) = with_body n before here.0 here.2 (cases_lt 65535 (size_at n here.0))
       by (inr before) (inr end) = inr (λ i x less at. past n before i x end.0 at)
 
-large_decided : (c : ClassFile) (bodies : List Body) → AreBodiesOf c bodies → IsDecided (HasTooLargeCode c)
-large_decided c bodies are = by (first_long bodies (length bodies))
+-- a class gets its array by a bootstrap method with some number, or with none
+gets_or_none : (c : ClassFile) → ((bootstrap : ℕ) × GetsBy c (fetch_of c.major) bootstrap) ⊎ ((fetch : Fetch) (bootstrap : ℕ) → GetsBy c fetch bootstrap → ⊥)
+gets_or_none c = by (next_or_none (fetch_of c.major) (bootstrap_bodies c.pool c.attributes))
   where
-    by : ((r : Refusal) × IsFirstTooLong bodies r) ⊎ AreShortBelow bodies (length bodies) → IsDecided (HasTooLargeCode c)
-    by (inl found) = inl (found.0, too_large_found c bodies are found.0 found.1)
-    by (inr short) = inr (none_too_large c bodies are short)
+    none : ((bootstrap : ℕ) → IsNextBootstrap (fetch_of c.major) (bootstrap_bodies c.pool c.attributes) bootstrap → ⊥)
+        → (fetch : Fetch) (bootstrap : ℕ) → GetsBy c fetch bootstrap → ⊥
+    none never fetch bootstrap gets =
+        never bootstrap (subst (λ (f : Fetch). IsNextBootstrap f (bootstrap_bodies c.pool c.attributes) bootstrap) gets.fetch_is gets.bootstrap_is)
 
--- where no method is refused for it, no code is too large
-pub short_code : (c : ClassFile) (bodies : List Body) → AreBodiesOf c bodies → Never (HasTooLargeCode c) → AreShortBelow bodies (length bodies)
-short_code c bodies are never = by (first_long bodies (length bodies))
-  where
-    by : ((r : Refusal) × IsFirstTooLong bodies r) ⊎ AreShortBelow bodies (length bodies) → AreShortBelow bodies (length bodies)
-    by (inl found) = absurd (never found.0 (too_large_found c bodies are found.0 found.1))
-    by (inr short) = short
+    by : ((bootstrap : ℕ) × IsNextBootstrap (fetch_of c.major) (bootstrap_bodies c.pool c.attributes) bootstrap)
+        ⊎ ((bootstrap : ℕ) → IsNextBootstrap (fetch_of c.major) (bootstrap_bodies c.pool c.attributes) bootstrap → ⊥)
+        → ((bootstrap : ℕ) × GetsBy c (fetch_of c.major) bootstrap) ⊎ ((fetch : Fetch) (bootstrap : ℕ) → GetsBy c fetch bootstrap → ⊥)
+    by (inl next) = inl (next.0, record { fetch_is = refl; bootstrap_is = next.1 })
+    by (inr never) = inr (none never)
+
+module _ (c : ClassFile) (bodies : List Body) (are : AreBodiesOf c bodies) where
+  large_with : (bootstrap : ℕ) (constants : ProbeConstants) → AreConstants c (all_probes bodies) bootstrap constants → IsDecided (HasTooLargeCode c)
+  large_with bootstrap constants loads = by (first_long constants bodies (length bodies))
+    where
+      by : ((r : Refusal) × IsFirstTooLong constants bodies r) ⊎ AreShortBelow constants bodies (length bodies) → IsDecided (HasTooLargeCode c)
+      by (inl found) = inl (found.0, too_large_found c bodies are bootstrap constants loads found.0 found.1)
+      by (inr short) = inr (none_too_large c bodies are bootstrap constants loads short)
+
+  -- where no bootstrap method can be added, no code is made
+  large_decided : IsDecided (HasTooLargeCode c)
+  large_decided = by (gets_or_none c)
+    where
+      by : ((bootstrap : ℕ) × GetsBy c (fetch_of c.major) bootstrap) ⊎ ((fetch : Fetch) (bootstrap : ℕ) → GetsBy c fetch bootstrap → ⊥)
+          → IsDecided (HasTooLargeCode c)
+      by (inl gets) = let some = some_constants c (all_probes bodies) gets.0 gets.1 in large_with gets.0 some.0 some.1
+      by (inr none) = inr (never_in_method kinds.CodeTooLarge (IsTooLarge c) (λ number place t. none t.constants.fetch t.bootstrap t.loads.gets))
+
+  -- where no method is refused for it, no code is too large
+  pub short_code : (bootstrap : ℕ) (constants : ProbeConstants) → AreConstants c (all_probes bodies) bootstrap constants → Never (HasTooLargeCode c)
+      → AreShortBelow constants bodies (length bodies)
+  short_code bootstrap constants loads never = by (first_long constants bodies (length bodies))
+    where
+      by : ((r : Refusal) × IsFirstTooLong constants bodies r) ⊎ AreShortBelow constants bodies (length bodies) → AreShortBelow constants bodies (length bodies)
+      by (inl found) = absurd (never found.0 (too_large_found c bodies are bootstrap constants loads found.0 found.1))
+      by (inr short) = short
 
 -- ---- all of them
 
@@ -268,8 +307,11 @@ rooms_decided c bodies is are = (
     (
       members_decided c,
       (
-        room_decided c is kinds.LocalsFull locals_or_not,
-        (room_decided c is kinds.StackFull stack_or_not, (large_decided c bodies are, tt)),
+        bootstraps_decided c,
+        (
+          room_decided c is kinds.LocalsFull locals_or_not,
+          (room_decided c is kinds.StackFull stack_or_not, (large_decided c bodies are, tt)),
+        ),
       ),
     ),
   ),

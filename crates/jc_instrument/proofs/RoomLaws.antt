@@ -1,6 +1,6 @@
 -- Bodies that have no room for probes, as causes of the class.
 use Rattle.std.proofs.Common.{◌≡◌, inl, ℕ, ◌+◌, ◌≤◌, Bool, false, List, [], ◌∷◌, ◌++◌, Option, Some, None, sym, ◌∙◌, ap, subst, arith}
-use Rattle.jc_methods.specs.ProbeMembers.{most_probes}
+use Rattle.jc_methods.specs.ProbeMembers.{fetch_of, most_probes}
 use Rattle.jc_methods.specs.VerificationTypes.{Names}
 use Rattle.jc_bytes.specs.Least.{IsLeast}
 use Rattle.jc_methods.specs.declared.body.Body.{Body}
@@ -12,11 +12,11 @@ use Rattle.jc_kinds.specs.StateShift.{IsStraddled}
 use Rattle.jc_emit.specs.Straddling.{IsFirstStraddling}
 use Rattle.jc_plan.specs.Analysed.{all_probes}
 use Rattle.jc_instrument.specs.Bodies.{AreBodies, AreBodiesUnless, AreBodiesOf}
-use Rattle.jc_instrument.specs.Causes.{Cause, Never, IsFirstCause, NoCause, FirstCause, InMethod}
+use Rattle.jc_instrument.specs.Causes.{Cause, Never, IsFirstCause, NoCause, InMethod}
 use Rattle.jc_instrument.specs.LeftAlone.{is_left_alone}
 use Rattle.jc_instrument.specs.Reasons.{OfBody}
 use Rattle.jc_instrument.specs.Room.{LacksRoom, IsWhereItLacks, NoneLacks, IsFirstThatLacks}
-use Rattle.jc_instrument.specs.RoomCauses.{HasStraddling, HasTooManyProbes, IsFull, HasFullMembers, HasFullLocals, HasFullStack, early_room_causes}
+use Rattle.jc_instrument.specs.RoomCauses.{HasStraddling, HasTooManyProbes, IsFull, HasBadBootstraps, HasFullMembers, HasFullLocals, HasFullStack, early_room_causes}
 use Rattle.jc_instrument.specs.Steps.{InBodies}
 use Rattle.jc_instrument.proofs.CauseLaws.{first_behind, first_in_front, none_in_both}
 use Rattle.jc_instrument.proofs.FrameCauseLaws.{first_of_methods, none_of_methods}
@@ -70,7 +70,7 @@ few_probes c bodies are few = λ r many.
     let more = many.many in
     omega (arith, few, more, same)
 
-pub few_members : (c : ClassFile) → (IsFull c → ⊥) → Never (HasFullMembers c)
+pub few_members : (c : ClassFile) → (IsFull (fetch_of c.major) c → ⊥) → Never (HasFullMembers c)
 few_members c not_full = λ r full. not_full full.full
 
 -- ---- the causes in their order
@@ -88,27 +88,38 @@ module _ (c : ClassFile) (bodies : List Body) (changes : is_left_alone c ≡ fal
 
     pub counts_first : (r : Refusal) → IsFirstCause (counts c) r → IsFirstCause (early_room_causes c) r
     counts_first r first =
-        first_behind (HasStraddling c ∷ []) (counts c ++ (HasFullLocals c ∷ HasFullStack c ∷ [])) r none_straddles
-        (first_in_front (counts c) (HasFullLocals c ∷ HasFullStack c ∷ []) r first)
+        first_behind (HasStraddling c ∷ []) (counts c ++ (HasBadBootstraps c ∷ HasFullLocals c ∷ HasFullStack c ∷ [])) r none_straddles
+        (first_in_front (counts c) (HasBadBootstraps c ∷ HasFullLocals c ∷ HasFullStack c ∷ []) r first)
 
     module _ (few : NoCause (counts c)) where
       none_before : NoCause (HasStraddling c ∷ counts c)
       none_before = (none_straddles.0, few)
 
-      pub locals_first : (r : Refusal) → InBodies kinds.LocalsFull (LacksRoom kinds.LocalsFull) bodies r → IsFirstCause (early_room_causes c) r
-      locals_first r found =
-          first_behind (HasStraddling c ∷ counts c) (HasFullLocals c ∷ HasFullStack c ∷ []) r none_before
-          (inl (room_found c bodies changes are kinds.LocalsFull r found))
+      pub bootstraps_first : (r : Refusal) → HasBadBootstraps c r → IsFirstCause (early_room_causes c) r
+      bootstraps_first r bad =
+          first_behind (HasStraddling c ∷ counts c) (HasBadBootstraps c ∷ HasFullLocals c ∷ HasFullStack c ∷ []) r none_before (inl bad)
 
-      module _ (left : NoneLacks kinds.LocalsFull bodies) where
-        none_yet : NoCause (HasStraddling c ∷ (counts c ++ (HasFullLocals c ∷ [])))
-        none_yet = (none_straddles.0, (few.0, (few.1.0, (none_found c bodies changes are kinds.LocalsFull left, tt))))
+      module _ (takes : Never (HasBadBootstraps c)) where
+        none_taken : NoCause (HasStraddling c ∷ (counts c ++ (HasBadBootstraps c ∷ [])))
+        none_taken = (none_straddles.0, (few.0, (few.1.0, (takes, tt))))
 
-        pub stack_last : (o : Option Refusal) → IsFirstThatLacks kinds.StackFull bodies o → FirstCause (early_room_causes c) o
-        stack_last None none_at_all = none_in_both (HasStraddling c ∷ (counts c ++ (HasFullLocals c ∷ []))) (HasFullStack c ∷ []) none_yet
-            (none_found c bodies changes are kinds.StackFull none_at_all, tt)
-        stack_last (Some r) found = first_behind (HasStraddling c ∷ (counts c ++ (HasFullLocals c ∷ []))) (HasFullStack c ∷ []) r none_yet
-            (inl (room_found c bodies changes are kinds.StackFull r found))
+        pub locals_first : (r : Refusal) → InBodies kinds.LocalsFull (LacksRoom kinds.LocalsFull) bodies r → IsFirstCause (early_room_causes c) r
+        locals_first r found =
+            first_behind (HasStraddling c ∷ (counts c ++ (HasBadBootstraps c ∷ []))) (HasFullLocals c ∷ HasFullStack c ∷ []) r none_taken
+            (inl (room_found c bodies changes are kinds.LocalsFull r found))
+
+        module _ (left : NoneLacks kinds.LocalsFull bodies) where
+          none_yet : NoCause (HasStraddling c ∷ (counts c ++ (HasBadBootstraps c ∷ HasFullLocals c ∷ [])))
+          none_yet = (none_straddles.0, (few.0, (few.1.0, (takes, (none_found c bodies changes are kinds.LocalsFull left, tt)))))
+
+          pub stack_first : (r : Refusal) → InBodies kinds.StackFull (LacksRoom kinds.StackFull) bodies r → IsFirstCause (early_room_causes c) r
+          stack_first r found = first_behind (HasStraddling c ∷ (counts c ++ (HasBadBootstraps c ∷ HasFullLocals c ∷ []))) (HasFullStack c ∷ []) r none_yet
+              (inl (room_found c bodies changes are kinds.StackFull r found))
+
+          pub none_early : NoneLacks kinds.StackFull bodies → NoCause (early_room_causes c)
+          none_early none_at_all =
+              none_in_both (HasStraddling c ∷ (counts c ++ (HasBadBootstraps c ∷ HasFullLocals c ∷ []))) (HasFullStack c ∷ []) none_yet
+              (none_found c bodies changes are kinds.StackFull none_at_all, tt)
 
 -- ---- one body
 

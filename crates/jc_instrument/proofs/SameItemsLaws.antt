@@ -9,7 +9,6 @@ use Rattle.jc_methods.specs.declared.insn.Flow.{Flow}
 use Rattle.jc_methods.specs.declared.insn.Flow.TheVariants as flows
 use Rattle.jc_methods.specs.declared.insn.Insn.{Insn}
 use Rattle.jc_methods.specs.declared.probe_members.Fetch.{Fetch}
-use Rattle.jc_methods.specs.declared.probe_members.Fetch.TheVariants as fetches
 use Rattle.jc_plan.specs.Probed.{position_of, id_if, probe_of}
 use Rattle.jc_plan.specs.declared.branch.Branch.{Branch}
 use Rattle.jc_emit.specs.Marks.{prelude_size, unplaced}
@@ -17,8 +16,10 @@ use Rattle.jc_emit.specs.Items.{image, prelude, insn_of, lead_part, early_part, 
 use Rattle.jc_emit.specs.Sizes.{narrow, insn_at, early_by, late_by, early_probe, late_probe, arms_at, arm_sizes, probe_size, hop_size, wide_size}
 use Rattle.jc_emit.specs.TwinCode.{arm_place}
 use Rattle.jc_emit.specs.Written.{integer_in}
-use Rattle.jc_instrument.specs.RoomCauses.{probed_code}
+use Rattle.jc_layout.specs.LaidBody.{ready_code}
+use Rattle.jc_instrument.specs.Constants.{probed_code}
 use Rattle.jc_instrument.specs.SameAnalysis.{without_frames}
+use Rattle.jc_instrument.specs.declared.constants.ProbeConstants.{ProbeConstants}
 use Rattle.jc_instrument.proofs.SameAnalysisLaws.{same_way, same_before, same_lead}
 
 module _ (b : Body) (first : ℕ) where
@@ -77,5 +78,7 @@ module _ (b : Body) (first : ℕ) (fetch : Fetch) where
   unfolding twin_items
   same_items = λ k. prelude fetch ++ pieces (λ i. same_segment i k) (length b.code)
 
-pub same_code : (b : Body) (first : ℕ) → probed_code b first ≡ probed_code (without_frames b) first
-same_code b first = λ k. map (insn_of (unplaced (integer_in [])) b.arg_slots) (same_items b first fetches.Member k)
+pub same_code : (constants : ProbeConstants) (b : Body) (first : ℕ) → probed_code constants b first ≡ probed_code constants (without_frames b) first
+same_code constants b first = λ k.
+    ready_code constants.fetch constants.giver
+    (map (insn_of (unplaced (integer_in constants.integers)) b.arg_slots) (same_items b first constants.fetch k))

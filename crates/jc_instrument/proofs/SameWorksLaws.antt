@@ -10,9 +10,10 @@ use Rattle.jc_class.specs.declared.class_file.ClassFile.{ClassFile}
 use Rattle.jc_body.specs.BodyOf.{BodyOf}
 use Rattle.jc_plan.specs.Probed.{first_id}
 use Rattle.jc_instrument_code.specs.TwinCode.{written_frames}
-use Rattle.jc_emit.specs.Emission.{emission}
-use Rattle.jc_instrument_reread.specs.WrittenCode.{by_method}
+use Rattle.jc_instrument_reread.specs.WrittenCode.{ready_emission}
+use Rattle.jc_instrument.specs.Constants.{given_with}
 use Rattle.jc_instrument.specs.SameAnalysis.{without_frames}
+use Rattle.jc_instrument.specs.declared.constants.ProbeConstants.{ProbeConstants}
 use Rattle.jc_instrument.specs.BodiesWithStates.{BodyWithStates, AreBodiesWithStates, all_frames, bodies_of, emitted_of}
 use Rattle.jc_instrument.proofs.ListedLaws.{body_at}
 use Rattle.jc_instrument.proofs.OneBodyLaws.{same_body}
@@ -21,9 +22,9 @@ use Rattle.jc_instrument_reread.proofs.SameBodyLaws.{AreSame}
 use Rattle.jc_instrument.proofs.SameEmissionLaws.{IsSameEmission, same_emission, same_written}
 
 -- the works are of one method, and what is emitted is the same
-pub record IsSameWork (names others : Names) (array other : ℕ) (w x : BodyWithStates) : Type 0 where
+pub record IsSameWork (constants : ProbeConstants) (names others : Names) (array other : ℕ) (w x : BodyWithStates) : Type 0 where
   pub method : w.body.method ≡ x.body.method
-  pub emission : IsSameEmission names others (emitted_of array w) (emitted_of other x)
+  pub emission : IsSameEmission names others (emitted_of constants array w) (emitted_of constants other x)
 
 -- lists of one length, in which the items at each place are so
 pub zip_of_places : {X Y : Type 0} (R : X → Y → Type 0) (xs : List X) (ys : List Y) → length xs ≡ length ys
@@ -43,7 +44,7 @@ bare_at works i w stands = slice_get-map without_frames (bodies_of works) i ∙ 
 bare_count : (works : List BodyWithStates) → length (map without_frames (bodies_of works)) ≡ length works
 bare_count works = length-map (bodies_of works) without_frames ∙ length-map works (λ (v : BodyWithStates). v.body)
 
-module _ (names others : Names) (array other : ℕ) (c : ClassFile) (works more : List BodyWithStates) (are : AreBodiesWithStates names array c works)
+module _ (constants : ProbeConstants) (names others : Names) (array other : ℕ) (c : ClassFile) (works more : List BodyWithStates) (are : AreBodiesWithStates names array c works)
     (too : AreBodiesWithStates others other c more) where
   bodies_same : map without_frames (bodies_of works) ≡ map without_frames (bodies_of more)
   bodies_same = same_below names others c (length c.methods) (bodies_of works) (bodies_of more) are.bodies too.bodies
@@ -69,32 +70,32 @@ module _ (names others : Names) (array other : ℕ) (c : ClassFile) (works more 
     first_same : w.first ≡ x.first
     first_same = (are.each i w stands).first ∙ firsts_same i ∙ sym (too.each i x stands_too).first
 
-    work_same : IsSameWork names others array other w x
+    work_same : IsSameWork constants names others array other w x
     work_same = record {
       method = number_same;
-      emission = subst (λ (first : ℕ). IsSameEmission names others (emission w.body first w.states (by_method array)) (emitted_of other x)) (sym first_same)
-          (same_emission names others w.body x.body body_same x.first w.states x.states array other are.array_is too.array_is
+      emission = subst (λ (first : ℕ). IsSameEmission names others (ready_emission w.body first w.states (given_with constants array) constants.giver) (emitted_of constants other x)) (sym first_same)
+          (same_emission constants names others w.body x.body body_same x.first w.states x.states array other are.array_is too.array_is
           (are.each i w stands).states (too.each i x stands_too).states);
     }
 
-  pub same_works : AllZip (IsSameWork names others array other) works more
+  pub same_works : AllZip (IsSameWork constants names others array other) works more
   same_works =
-      zip_of_places (IsSameWork names others array other) works more
+      zip_of_places (IsSameWork constants names others array other) works more
       (sym (bare_count works) ∙ ap length bodies_same ∙ bare_count more) work_same
 
-all_written : (names others : Names) (array other : ℕ) (works more : List BodyWithStates) → AllZip (IsSameWork names others array other) works more
-    → all_frames names array works ≡ all_frames others other more
-all_written names others array other [] [] same = refl
-all_written names others array other [] (x ∷ more) same = absurd same
-all_written names others array other (w ∷ works) [] same = absurd same
-all_written names others array other (w ∷ works) (x ∷ more) same =
-    flat_map-cons (λ (v : BodyWithStates). written_frames names (emitted_of array v)) w works
+all_written : (constants : ProbeConstants) (names others : Names) (array other : ℕ) (works more : List BodyWithStates) → AllZip (IsSameWork constants names others array other) works more
+    → all_frames names constants array works ≡ all_frames others constants other more
+all_written constants names others array other [] [] same = refl
+all_written constants names others array other [] (x ∷ more) same = absurd same
+all_written constants names others array other (w ∷ works) [] same = absurd same
+all_written constants names others array other (w ∷ works) (x ∷ more) same =
+    flat_map-cons (λ (v : BodyWithStates). written_frames names (emitted_of constants array v)) w works
     ∙ ap₂ (λ (first : List TypeStateAt) (rest : List TypeStateAt). first ++ rest)
-    (same_written names others (emitted_of array w) (emitted_of other x) same.0.emission)
-    (all_written names others array other works more same.1)
-    ∙ sym (flat_map-cons (λ (v : BodyWithStates). written_frames others (emitted_of other v)) x more)
+    (same_written names others (emitted_of constants array w) (emitted_of constants other x) same.0.emission)
+    (all_written constants names others array other works more same.1)
+    ∙ sym (flat_map-cons (λ (v : BodyWithStates). written_frames others (emitted_of constants other v)) x more)
 
-pub same_frames : (names others : Names) (array other : ℕ) (c : ClassFile) (works more : List BodyWithStates) → AreBodiesWithStates names array c works
-    → AreBodiesWithStates others other c more → all_frames names array works ≡ all_frames others other more
-same_frames names others array other c works more are too =
-    all_written names others array other works more (same_works names others array other c works more are too)
+pub same_frames : (constants : ProbeConstants) (names others : Names) (array other : ℕ) (c : ClassFile) (works more : List BodyWithStates) → AreBodiesWithStates names array c works
+    → AreBodiesWithStates others other c more → all_frames names constants array works ≡ all_frames others constants other more
+same_frames constants names others array other c works more are too =
+    all_written constants names others array other works more (same_works constants names others array other c works more are too)

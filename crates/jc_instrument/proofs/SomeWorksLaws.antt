@@ -12,6 +12,7 @@ use Rattle.jc_class.specs.declared.class_file.ClassFile.{ClassFile}
 use Rattle.jc_kinds.specs.Checked.{Checked}
 use Rattle.jc_plan.specs.Probed.{first_id}
 use Rattle.jc_emit.specs.Shift.{probe_array_class}
+use Rattle.jc_instrument_reread.proofs.SameBodyLaws.{grown_same, same_check}
 use Rattle.jc_instrument.specs.Bodies.{AreBodies}
 use Rattle.jc_instrument.specs.Probing.{work}
 use Rattle.jc_instrument.specs.BodiesWithStates.{BodyWithStates, bodies_of, IsBodyWithStates, AreBodiesWithStates}
@@ -21,7 +22,6 @@ use Rattle.jc_instrument.proofs.ProbingLaws.{nothing_at, work_grown}
 use Rattle.jc_instrument.proofs.SomeBodiesLaws.{AllBodies}
 use Rattle.jc_instrument.proofs.SomeStatesLaws.{AllStates, all_states}
 use Rattle.jc_instrument.proofs.WholeLaws.{bodies_numbered}
-use Rattle.jc_instrument.proofs.PlannedLaws.{check_grown}
 
 -- works of the first n of these bodies, under more names
 record SomeWorks (first : Names) (bodies : List Body) (n : ℕ) : Type 0 where
@@ -41,7 +41,7 @@ module _ (first : Names) (bodies : List Body) (numbered : (i : ℕ) (b : Body) �
     still_numbered = frames_numbered (length first) (length before.names) b.frames (grown_count first before.names before.grows) (numbered n b stands)
 
     still_checked : Checked before.names b
-    still_checked = check_grown first before.names b before.grows (numbered n b stands) (checked n b stands)
+    still_checked = same_check first before.names b b (grown_same first before.names b before.grows (numbered n b stands)) (checked n b stands)
 
     module _ (next : AllStates before.names b (made n b stands) still_numbered still_checked) where
       abbrev own : BodyWithStates

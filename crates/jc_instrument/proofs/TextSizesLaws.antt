@@ -97,9 +97,11 @@ member_size HasName HasDescriptor text m t =
     let is : method_size m ≡ attributes_size attributes.0 = ap (λ (k : Member). method_size k) attributes.5.1 in
     omega (arith, one, two, three, four, most, is)
 
-pub class_size : (text : List ℕ) (c : ClassFile) → ClassText text c → sum_by method_size c.methods ≤ length text
+-- the attributes of its methods, and its own
+class_sizes : (text : List ℕ) (c : ClassFile) → ClassText text c
+    → (sum_by method_size c.methods ≤ length text) × (attributes_size c.attributes ≤ length text)
 unfolding class_file
-class_size text c t =
+class_sizes text c t =
     let minor = t.5 in
     let major = minor.5 in
     let pool = major.5 in
@@ -125,4 +127,16 @@ class_size text c t =
     (member_size (HasText p) (HasMethodDescriptor p)) methods.1 methods.0 methods.4 in
     let is : sum_by method_size c.methods ≡ sum_by method_size methods.0 =
     ap (λ (k : ClassFile). sum_by method_size k.methods) attributes.5.1 in
-    omega (arith, s0, s1, s2, s3, s4, s5, s6, s7, s8, s9, most, is)
+    let s10 = in_two methods.2 attributes.1 attributes.2 attributes.3 in
+    let own = counted_attributes (HasText p) attributes.1 attributes.0 attributes.4 in
+    let own_is : attributes_size c.attributes ≡ attributes_size attributes.0 =
+    ap (λ (k : ClassFile). attributes_size k.attributes) attributes.5.1 in (
+      omega (arith, s0, s1, s2, s3, s4, s5, s6, s7, s8, s9, most, is),
+      omega (arith, s0, s1, s2, s3, s4, s5, s6, s7, s8, s9, s10, own, own_is),
+    )
+
+pub class_size : (text : List ℕ) (c : ClassFile) → ClassText text c → sum_by method_size c.methods ≤ length text
+class_size text c t = (class_sizes text c t).0
+
+pub class_attributes_size : (text : List ℕ) (c : ClassFile) → ClassText text c → attributes_size c.attributes ≤ length text
+class_attributes_size text c t = (class_sizes text c t).1

@@ -1,9 +1,11 @@
 -- The one twin class that is written: its pool has what is added, and outside of code it is the class.
-use Rattle.std.proofs.Common.{◌≡◌, inl, inr, ℕ, ◌+◌, Bool, true, false, List, [], ◌∷◌, ◌++◌, map, get_or, Option, Some, None, refl, sym, ap, subst, arith, if◌then◌else◌}
-use Rattle.std.specs.List.{AllByRecursion}
+use Rattle.std.proofs.Common.{◌≡◌, inl, inr, ℕ, ℤ, ◌+◌, Bool, true, false, List, [], ◌∷◌, ◌++◌, map, Option, Some, None, refl, sym, ◌∙◌, ap, subst, if◌then◌else◌}
 use Rattle.std.specs.Prelude.{codes}
 use Rattle.std.proofs.lemmas.Slice.Eq.{bytes_eq-Decides}
-use Rattle.jc_methods.specs.VerificationTypes.{Names}
+use Rattle.jc_methods.specs.ProbeMembers.{fetch_of}
+use Rattle.jc_methods.specs.declared.probe_members.Fetch.{Fetch}
+use Rattle.jc_methods.specs.declared.probe_members.Fetch.TheVariants as fetches
+use Rattle.jc_methods.specs.VerificationTypes.{Names, TypeStateAt}
 use Rattle.jc_bytes.specs.PlainLists.{map_from}
 use Rattle.jc_pool.specs.Lookup.{utf8_of}
 use Rattle.jc_pool.specs.Pool.{PoolValue}
@@ -11,63 +13,19 @@ use Rattle.jc_class.specs.declared.class_file.Attribute.{Attribute}
 use Rattle.jc_class.specs.declared.class_file.ClassFile.{ClassFile}
 use Rattle.jc_class.specs.declared.class_file.Member.{Member}
 use Rattle.jc_body.specs.Attributes.{is_text, has_name}
-use Rattle.jc_frames.specs.FullTable.{named_by_all}
-use Rattle.jc_methods.specs.ProbeMembers.{data_name, data_type, init_name, init_type}
+use Rattle.jc_bootstraps.specs.Bootstraps.{bootstrap_bodies}
 use Rattle.jc_plan.specs.Analysed.{all_probes}
 use Rattle.jc_instrument_code.specs.CodeText.{attribute}
-use Rattle.jc_instrument.specs.Contents.{Content, text_entry, class_entry, string_entry, long_entry, member_entry, IsOfClass}
-use Rattle.jc_instrument_code.specs.InitText.{init_text}
-use Rattle.jc_instrument_code.specs.TwinCode.{twin_code}
-use Rattle.jc_instrument.specs.Needed.{name_of, signed_id, place_list, needs_of, TakesNeeds}
-use Rattle.jc_instrument_reread.specs.Written.{data_field, fetch_method}
-use Rattle.jc_instrument.specs.SameOutside.{IsKeptAttribute, AreKeptAttributes, IsKeptMethod, AreKeptMethods, IsDataField, IsInitMethod, IsSameOutside}
-use Rattle.jc_instrument.specs.TwinText.{work_of, with_code, twin_method, twin_methods, data_member, init_member, init_places, twin_class, IsWritten}
-use Rattle.jc_instrument.specs.BodiesWithStates.{BodyWithStates, bodies_of, emitted_of, all_frames}
-use Rattle.jc_instrument.proofs.ContentLaws.{of_content}
-use Rattle.jc_instrument.proofs.GrownPoolLaws.{StandAt, stand_at, pool_grown}
+use Rattle.jc_instrument_code.specs.InitText.{added_text}
+use Rattle.jc_instrument.specs.Contents.{Content}
+use Rattle.jc_instrument.specs.Needed.{IsNextBootstrap, early_list, name_of, place_list, signed_id}
+use Rattle.jc_instrument.specs.SameOutside.{AreAddedFields, AreClassAttributes, AreKeptAttributes, AreKeptMethods, IsInitMethod, IsKeptAttribute, IsKeptMethod, IsSameOutside, NamesField}
+use Rattle.jc_instrument.specs.TwinText.{IsReadyFor, IsWritten, Writing, added_fields, code_with, constants_of, data_member, init_member, init_places, needs_of, twin_attributes, twin_class, twin_method, twin_methods, with_code, work_of}
+use Rattle.jc_instrument.specs.BodiesWithStates.{BodyWithStates, all_frames, bodies_of}
 use Rattle.jc_instrument.specs.declared.needs.MemberPlaces.{MemberPlaces}
-
--- ---- what is needed
-
-classes_listed : (names : Names) → AllByRecursion IsOfClass (map class_entry names)
-classes_listed [] = tt
-classes_listed (name ∷ names) = (tt, classes_listed names)
-
-pub each_listed : (id : ℕ) (names : Names) (array : ℕ) (c : ClassFile) (works : List BodyWithStates) → AllByRecursion IsOfClass (needs_of id names array c works)
-each_listed id names array c works = (
-  tt,
-  (
-    tt,
-    (
-      tt,
-      (
-        tt,
-        (
-          (omega arith, omega arith),
-          ((omega arith, omega arith), ((omega arith, omega arith), (tt, (tt, (tt, (tt, (tt, classes_listed (named_by_all (all_frames names array works))))))))),
-        ),
-      ),
-    ),
-  ),
-)
-
--- ---- where it stands
-
-pub one_places : (p q : MemberPlaces) (others more : List ℕ) → place_list p ++ others ≡ place_list q ++ more → p ≡ q
-one_places p q others more same = λ i. record {
-  data_name = get_or (same i) 0 0;
-  data_type = get_or (same i) 1 0;
-  init_name = get_or (same i) 2 0;
-  init_type = get_or (same i) 3 0;
-  field = get_or (same i) 4 0;
-  method = get_or (same i) 5 0;
-  fetch = get_or (same i) 6 0;
-  code = get_or (same i) 7 0;
-  frames = get_or (same i) 8 0;
-  id = get_or (same i) 9 0;
-  name = get_or (same i) 10 0;
-  array = get_or (same i) 11 0;
-}
+use Rattle.jc_instrument.proofs.AttributesLaws.{more_kept}
+use Rattle.jc_instrument.proofs.GrownPoolLaws.{pool_grown}
+use Rattle.jc_instrument.proofs.StandingLaws.{MembersStand, OwnStand, each_listed, needs_stand}
 
 -- ---- what stays
 
@@ -108,45 +66,63 @@ module _ (old : PoolValue) (code : BodyWithStates → List ℕ) where
   methods_kept works number [] = tt
   methods_kept works number (m ∷ methods) = (method_kept m (work_of number works), methods_kept works (number + 1) methods)
 
+-- ---- what is added
+
+added_are : (fetch : Fetch) (pool : PoolValue) (owner : List ℕ) (p : MemberPlaces) → OwnStand fetch pool owner p → AreAddedFields fetch pool (added_fields fetch p)
+added_are fetches.Member pool owner p own = (data_member p, refl, record { flags = refl; name = own.0; desc = own.1; attributes = refl })
+added_are fetches.Constant pool owner p own = refl
+
+field_named : (fetch : Fetch) (pool : PoolValue) (owner : List ℕ) (id : ℤ) (count : ℕ) (frames : List TypeStateAt) (p : MemberPlaces)
+    → MembersStand fetch pool owner id count frames p → NamesField fetch pool owner (init_places p) p.frames p.array
+field_named fetches.Member pool owner id count frames p stand = (stand.own.2, stand.own.4, stand.array_is)
+field_named fetches.Constant pool owner id count frames p stand = tt
+
+method_is : (fetch : Fetch) (pool : PoolValue) (owner : List ℕ) (id : ℤ) (count : ℕ) (frames : List TypeStateAt) (p : MemberPlaces)
+    → MembersStand fetch pool owner id count frames p → IsInitMethod fetch pool owner id count (init_member fetch p count)
+method_is fetch pool owner id count frames p stand = record {
+  flags = refl;
+  name = stand.init_name;
+  desc = stand.init_type;
+  code = attribute p.code (added_text fetch (init_places p) p.frames p.array count);
+  attributes = refl;
+  code_is = stand.code;
+  places = init_places p;
+  frames = p.frames;
+  array = p.array;
+  text = refl;
+  field_is = field_named fetch pool owner id count frames p stand;
+  id_is = stand.id_is;
+  name_is = stand.name_is;
+  count_is = stand.count_is;
+  fetch_is = stand.fetch_is;
+}
+
+attributes_are : (fetch : Fetch) (old new : PoolValue) (owner : List ℕ) (bootstrap : ℕ) (p : MemberPlaces) (attributes : List Attribute)
+    → IsNextBootstrap fetch (bootstrap_bodies old attributes) bootstrap → OwnStand fetch new owner p
+    → AreClassAttributes fetch old new owner bootstrap attributes (twin_attributes fetch old bootstrap p attributes)
+attributes_are fetches.Member old new owner bootstrap p attributes next own = refl
+attributes_are fetches.Constant old new owner bootstrap p attributes next own =
+    (p.handle, own.0, more_kept old p.handle bootstrap new p attributes refl own.1 next)
+
 -- ---- the whole
 
-module _ (id : ℕ) (names : Names) (array : ℕ) (works : List BodyWithStates) (c : ClassFile) (pool : PoolValue) (places : MemberPlaces)
-    (takes : TakesNeeds id names array c works pool places) where
+module _ (id : ℕ) (names : Names) (array : ℕ) (works : List BodyWithStates) (c : ClassFile) (w : Writing) (ready : IsReadyFor id names array works c w) where
   abbrev needs : List Content
-  needs = needs_of id names array c works
+  needs = needs_of id names array c works w
 
-  at : StandAt pool needs (place_list places ++ takes.class_places)
-  at = stand_at needs c.pool pool (place_list places ++ takes.class_places) (each_listed id names array c works) takes.takes
+  abbrev count : ℕ
+  count = all_probes (bodies_of works)
 
-  field_is : IsDataField pool (data_member places)
-  field_is = record {
-    flags = refl;
-    name = of_content pool places.data_name (text_entry data_name) at.0;
-    desc = of_content pool places.data_type (text_entry data_type) at.1.0;
-    attributes = refl;
-  }
+  abbrev frames : List TypeStateAt
+  frames = all_frames names (constants_of w) array works
 
-  method_is : IsInitMethod pool (name_of c) (signed_id id) (all_probes (bodies_of works)) (init_member places (all_probes (bodies_of works)))
-  method_is = record {
-    flags = refl;
-    name = of_content pool places.init_name (text_entry init_name) at.1.1.0;
-    desc = of_content pool places.init_type (text_entry init_type) at.1.1.1.0;
-    code = attribute places.code (init_text (init_places places) places.frames places.array (all_probes (bodies_of works)));
-    attributes = refl;
-    code_is = of_content pool places.code (text_entry (codes "Code")) at.1.1.1.1.1.1.1.0;
-    places = init_places places;
-    frames = places.frames;
-    array = places.array;
-    text = refl;
-    field_is = of_content pool places.field (member_entry (data_field (name_of c))) at.1.1.1.1.0;
-    id_is = of_content pool places.id (long_entry (signed_id id)) at.1.1.1.1.1.1.1.1.1.0;
-    name_is = of_content pool places.name (string_entry (name_of c)) at.1.1.1.1.1.1.1.1.1.1.0;
-    fetch_is = of_content pool places.fetch (member_entry fetch_method) at.1.1.1.1.1.1.0;
-    frames_are = of_content pool places.frames (text_entry (codes "StackMapTable")) at.1.1.1.1.1.1.1.1.0;
-    array_is = of_content pool places.array (class_entry data_type) at.1.1.1.1.1.1.1.1.1.1.1.0;
-  }
+  abbrev places : List ℕ
+  places = early_list w.fetch w.early ++ (place_list w.fetch count frames w.places ++ ready.takes.class_places)
 
-  class_kept : IsSameOutside id (needs_of id names array c works) (all_probes (bodies_of works)) c (twin_class names array c works pool places)
+  stand : MembersStand w.fetch w.pool (name_of c) (signed_id id) count frames w.places
+  stand = (needs_stand id names array c works w ready.takes).members
+
+  class_kept : IsSameOutside id w.bootstrap needs count c (twin_class names array c works w)
   unfolding twin_class
   class_kept = record {
     minor = refl;
@@ -155,19 +131,24 @@ module _ (id : ℕ) (names : Names) (array : ℕ) (works : List BodyWithStates) 
     this_class = refl;
     super_class = refl;
     interfaces = refl;
-    attributes = refl;
-    pool = pool_grown needs c.pool pool (place_list places ++ takes.class_places) (each_listed id names array c works) takes.takes;
-    field = data_member places;
+    attributes = subst (λ (f : Fetch). AreClassAttributes f c.pool w.pool (name_of c) w.bootstrap c.attributes
+        (twin_attributes w.fetch c.pool w.bootstrap w.places c.attributes)) ready.gets.fetch_is
+        (attributes_are w.fetch c.pool w.pool (name_of c) w.bootstrap w.places c.attributes ready.gets.bootstrap_is stand.own);
+    pool = pool_grown needs c.pool w.pool places (each_listed id names array c works w) ready.takes.takes;
+    added = added_fields w.fetch w.places;
     fields = refl;
-    field_is = field_is;
-    kept = twin_methods c.pool (λ w. twin_code pool places.method places.frames names (emitted_of array w)) works c.methods;
-    method = init_member places (all_probes (bodies_of works));
+    added_are = subst (λ (f : Fetch). AreAddedFields f w.pool (added_fields w.fetch w.places)) ready.gets.fetch_is
+        (added_are w.fetch w.pool (name_of c) w.places stand.own);
+    kept = twin_methods c.pool (code_with names array w) works c.methods;
+    method = init_member w.fetch w.places count;
     methods = refl;
-    kept_are = methods_kept c.pool (λ w. twin_code pool places.method places.frames names (emitted_of array w)) works 0 c.methods;
-    method_is = method_is;
+    kept_are = methods_kept c.pool (code_with names array w) works 0 c.methods;
+    method_is = subst (λ (f : Fetch). IsInitMethod f w.pool (name_of c) (signed_id id) count (init_member w.fetch w.places count)) ready.gets.fetch_is
+        (method_is w.fetch w.pool (name_of c) (signed_id id) count frames w.places stand);
   }
 
-pub same_outside : (id : ℕ) (names : Names) (array : ℕ) (works : List BodyWithStates) (c twin : ClassFile) → IsWritten id names array works c twin
-    → IsSameOutside id (needs_of id names array c works) (all_probes (bodies_of works)) c twin
+pub same_outside : (id : ℕ) (names : Names) (array : ℕ) (works : List BodyWithStates) (c twin : ClassFile) → (w : IsWritten id names array works c twin)
+    → IsSameOutside id w.with.bootstrap (needs_of id names array c works w.with) (all_probes (bodies_of works)) c twin
 same_outside id names array works c twin w =
-    subst (IsSameOutside id (needs_of id names array c works) (all_probes (bodies_of works)) c) (sym w.is) (class_kept id names array works c w.pool w.places w.takes)
+    subst (IsSameOutside id w.with.bootstrap (needs_of id names array c works w.with) (all_probes (bodies_of works)) c) (sym w.is)
+    (class_kept id names array works c w.with w.ready)

@@ -21,7 +21,6 @@ use Rattle.jc_methods.specs.declared.insn.Insn.TheVariants as insns
 use Rattle.jc_methods.specs.declared.kind.Kind.{Kind}
 use Rattle.jc_methods.specs.declared.kind.Kind.TheVariants as kinds
 use Rattle.jc_methods.specs.declared.kind.State.{State}
-use Rattle.jc_methods.specs.declared.probe_members.Fetch.TheVariants as fetches
 use Rattle.jc_bytes.proofs.FirstSeenLaws.{contains_one}
 use Rattle.jc_methods.specs.FrameOrder.{RiseFrom}
 use Rattle.jc_bytes.proofs.BooleanLaws.{none_in, first_in, later_in}
@@ -39,23 +38,26 @@ use Rattle.jc_emit.specs.TwinFrames.{no_state, operands_of, state_at, left_by, s
 use Rattle.jc_emit.specs.Items.{insn_of, lead_of, land_of, image_of, segment_size, twin_items}
 use Rattle.jc_emit.specs.Emission.{emission, IsArrayNumber, frame, frame_if, moved_state, has_frame, has_inverse, tests_by, arm_frame, arm_frames, frames_at, wide_frames_at}
 use Rattle.jc_emit.specs.Refusing.{HasRoom}
-use Rattle.jc_emit.specs.Stages.{AreLayoutFrames}
+use Rattle.jc_emit.specs.Stages.{AreLayoutFrames, emitted_code}
 use Rattle.jc_emit.specs.Twin.{IsEmitted}
 use Rattle.jc_emit.specs.Written.{integer_in}
-use Rattle.jc_emit.proofs.BuiltLaws.{length_twin}
+use Rattle.jc_emit.proofs.BuiltLaws.{length_twin, some_prelude}
 use Rattle.jc_emit.proofs.FrameListsLaws.{in_piece, if_listed}
 use Rattle.jc_emit.proofs.RowLaws.{total_grows}
 use Rattle.jc_emit.proofs.WideFrameLaws.{emitted}
 use Rattle.jc_layout.specs.Layout.{chosen}
 use Rattle.jc_layout.specs.Merged.{merged, used_frames}
 use Rattle.jc_layout.proofs.ChoiceLaws.{chosen_count}
+use Rattle.jc_layout.proofs.LayableLaws.{ready_length}
 use Rattle.jc_layout.proofs.LayoutFramesLaws.{frames_laid}
 use Rattle.jc_layout.proofs.MergedLaws.{merged_cases, merged_rises, used_cases}
 use Rattle.jc_layout.specs.declared.layouts.Laid.{Laid}
 use Rattle.jc_instrument_code.specs.Given.{AreFrames, IsLaid}
 use Rattle.jc_instrument_code.specs.TwinCode.{chosen_frames}
 use Rattle.jc_instrument_code.proofs.LaidLaws.{can_be_written, laid_length, laid_rise}
-use Rattle.jc_instrument_reread.specs.WrittenCode.{by_method}
+use Rattle.jc_instrument.specs.Constants.{given_with}
+use Rattle.jc_instrument.specs.declared.constants.ProbeConstants.{ProbeConstants}
+use Rattle.jc_instrument_reread.specs.WrittenCode.{ready_emission}
 use Rattle.jc_instrument.proofs.GivenLaws.{layout_same}
 use Rattle.jc_instrument.proofs.ProbingLaws.{array_stands, emission_code}
 
@@ -185,22 +187,22 @@ record IsDone (end names : ℕ) (f : FrameAt) : Type 0 where
   within : f.at ≤ end
   sayable : IsSayable (end + 1) names f.state
 
-module _ (b : Body) (first : ℕ) (states : List State) (array : ℕ) (names : Names) (are : AreStates names b states) (array_is : IsArrayNumber names array)
+module _ (constants : ProbeConstants) (b : Body) (first : ℕ) (states : List State) (array : ℕ) (names : Names) (are : AreStates names b states) (array_is : IsArrayNumber names array)
     (locals : b.max_locals + 1 ≤ 65535) (stack : b.max_stack ≤ 65535) where
   abbrev lead : ℕ → ℕ
-  lead i = lead_of b first (narrow fetches.Member) i
+  lead i = lead_of b first (narrow constants.fetch) i
 
   abbrev land : ℕ → ℕ
-  land i = land_of b first (narrow fetches.Member) i
+  land i = land_of b first (narrow constants.fetch) i
 
   abbrev q_of : ℕ → ℕ
-  q_of i = image_of b first (narrow fetches.Member) i
+  q_of i = image_of b first (narrow constants.fetch) i
 
   abbrev end : ℕ
   end = lead (length b.code)
 
   abbrev moved : State → State
-  moved s = moved_state b first states (by_method array) s
+  moved s = moved_state b first states (given_with constants array) s
 
   abbrev Done : FrameAt → Type 0
   Done f = IsDone end (length names) f
@@ -209,7 +211,7 @@ module _ (b : Body) (first : ℕ) (states : List State) (array : ℕ) (names : N
   Source s = IsSource b.code (length names) s
 
   lead_grows : (i j : ℕ) → i ≤ j → lead i ≤ lead j
-  lead_grows i j le = omega (arith, total_grows (segment_size b first (narrow fetches.Member)) i j le)
+  lead_grows i j le = omega (arith, total_grows (segment_size b first (narrow constants.fetch)) i j le)
 
   image_within : (i : ℕ) → i < length b.code → q_of i < end
   image_within i lt = let g = lead_grows (suc i) (length b.code) (omega (arith, lt)) in omega (arith, g)
@@ -246,10 +248,10 @@ module _ (b : Body) (first : ℕ) (states : List State) (array : ℕ) (names : N
   }
 
   abbrev leads_there : ℕ → Bool
-  leads_there i = has_inverse b first states (by_method array) i && is_some (lead_probe b first i)
+  leads_there i = has_inverse b first states (given_with constants array) i && is_some (lead_probe b first i)
 
   abbrev lands_there : ℕ → Bool
-  lands_there i = has_frame b first states (by_method array) i || (has_inverse b first states (by_method array) i && is_none (lead_probe b first i))
+  lands_there i = has_frame b first states (given_with constants array) i || (has_inverse b first states (given_with constants array) i && is_none (lead_probe b first i))
 
   abbrev lead_frames : ℕ → List FrameAt
   lead_frames i = frame_if (leads_there i) (frame (lead i) (moved (state_at states i)))
@@ -264,49 +266,49 @@ module _ (b : Body) (first : ℕ) (states : List State) (array : ℕ) (names : N
   lead_done i f lt c =
       let h = if_listed (leads_there i) (frame (lead i) (moved (state_at states i))) f c in
       let w = image_within i lt in
-      subst Done h.1 (moved_done (lead i) (state_at states i) (omega arith) (omega (arith, w)) (source_at i))
+      subst Done h.1 (moved_done (lead i) (state_at states i) (omega (arith, some_prelude constants.fetch)) (omega (arith, w)) (source_at i))
 
   land_done : (i : ℕ) (f : FrameAt) → i < length b.code → Contains (land_frames i) f → Done f
   land_done i f lt c =
       let h = if_listed (lands_there i) (frame (land i) (moved (state_at states i))) f c in
       let w = image_within i lt in
-      subst Done h.1 (moved_done (land i) (state_at states i) (omega arith) (omega (arith, w)) (source_at i))
+      subst Done h.1 (moved_done (land i) (state_at states i) (omega (arith, some_prelude constants.fetch)) (omega (arith, w)) (source_at i))
 
   arms_done : (here : ℕ) (s : State) (xs : List Branch) → Source s → 2 ≤ here → here + arm_sizes (probe_of b first) xs ≤ end
-      → (f : FrameAt) → Contains (arm_frames b first states (by_method array) here (moved s) xs) f → Done f
+      → (f : FrameAt) → Contains (arm_frames b first states (given_with constants array) here (moved s) xs) f → Done f
   arms_done here s [] source behind within f c = absurd (none_in f c)
   arms_done here s (x ∷ xs) source behind within f c =
       ⊎_elim (λ front. single (probe_of b first x) front)
       (λ rest. arms_done (here + hop_size (probe_of b first x)) s xs source (omega (arith, behind)) (omega (arith, within)) f rest)
-      (Contains-append_cases (arm_frame b first states (by_method array) here (moved s) (probe_of b first x)) _ f c)
+      (Contains-append_cases (arm_frame b first states (given_with constants array) here (moved s) (probe_of b first x)) _ f c)
     where
-      single : (o : Option ℕ) → Contains (arm_frame b first states (by_method array) here (moved s) o) f → Done f
+      single : (o : Option ℕ) → Contains (arm_frame b first states (given_with constants array) here (moved s) o) f → Done f
       single None d = absurd (none_in f d)
       single (Some id) d = subst Done (contains_one (frame here (moved s)) f d) (moved_done here s behind (omega (arith, within)) source)
 
   arms_within : (i : ℕ) → i < length b.code → q_of i + 1 + arm_sizes (probe_of b first) (arms_at b.code i) ≤ end
   arms_within i lt = let g = lead_grows (suc i) (length b.code) (omega (arith, lt)) in omega (arith, g)
 
-  each_done : (f : FrameAt) → Contains (pieces (frames_at b first states (by_method array)) (length b.code)) f → Done f
+  each_done : (f : FrameAt) → Contains (pieces (frames_at b first states (given_with constants array)) (length b.code)) f → Done f
   each_done f c =
-      let p = in_piece (frames_at b first states (by_method array)) (length b.code) f c in
+      let p = in_piece (frames_at b first states (given_with constants array)) (length b.code) f c in
       let i = p.piece in
       ⊎_elim (λ front. lead_done i f p.within front)
       (λ rest.
       ⊎_elim (λ middle. land_done i f p.within middle)
-      (λ last. arms_done (q_of i + 1) (left i) (arms_at b.code i) (left_source b.code (length names) (insn_at b.code i) (state_at states i) (source_at i)) (omega arith)
+      (λ last. arms_done (q_of i + 1) (left i) (arms_at b.code i) (left_source b.code (length names) (insn_at b.code i) (state_at states i) (source_at i)) (omega (arith, some_prelude constants.fetch))
       (arms_within i p.within) f last)
-      (Contains-append_cases (land_frames i) (arm_frames b first states (by_method array) (q_of i + 1) (moved (left i)) (arms_at b.code i)) f rest))
+      (Contains-append_cases (land_frames i) (arm_frames b first states (given_with constants array) (q_of i + 1) (moved (left i)) (arms_at b.code i)) f rest))
       (Contains-append_cases (lead_frames i) _ f p.listed)
 
-  each_wide_done : (f : FrameAt) → Contains (pieces (wide_frames_at b first states (by_method array)) (length b.code)) f → Done f
+  each_wide_done : (f : FrameAt) → Contains (pieces (wide_frames_at b first states (given_with constants array)) (length b.code)) f → Done f
   each_wide_done f c =
-      let p = in_piece (wide_frames_at b first states (by_method array)) (length b.code) f c in
+      let p = in_piece (wide_frames_at b first states (given_with constants array)) (length b.code) f c in
       let i = p.piece in
       let s = state_behind b states i (late_probe b first i) in
-      let h = if_listed (tests_by b first states (by_method array) (flow_of (insn_at b.code i))) (frame (q_of i + 1) (moved s)) f p.listed in
+      let h = if_listed (tests_by b first states (given_with constants array) (flow_of (insn_at b.code i))) (frame (q_of i + 1) (moved s)) f p.listed in
       let w = image_within i p.within in
-      subst Done h.1 (moved_done (q_of i + 1) s (omega arith) (omega (arith, w)) (behind_source i (late_probe b first i)))
+      subst Done h.1 (moved_done (q_of i + 1) s (omega (arith, some_prelude constants.fetch)) (omega (arith, w)) (behind_source i (late_probe b first i)))
 
 -- ---- lists of frames
 
@@ -362,11 +364,13 @@ few_insns e l laid =
 
 -- ---- the frames of a body
 
-module _ (names : Names) (b : Body) (first : ℕ) (states : List State) (array : ℕ) (l : Laid) (are : AreStates names b states) (array_is : IsArrayNumber names array)
-    (laid : IsLaid (emission b first states (by_method array)) l) (told : IsEmitted names names states fetches.Member (integer_in []) first b (emission b first states (by_method array)))
-    (locals : (emission b first states (by_method array)).max_locals ≤ 65535) (stack : (emission b first states (by_method array)).max_stack ≤ 65535) where
+module _ (constants : ProbeConstants) (names : Names) (b : Body) (first : ℕ) (states : List State) (array : ℕ) (l : Laid) (are : AreStates names b states) (array_is : IsArrayNumber names array)
+    (laid : IsLaid (ready_emission b first states (given_with constants array) constants.giver) l)
+    (told : IsEmitted names names states constants.fetch (integer_in constants.integers) first b (emission b first states (given_with constants array)))
+    (locals : (emission b first states (given_with constants array)).max_locals ≤ 65535)
+    (stack : (emission b first states (given_with constants array)).max_stack ≤ 65535) where
   abbrev e : Emitted
-  e = emission b first states (by_method array)
+  e = ready_emission b first states (given_with constants array) constants.giver
 
   few_locals : b.max_locals + 1 ≤ 65535
   few_locals = let m = told.max_locals in omega (arith, m, locals)
@@ -375,18 +379,18 @@ module _ (names : Names) (b : Body) (first : ℕ) (states : List State) (array :
   few_stack = let m = told.max_stack in omega (arith, m, stack)
 
   abbrev last : ℕ
-  last = lead_of b first (narrow fetches.Member) (length b.code)
+  last = lead_of b first (narrow constants.fetch) (length b.code)
 
   abbrev IsFine : FrameAt → Type 0
   IsFine f = IsDone last (length names) f
 
   narrow_done : (f : FrameAt) → Contains e.frames f → IsFine f
   unfolding emission
-  narrow_done f c = each_done b first states array names are array_is few_locals few_stack f c
+  narrow_done f c = each_done constants b first states array names are array_is few_locals few_stack f c
 
   wide_done : (f : FrameAt) → Contains e.wide_frames f → IsFine f
   unfolding emission
-  wide_done f c = each_wide_done b first states array names are array_is few_locals few_stack f c
+  wide_done f c = each_wide_done constants b first states array names are array_is few_locals few_stack f c
 
   chosen_done : (f : FrameAt) → Contains (chosen_frames e) f → IsFine f
   chosen_done f c =
@@ -398,8 +402,9 @@ module _ (names : Names) (b : Body) (first : ℕ) (states : List State) (array :
 
   code_count : length e.code ≡ last
   code_count =
-      ap (λ (c : List Insn). length c) (emission_code b first states array)
-      ∙ length-map (twin_items b first (narrow fetches.Member)) (insn_of (unplaced (integer_in [])) b.arg_slots) ∙ length_twin b first (narrow fetches.Member)
+      ap (λ (c : List Insn). length c) (emission_code constants b first states array)
+      ∙ ready_length constants.fetch constants.giver (emitted_code b first constants.fetch (integer_in constants.integers))
+      ∙ length-map (twin_items b first (narrow constants.fetch)) (insn_of (unplaced (integer_in constants.integers)) b.arg_slots) ∙ length_twin b first (narrow constants.fetch)
 
   all_done : AllByRecursion IsFine (chosen_frames e)
   all_done = all_listed IsFine (chosen_frames e) chosen_done
@@ -408,7 +413,7 @@ module _ (names : Names) (b : Body) (first : ℕ) (states : List State) (array :
   has_frames = record {
     are = refl;
     few =
-        let most = few_frames last (length names) (chosen_frames e) chosen_rise all_done (omega arith) in
+        let most = few_frames last (length names) (chosen_frames e) chosen_rise all_done (omega (arith, some_prelude constants.fetch)) in
         let insns = few_insns e l laid in
         let count = code_count in
         omega (arith, most, insns, count);
@@ -419,19 +424,19 @@ module _ (names : Names) (b : Body) (first : ℕ) (states : List State) (array :
 
 -- ---- the frames that are made for a layout
 
-module _ (names : Names) (b : Body) (first : ℕ) (states : List State) (l : Laid) (frames : List FrameAt) (well : IsWellMadeOfAnySize b)
-    (framed : AreLayoutFrames names b first states fetches.Member (listed l.wide) frames)
-    (laid : IsLaid (emission b first states (by_method framed.given.array)) l) where
+module _ (constants : ProbeConstants) (names : Names) (b : Body) (first : ℕ) (states : List State) (l : Laid) (frames : List FrameAt) (well : IsWellMadeOfAnySize b)
+    (framed : AreLayoutFrames names b first states constants.fetch (listed l.wide) frames)
+    (laid : IsLaid (ready_emission b first states (given_with constants framed.given.array) constants.giver) l) where
   abbrev array_of : ℕ
   array_of = framed.given.array
 
   abbrev of : Emitted
-  of = emission b first states (by_method array_of)
+  of = ready_emission b first states (given_with constants array_of) constants.giver
 
   pub frames_chosen : frames ≡ chosen_frames of
   frames_chosen =
-      framed.are ∙ layout_same b first states framed.given (by_method array_of) framed.fetch_is refl (listed l.wide)
-      ∙ frames_laid b first states (by_method array_of) names well framed.fit framed.array_is (listed l.wide)
+      framed.are ∙ layout_same b first states framed.given (given_with constants array_of) framed.fetch_is refl (listed l.wide)
+      ∙ frames_laid b first states (given_with constants array_of) names well framed.fit framed.array_is (listed l.wide)
       ∙ ap (λ (wide : List Bool). merged of.frames (used_frames (listed wide) of.wide_frames)) laid.wide
 
   pub frames_written : AreStates names b states → HasRoom b → CanBeWritten l.starts (length names) frames
@@ -439,5 +444,5 @@ module _ (names : Names) (b : Body) (first : ℕ) (states : List State) (l : Lai
   frames_written are room =
       subst (CanBeWritten l.starts (length names)) (sym frames_chosen)
       (can_be_written of l laid (length names) (chosen_frames of)
-      (has_frames names b first states array_of l are framed.array_is laid (emitted b first states (by_method array_of) names well framed.fit framed.array_is)
+      (has_frames constants names b first states array_of l are framed.array_is laid (emitted b first states (given_with constants array_of) names well framed.fit framed.array_is)
       (let few = room.locals in omega (arith, few)) (let few = room.stack in omega (arith, few))))

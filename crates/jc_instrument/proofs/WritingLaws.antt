@@ -12,18 +12,17 @@ use Rattle.jc_methods.proofs.NumberedLaws.{frames_numbered, grown_count}
 use Rattle.jc_bytes.specs.declared.fail.Fail.{Fail}
 use Rattle.jc_pool.specs.Pool.{PoolValue}
 use Rattle.jc_pool.specs.declared.add.PoolFull.{PoolFull}
-use Rattle.jc_frames.specs.FullTable.{CanBeWritten, FitsFull, RefusesClasses, TakesClasses, named_by_all}
+use Rattle.jc_frames.specs.FullTable.{CanBeWritten, FitsFull, TakesClasses, named_by_all}
 use Rattle.jc_frames.proofs.TakenLaws.{all_stand}
 use Rattle.jc_plan.specs.Plan.{plan_of}
 use Rattle.jc_emit.specs.Sizes.{narrow}
-use Rattle.jc_emit.specs.Emission.{emission}
 use Rattle.jc_emit.specs.Items.{land_of, lead_of}
 use Rattle.jc_emit.specs.TwinTables.{moved_row}
 use Rattle.jc_emit.specs.Stages.{AreLayoutFrames, moved_tables}
 use Rattle.jc_kinds.specs.Answers.{AreStates}
 use Rattle.jc_methods.specs.declared.kind.State.{State}
 use Rattle.jc_methods.specs.Widened.{WideSet, listed}
-use Rattle.jc_methods.specs.declared.probe_members.Fetch.TheVariants as fetches
+use Rattle.jc_methods.specs.declared.probe_members.Fetch.{Fetch}
 use Rattle.jc_emit.specs.declared.tables.MovedTables.{MovedTables}
 use Rattle.jc_instrument_code.specs.Given.{AreNamed, IsLaid, IsNamedAt}
 use Rattle.jc_instrument_code.specs.LaidText.{laid_text}
@@ -31,10 +30,13 @@ use Rattle.jc_instrument_code.specs.TwinCode.{chosen_frames, kind_vars_name, lin
 use Rattle.jc_instrument_code.specs.declared.code.CodePlaces.{CodePlaces}
 use Rattle.jc_instrument_code.proofs.TwinCodeLaws.{laid_text_is}
 use Rattle.jc_instrument_reread.proofs.SameBodyLaws.{AreSame, grown_same}
-use Rattle.jc_instrument_reread.specs.WrittenCode.{by_method}
+use Rattle.jc_instrument_reread.specs.WrittenCode.{ready_emission}
+use Rattle.jc_instrument.specs.Constants.{given_with}
+use Rattle.jc_instrument.specs.Taking.{RefusesEach}
+use Rattle.jc_instrument.specs.declared.constants.ProbeConstants.{ProbeConstants}
 use Rattle.jc_instrument.specs.BodiesWithStates.{BodyWithStates, emitted_of}
 use Rattle.jc_instrument.specs.Ready.{IsReady}
-use Rattle.jc_instrument.specs.Writing.{AreFramesOf, IsWorkOf, IsWrittenBody}
+use Rattle.jc_instrument.specs.Writing.{AreFramesOf, HasFramesName, IsWorkOf, IsWrittenBody, TakesFrames, frames_asked}
 use Rattle.jc_instrument.specs.declared.ready.ReadyBody.{ReadyBody}
 use Rattle.jc_instrument.proofs.KeptPoolLaws.{same_places}
 use Rattle.jc_instrument.proofs.KeptStatesLaws.{states_grown}
@@ -45,11 +47,11 @@ use Rattle.jc_instrument.proofs.WritableLaws.{frames_chosen, frames_written}
 
 -- ---- more names
 
-seen_on : (old new : Names) (r : ReadyBody) → Grows old new → IsReady old r
+seen_on : {constants : ProbeConstants} (old new : Names) (r : ReadyBody) → Grows old new → IsReady old constants r
     → map (type_state_at new) r.body.frames ≡ map (type_state_at old) r.body.frames
 seen_on old new r grows ready = sym (grown_same old new r.body grows ready.numbered).seen
 
-pub ready_grown : (old new : Names) (r : ReadyBody) → Grows old new → IsReady old r → IsReady new r
+pub ready_grown : {constants : ProbeConstants} (old new : Names) (r : ReadyBody) → Grows old new → IsReady old constants r → IsReady new constants r
 ready_grown old new r grows ready = record {
   made = ready.made;
   numbered = frames_numbered _ _ r.body.frames (grown_count old new grows) ready.numbered;
@@ -68,29 +70,30 @@ ready_grown old new r grows ready = record {
 abbrev pub wide_of : ReadyBody → WideSet
 wide_of r = listed r.laid.wide
 
-pub frames_of : (old now : Names) (r : ReadyBody) (first : ℕ) (frames : List FrameAt) (states : List State) (jumps : List Bool) → Grows old now → IsReady old r
-    → states ≡ r.states → jumps ≡ r.laid.wide
-    → AreLayoutFrames now r.body first states fetches.Member (listed jumps) frames → AreFramesOf now r.body first (wide_of r) frames
-frames_of old now r first frames states jumps grows ready same jumps_are framed = record {
+pub frames_of : (constants : ProbeConstants) (old now : Names) (r : ReadyBody) (first : ℕ) (frames : List FrameAt) (states : List State) (jumps : List Bool)
+    → Grows old now → IsReady old constants r → states ≡ r.states → jumps ≡ r.laid.wide
+    → AreLayoutFrames now r.body first states constants.fetch (listed jumps) frames → AreFramesOf now r.body first constants.fetch (wide_of r) frames
+frames_of constants old now r first frames states jumps grows ready same jumps_are framed = record {
   states = states;
   are = subst (AreStates now r.body) (sym same) (states_grown old now r.body r.states grows ready.numbered ready.states);
-  framed = subst (λ (wide : List Bool). AreLayoutFrames now r.body first states fetches.Member (listed wide) frames) jumps_are framed;
+  framed = subst (λ (wide : List Bool). AreLayoutFrames now r.body first states constants.fetch (listed wide) frames) jumps_are framed;
 }
 
-pub few_bytes : (names : Names) (r : ReadyBody) → IsReady names r → length r.laid.code ≤ 65535
-few_bytes names r ready = (ready.laid ready.plan.0 [] 0 ready.plan.1).few
+pub few_bytes : (constants : ProbeConstants) (names : Names) (r : ReadyBody) → IsReady names constants r → length r.laid.code ≤ 65535
+few_bytes constants names r ready = (ready.laid ready.plan.0 [] 0 ready.plan.1).few
 
-pub few_rows : (r : ReadyBody) (first : ℕ) (tables : MovedTables) → length r.body.handlers ≤ 65535 → tables ≡ moved_tables r.body first fetches.Member
+pub few_rows : (fetch : Fetch) (r : ReadyBody) (first : ℕ) (tables : MovedTables) → length r.body.handlers ≤ 65535 → tables ≡ moved_tables r.body first fetch
     → length tables.handlers ≤ 65535
-few_rows r first tables few is =
-    let same = ap (λ (t : MovedTables). length t.handlers) is ∙ length-map r.body.handlers (moved_row (lead_of r.body first (narrow fetches.Member)) (land_of r.body first (narrow fetches.Member))) in
+few_rows fetch r first tables few is =
+    let same = ap (λ (t : MovedTables). length t.handlers) is
+    ∙ length-map r.body.handlers (moved_row (lead_of r.body first (narrow fetch)) (land_of r.body first (narrow fetch))) in
     omega (arith, same, few)
 
-pub can_be_written : (now : Names) (r : ReadyBody) → IsReady now r → (frames : List FrameAt) (first : ℕ) → r.plan ≡ plan_of r.body first
-    → AreFramesOf now r.body first (wide_of r) frames → CanBeWritten r.laid.starts (length now) frames
-can_be_written now r ready frames first is are =
-    frames_written now r.body first are.states r.laid frames ready.made.of_any_size are.framed (ready.laid first are.states are.framed.given.array is) are.are
-    ready.room
+pub can_be_written : (constants : ProbeConstants) (now : Names) (r : ReadyBody) → IsReady now constants r → (frames : List FrameAt) (first : ℕ)
+    → r.plan ≡ plan_of r.body first → AreFramesOf now r.body first constants.fetch (wide_of r) frames → CanBeWritten r.laid.starts (length now) frames
+can_be_written constants now r ready frames first is are =
+    frames_written constants now r.body first are.states r.laid frames ready.made.of_any_size are.framed
+    (ready.laid first are.states are.framed.given.array is) are.are ready.room
 
 -- so the classes that they name have numbers
 pub numbered_of : (starts : List ℕ) (names : ℕ) (frames : List FrameAt) → CanBeWritten starts names frames → AreNumberedFrames names frames
@@ -102,19 +105,20 @@ numbered_of starts names frames can = all_numbered frames can.each
 
 -- ---- what is written
 
-module _ (old now others : Names) (array : ℕ) (r : ReadyBody) (w : BodyWithStates) (grows : Grows old now) (ready : IsReady old r)
-    (of : IsWorkOf old others array r w) (frames : List FrameAt) (are : AreFramesOf now r.body w.first (wide_of r) frames) where
+module _ (constants : ProbeConstants) (old now others : Names) (array : ℕ) (r : ReadyBody) (w : BodyWithStates) (grows : Grows old now)
+    (ready : IsReady old constants r) (of : IsWorkOf old others array r w) (frames : List FrameAt)
+    (are : AreFramesOf now r.body w.first constants.fetch (wide_of r) frames) where
   abbrev own : Emitted
-  own = emission r.body w.first are.states (by_method are.framed.given.array)
+  own = ready_emission r.body w.first are.states (given_with constants are.framed.given.array) constants.giver
 
   abbrev meant : Emitted
-  meant = emitted_of array w
+  meant = emitted_of constants array w
 
   laid_so : IsLaid own r.laid
   laid_so = ready.laid w.first are.states are.framed.given.array of.plan
 
   chosen : frames ≡ chosen_frames own
-  chosen = frames_chosen now r.body w.first are.states r.laid frames ready.made.of_any_size are.framed laid_so
+  chosen = frames_chosen constants now r.body w.first are.states r.laid frames ready.made.of_any_size are.framed laid_so
 
   body_same : AreSame now others r.body w.body
   body_same = record {
@@ -124,19 +128,18 @@ module _ (old now others : Names) (array : ℕ) (r : ReadyBody) (w : BodyWithSta
 
   emission_same : IsSameEmission now others own meant
   emission_same =
-      same_emission now others r.body w.body body_same w.first are.states w.states are.framed.given.array array are.framed.array_is of.array_is are.are
-      of.states
+      same_emission constants now others r.body w.body body_same w.first are.states w.states are.framed.given.array array are.framed.array_is of.array_is
+      are.are of.states
 
   seen_frames : map (type_state_at now) frames ≡ written_frames others meant
   seen_frames = ap (map (type_state_at now)) chosen ∙ same_written now others own meant emission_same
 
-  pub meant_refused : (pool new : PoolValue) (fail : Fail PoolFull) → RefusesClasses pool (named_by_all (map (type_state_at now) frames)) new fail
-      → RefusesClasses pool (named_by_all (written_frames others meant)) new fail
-  meant_refused pool new fail refused =
-      subst (λ (fs : List TypeStateAt). RefusesClasses pool (named_by_all fs) new fail) seen_frames refused
+  pub meant_refused : (pool : PoolValue) (fail : Fail PoolFull) → RefusesEach pool (frames_asked constants.fetch (map (type_state_at now) frames)) fail
+      → RefusesEach pool (frames_asked constants.fetch (written_frames others meant)) fail
+  meant_refused pool fail refused = subst (λ (fs : List TypeStateAt). RefusesEach pool (frames_asked constants.fetch fs) fail) seen_frames refused
 
-  own_named : (grown : PoolValue) (places : CodePlaces) → AreNamed grown meant places → AreNamed grown own places
-  own_named grown places named =
+  own_named : (grown : PoolValue) (places : CodePlaces) (place : ℕ) → AreNamed grown meant places → AreNamed grown own (record places { frames = place })
+  own_named grown places place named =
       let back = sym emission_same.rest in
       record {
         lines = subst (λ (ls : List LineAt). IsNamedAt grown lines_name ls places.lines) (ap (λ (x : Emitted). x.lines) back) named.lines;
@@ -144,16 +147,20 @@ module _ (old now others : Names) (array : ℕ) (r : ReadyBody) (w : BodyWithSta
         kind_vars = subst (λ (vs : List VarAt). IsNamedAt grown kind_vars_name vs places.kind_vars) (ap (λ (x : Emitted). x.kind_vars) back) named.kind_vars;
       }
 
-  pub body_written : (pool new : PoolValue) (places : CodePlaces) (tables : MovedTables) (text : List ℕ)
-      → TakesClasses pool (named_by_all (map (type_state_at now) frames)) new → tables ≡ moved_tables r.body w.first fetches.Member
-      → text ≡ laid_text new places now tables r.laid frames → IsWrittenBody pool places others meant new text
-  body_written pool new places tables text takes tables_are is = record {
-    takes = subst (λ (fs : List TypeStateAt). TakesClasses pool (named_by_all fs) new) seen_frames takes;
-    text_is = λ grown keeps named.
-        is
-        ∙ same_laid_text new grown places now tables r.laid frames
-        (same_places new grown keeps (named_by_all (map (type_state_at now) frames)) (all_stand pool new _ takes))
-        ∙ laid_text_is grown now places own tables r.laid frames (tables_are ∙ emission_tables r.body w.first are.states are.framed.given.array) laid_so chosen
-        (own_named grown places named)
-        ∙ same_twin_code now others own meant emission_same grown places.method places.frames;
-  }
+  module _ (pool named new : PoolValue) (places : CodePlaces) (place : ℕ)
+      (has : HasFramesName constants.fetch pool (map (type_state_at now) frames) places.frames named place)
+      (takes : TakesClasses named (named_by_all (map (type_state_at now) frames)) new) where
+    pub body_written : (tables : MovedTables) (text : List ℕ) → tables ≡ moved_tables r.body w.first constants.fetch
+        → text ≡ laid_text new constants.fetch (record places { frames = place }) now tables r.laid frames
+        → IsWrittenBody pool constants.fetch places others meant new text
+    body_written tables text tables_are is = record {
+      frames = place;
+      takes = subst (λ (fs : List TypeStateAt). TakesFrames constants.fetch pool fs places.frames new place) seen_frames (named, has, takes);
+      text_is = λ grown keeps are_named.
+          is
+          ∙ same_laid_text new grown constants.fetch (record places { frames = place }) now tables r.laid frames
+          (same_places new grown keeps (named_by_all (map (type_state_at now) frames)) (all_stand named new _ takes))
+          ∙ laid_text_is grown constants.fetch now (record places { frames = place }) own tables r.laid frames
+          (tables_are ∙ emission_tables constants r.body w.first are.states are.framed.given.array) laid_so chosen (own_named grown places place are_named)
+          ∙ same_twin_code now others own meant emission_same grown constants.fetch places.giver places.array place;
+    }

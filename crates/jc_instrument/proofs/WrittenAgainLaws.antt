@@ -1,12 +1,17 @@
 -- Each method of the twin class that is written has no code, or its instrumented code, or is the added one.
-use Rattle.std.proofs.Common.{◌≡◌, ◌⊎◌, inl, inr, ℕ, ℤ, zero, suc, ◌+◌, ◌<◌, ◌≤◌, Bool, true, false, List, [], ◌∷◌, ◌++◌, length, map, Option, Some, None, nat_eq, refl, sym, ◌∙◌, ap, subst, arith, if◌then◌else◌}
+use Rattle.std.proofs.Common.{◌≡◌, ◌⊎◌, inl, inr, ℕ, ℤ, pos, zero, suc, ◌+◌, ◌<◌, ◌≤◌, Bool, true, false, List, [], ◌∷◌, ◌++◌, length, map, Option, Some, None, nat_eq, nat_le, refl, sym, ◌∙◌, ap, subst, arith, if◌then◌else◌}
 use Rattle.std.specs.Prelude.{codes, filter, slice_get, unwrap_or}
 use Rattle.std.specs.List.{AllByRecursion}
 use Rattle.std.proofs.lemmas.Bool.{cases_lt, eq-eqb, eqb-true}
 use Rattle.std.proofs.lemmas.Grind.{flat_map-append}
 use Rattle.std.proofs.lemmas.List.Concat.{flat_map-cons}
 use Rattle.std.proofs.lemmas.Option.{none-some, same_Some, slice_get_within}
+use Rattle.jc_methods.specs.Opcode as opcode
+use Rattle.jc_methods.specs.declared.emitted.Emitted.{Emitted}
+use Rattle.jc_methods.specs.declared.probe_members.Fetch.{Fetch}
+use Rattle.jc_methods.specs.declared.probe_members.Fetch.TheVariants as fetches
 use Rattle.jc_methods.specs.VerificationTypes.{Names}
+use Rattle.jc_bytes.specs.BigNumbers.{short}
 use Rattle.jc_bytes.specs.PlainLists.{map_from}
 use Rattle.jc_methods.specs.WellMade.{IsWellMadeOfAnySize}
 use Rattle.jc_methods.specs.declared.body.Body.{Body}
@@ -31,38 +36,41 @@ use Rattle.jc_frames.specs.FullTable.{HasPlace, named_by, named_by_all}
 use Rattle.jc_frames.proofs.FullTextLaws.{both_parts}
 use Rattle.jc_kinds.specs.Answers.{AreStates}
 use Rattle.jc_kinds.specs.Checked.{Checked}
+use Rattle.jc_plan.specs.Probed.{probe_count}
 use Rattle.jc_plan.proofs.PlanLaws.{mapped_at}
-use Rattle.jc_methods.specs.ProbeMembers.{data_type, init_name, init_type, most_probes}
+use Rattle.jc_emit.specs.Added.{init_stack}
+use Rattle.jc_methods.specs.ProbeMembers.{data_type, most_probes}
 use Rattle.jc_emit.specs.Emission.{HasFrameStates, IsArrayNumber}
 use Rattle.jc_emit.specs.Straddling.{NoneStraddles}
 use Rattle.jc_emit.proofs.WideFrameLaws.{emitted}
 use Rattle.jc_layout.specs.Layout.{chosen_length, chosen_list, chosen_starts, chosen_text}
 use Rattle.jc_layout.specs.declared.layouts.Laid.{Laid}
 use Rattle.jc_layout.proofs.ChoiceLaws.{text_length}
-use Rattle.jc_instrument_code.specs.CodeText.{attribute}
+use Rattle.jc_instrument_code.specs.CodeText.{attribute, code_text}
 use Rattle.jc_instrument_code.specs.Given.{AreFrames, HaveClasses}
-use Rattle.jc_instrument_code.specs.InitText.{init_text}
+use Rattle.jc_instrument_code.specs.InitText.{added_text, bootstrap_bytes, count_text, init_bytes, init_frames, named_places, push_count}
 use Rattle.jc_instrument_code.specs.TwinCode.{chosen_frames, twin_code, written_frames}
 use Rattle.jc_instrument_code.specs.declared.init.AddedPlaces.{AddedPlaces}
 use Rattle.jc_instrument_reread.specs.Again.{IsAddedAt, IsWrittenAt, AreWrittenMethods}
-use Rattle.jc_instrument_reread.specs.Written.{IsAddedMethod, IsWrittenMethod, data_field, fetch_method, init_method}
-use Rattle.jc_instrument_reread.specs.WrittenCode.{by_method, IsWrittenCode}
+use Rattle.jc_instrument_reread.specs.Written.{HasCountEntry, HasFieldEntries, HasGiver, IsAddedMethod, IsFitting, IsGrownPool, IsWrittenMethod, data_field, fetch_method}
+use Rattle.jc_instrument_reread.specs.InitRead.{HasFieldPlaces}
+use Rattle.jc_instrument_reread.specs.WrittenCode.{IsWrittenCode}
+use Rattle.jc_instrument.specs.Constants.{given_with}
+use Rattle.jc_instrument.specs.declared.constants.ProbeConstants.{ProbeConstants}
 use Rattle.jc_plan.specs.Analysed.{all_probes}
 use Rattle.jc_instrument.specs.Bodies.{IsListed}
-use Rattle.jc_instrument.specs.Contents.{text_entry, class_entry, string_entry, long_entry, member_entry}
-use Rattle.jc_instrument.specs.Needed.{name_of, needs_of, place_list, signed_id, TakesNeeds}
-use Rattle.jc_instrument.specs.TwinText.{init_member, init_places, twin_class, twin_method, twin_methods, with_code, work_of, IsWritten}
+use Rattle.jc_instrument.specs.Needed.{early_list, name_of, place_list, signed_id}
+use Rattle.jc_instrument.specs.TwinText.{IsReadyFor, Writing, code_with, constants_of, init_member, init_places, needs_of, twin_class, twin_method, twin_methods, with_code, work_of}
 use Rattle.jc_instrument.specs.BodiesWithStates.{BodyWithStates, all_frames, bodies_of, emitted_of, AreBodiesWithStates}
 use Rattle.jc_instrument.specs.declared.needs.MemberPlaces.{MemberPlaces}
-use Rattle.jc_instrument.proofs.ContentLaws.{of_content}
-use Rattle.jc_instrument.proofs.GrownPoolLaws.{StandAt, stand_at}
 use Rattle.jc_instrument.proofs.NamedWorksLaws.{all_placed}
 use Rattle.jc_instrument.proofs.TakingLaws.{each_extends}
-use Rattle.jc_instrument.proofs.TwinLaws.{each_listed}
+use Rattle.jc_instrument.proofs.StandingLaws.{NeedsStand, OwnStand, giver_has, integer_inside, integers_have, needs_stand}
 use Rattle.jc_instrument.proofs.TwinMethodLaws.{same_code}
 use Rattle.jc_instrument.proofs.WritableLaws.{has_frames}
 use Rattle.jc_instrument.proofs.ListedLaws.{body_at}
-use Rattle.jc_instrument.proofs.WrittenCodeLaws.{code_places, ids_among}
+use Rattle.jc_instrument.proofs.WrittenCodeLaws.{code_places, ids_among, ready_same}
+use Rattle.jc_methods.specs.ProbeMembers.{most_short}
 
 -- ---- lists
 
@@ -140,43 +148,105 @@ module _ (old new : PoolValue) (extends : Extends old new) (code : List ℕ) whe
 
 -- ---- the classes of one body's frames
 
-classes_of : (pool : PoolValue) (names : Names) (array : ℕ) (works : List BodyWithStates) → AllByRecursion (HasPlace pool) (named_by_all (all_frames names array works))
-    → (i : ℕ) (x : BodyWithStates) → slice_get works i ≡ Some x → HaveClasses pool names (emitted_of array x)
-classes_of pool names array [] all i x at = absurd (none-some x at)
-classes_of pool names array (w ∷ works) all i x at = by i at (λ j there. classes_of pool names array works both.1 j x there)
+classes_of : (pool : PoolValue) (names : Names) (constants : ProbeConstants) (array : ℕ) (works : List BodyWithStates)
+    → AllByRecursion (HasPlace pool) (named_by_all (all_frames names constants array works))
+    → (i : ℕ) (x : BodyWithStates) → slice_get works i ≡ Some x → HaveClasses pool names (emitted_of constants array x)
+classes_of pool names constants array [] all i x at = absurd (none-some x at)
+classes_of pool names constants array (w ∷ works) all i x at = by i at (λ j there. classes_of pool names constants array works both.1 j x there)
   where
-    split : named_by_all (all_frames names array (w ∷ works)) ≡ named_by_all (written_frames names (emitted_of array w)) ++ named_by_all (all_frames names array works)
+    split : named_by_all (all_frames names constants array (w ∷ works)) ≡ named_by_all (written_frames names (emitted_of constants array w)) ++ named_by_all (all_frames names constants array works)
     split =
-        ap named_by_all (flat_map-cons (λ (y : BodyWithStates). written_frames names (emitted_of array y)) w works)
-        ∙ flat_map-append named_by (written_frames names (emitted_of array w)) (all_frames names array works)
+        ap named_by_all (flat_map-cons (λ (y : BodyWithStates). written_frames names (emitted_of constants array y)) w works)
+        ∙ flat_map-append named_by (written_frames names (emitted_of constants array w)) (all_frames names constants array works)
 
-    both : AllByRecursion (HasPlace pool) (named_by_all (written_frames names (emitted_of array w))) × AllByRecursion (HasPlace pool) (named_by_all (all_frames names array works))
+    both : AllByRecursion (HasPlace pool) (named_by_all (written_frames names (emitted_of constants array w))) × AllByRecursion (HasPlace pool) (named_by_all (all_frames names constants array works))
     both =
-        both_parts (HasPlace pool) (named_by_all (written_frames names (emitted_of array w))) (named_by_all (all_frames names array works))
+        both_parts (HasPlace pool) (named_by_all (written_frames names (emitted_of constants array w))) (named_by_all (all_frames names constants array works))
         (subst (AllByRecursion (HasPlace pool)) split all)
 
-    by : (i : ℕ) → slice_get (w ∷ works) i ≡ Some x → ((j : ℕ) → slice_get works j ≡ Some x → HaveClasses pool names (emitted_of array x))
-        → HaveClasses pool names (emitted_of array x)
-    by zero there more = subst (λ (y : BodyWithStates). HaveClasses pool names (emitted_of array y)) (same_Some w x there) both.0
+    by : (i : ℕ) → slice_get (w ∷ works) i ≡ Some x → ((j : ℕ) → slice_get works j ≡ Some x → HaveClasses pool names (emitted_of constants array x))
+        → HaveClasses pool names (emitted_of constants array x)
+    by zero there more = subst (λ (y : BodyWithStates). HaveClasses pool names (emitted_of constants array y)) (same_Some w x there) both.0
     by (suc j) there more = more j there
 
 -- ---- the frames of one body
 
 -- the layout of a work, whether or not it fits
-abbrev laid_of : (array : ℕ) → BodyWithStates → Laid
-laid_of array x = record {
-  wide = chosen_list (emitted_of array x).code;
-  starts = chosen_starts (emitted_of array x).code;
-  code = chosen_text (emitted_of array x).code;
+abbrev laid_of : ProbeConstants → (array : ℕ) → BodyWithStates → Laid
+laid_of constants array x = record {
+  wide = chosen_list (emitted_of constants array x).code;
+  starts = chosen_starts (emitted_of constants array x).code;
+  code = chosen_text (emitted_of constants array x).code;
 }
 
-frames_are : (names : Names) (array : ℕ) (x : BodyWithStates) → AreStates names x.body x.states → IsArrayNumber names array → IsWellMadeOfAnySize x.body
-    → HasFrameStates x.body x.states → chosen_length (emitted_of array x).code ≤ 65535 → (emitted_of array x).max_locals ≤ 65535
-    → (emitted_of array x).max_stack ≤ 65535 → AreFrames (emitted_of array x) (length names) (chosen_frames (emitted_of array x))
-frames_are names array x are array_is well fit short locals stack =
-    has_frames names x.body x.first x.states array (laid_of array x) are array_is
-    (record { wide = refl; starts = refl; text = refl; few = let size = text_length (emitted_of array x).code in omega (arith, size, short) })
-    (emitted x.body x.first x.states (by_method array) names well fit array_is) locals stack
+frames_are : (constants : ProbeConstants) (names : Names) (array : ℕ) (x : BodyWithStates) → AreStates names x.body x.states → IsArrayNumber names array → IsWellMadeOfAnySize x.body
+    → HasFrameStates x.body x.states → chosen_length (emitted_of constants array x).code ≤ 65535 → (emitted_of constants array x).max_locals ≤ 65535
+    → (emitted_of constants array x).max_stack ≤ 65535 → AreFrames (emitted_of constants array x) (length names) (chosen_frames (emitted_of constants array x))
+frames_are constants names array x are array_is well fit short locals stack =
+    has_frames constants names x.body x.first x.states array (laid_of constants array x) are array_is
+    (record { wide = refl; starts = refl; text = refl; few = let size = text_length (emitted_of constants array x).code in omega (arith, size, short) })
+    (emitted x.body x.first x.states (given_with constants array) names well fit array_is) locals stack
+
+-- ---- what the added method names
+
+pub member_below : (pool : PoolValue) → length pool ≤ 65535 → (place : ℕ) (m : MemberText) → member_of pool place ≡ Some m → place < 65536
+member_below pool few place m there = by (cases_lt place (length pool))
+  where
+    by : (place < length pool) ⊎ (length pool ≤ place) → place < 65536
+    by (inl less) = omega (arith, less, few)
+    by (inr behind) = absurd (none-some m (sym (member_past pool place behind) ∙ there))
+
+pub long_below : (pool : PoolValue) → length pool ≤ 65535 → (place : ℕ) (value : ℤ) → long_of pool place ≡ Some value → place < 65536
+unfolding long_of
+long_below pool few place value there = by (cases_lt place (length pool))
+  where
+    by : (place < length pool) ⊎ (length pool ≤ place) → place < 65536
+    by (inl less) = omega (arith, less, few)
+    by (inr behind) = absurd (none-some value (sym (past long_in pool place behind) ∙ there))
+
+pub string_below : (pool : PoolValue) → length pool ≤ 65535 → (place : ℕ) (text : List ℕ) → string_of pool place ≡ Some text → place < 65536
+string_below pool few place text there = by (cases_lt place (length pool))
+  where
+    by : (place < length pool) ⊎ (length pool ≤ place) → place < 65536
+    by (inl less) = omega (arith, less, few)
+    by (inr behind) = absurd (none-some text (sym (naming_past naming.String pool place behind) ∙ there))
+
+pub count_below : (pool : PoolValue) → length pool ≤ 65535 → (count place : ℕ) (t : Bool) → HasCountEntry t pool count place → (if t then 0 else place) < 65536
+count_below pool few count place true entry = omega arith
+count_below pool few count place false entry = let there = integer_inside pool place (pos count) entry in omega (arith, there, few)
+
+pub count_entry : (pool : PoolValue) (count place : ℕ) (t : Bool) → HasCountEntry t pool count place → HasCountEntry t pool count (if t then 0 else place)
+count_entry pool count place true entry = tt
+count_entry pool count place false entry = entry
+
+field_placed : (fetch : Fetch) (pool : PoolValue) → length pool ≤ 65535 → (owner : List ℕ) (p : MemberPlaces) (a : AddedPlaces) → a.field ≡ p.field → a.frames ≡ p.frames
+    → OwnStand fetch pool owner p → HasFieldPlaces fetch pool a
+field_placed fetches.Member pool few owner p a field frames own = (
+  member_below pool few a.field (data_field owner) (ap (member_of pool) field ∙ own.2),
+  ap (utf8_of pool) frames ∙ own.4,
+)
+field_placed fetches.Constant pool few owner p a field frames own = tt
+
+field_found : (fetch : Fetch) (pool : PoolValue) (owner : List ℕ) (p : MemberPlaces) (a : AddedPlaces) → a.field ≡ p.field → a.array ≡ p.array → OwnStand fetch pool owner p
+    → class_name_of pool p.array ≡ Some data_type → HasFieldEntries fetch pool owner a
+field_found fetches.Member pool owner p a field array own is = (ap (member_of pool) field ∙ own.2, ap (class_name_of pool) array ∙ is)
+field_found fetches.Constant pool owner p a field array own is = tt
+
+-- where no Integer is pushed its place is of no matter
+pub pushed_same : (count place : ℕ) → count_text place count ≡ count_text (if nat_le count most_short then 0 else place) count
+pushed_same count place = by (nat_le count most_short)
+  where
+    by : (t : Bool) → (if t then push_count count else opcode.ldc_w ∷ short place) ≡ (if t then push_count count else opcode.ldc_w ∷ short (if t then 0 else place))
+    by true = refl
+    by false = refl
+
+placed_so : (fetch : Fetch) (p : MemberPlaces) (count frames array : ℕ)
+    → added_text fetch (init_places p) frames array count
+    ≡ added_text fetch (record { field = p.field; id = p.id; name = p.name; count = if nat_le count most_short then 0 else p.count; fetch = p.fetch }) frames array count
+unfolding init_bytes bootstrap_bytes
+placed_so fetches.Member p count frames array = λ k.
+    code_text init_stack 0 (init_bytes (init_places p) (pushed_same count p.count k)) (short 0) (init_frames frames array (pushed_same count p.count k) ∷ [])
+placed_so fetches.Constant p count frames array = λ k. code_text init_stack 3 (bootstrap_bytes (init_places p) (pushed_same count p.count k)) (short 0) []
 
 -- ---- the class
 
@@ -188,213 +258,196 @@ pub record AreSoundBodies (names : Names) (bodies : List Body) : Type 0 where
 
 -- The works of a class, whose pool takes what the class needs: each body is sound and has the states of its frames, there are few
 -- probes, and the code of each can be written.
-pub record AreWrittenWorks (id : ℕ) (names : Names) (array : ℕ) (works : List BodyWithStates) (c : ClassFile) (pool : PoolValue) (places : MemberPlaces) : Type 0 where
+pub record AreWrittenWorks (id : ℕ) (names : Names) (array : ℕ) (works : List BodyWithStates) (c : ClassFile) (w : Writing) : Type 0 where
   pub is : IsClassFile c
-  pub are : AreBodiesWithStates names array c works
-  pub takes : TakesNeeds id names array c works pool places
-  pub few : length pool ≤ 65535
+  pub ready : IsReadyFor id names array works c w
+  pub few : length w.pool ≤ 65535
   pub fits : (i : ℕ) (x : BodyWithStates) → slice_get works i ≡ Some x → HasFrameStates x.body x.states
   pub sound : AreSoundBodies names (bodies_of works)
   pub probes : all_probes (bodies_of works) ≤ most_probes
-  pub coded : (number : ℕ) (x : BodyWithStates) → work_of number works ≡ Some x → IsWrittenCode pool (code_places pool places) names (emitted_of array x)
+  pub coded : (number : ℕ) (x : BodyWithStates) → work_of number works ≡ Some x
+      → IsWrittenCode w.pool w.fetch (code_places w) names (emitted_of (constants_of w) array x)
 
-module _ (id : ℕ) (names : Names) (array : ℕ) (works : List BodyWithStates) (c : ClassFile) (pool : PoolValue) (places : MemberPlaces)
-    (are : AreBodiesWithStates names array c works) (takes : TakesNeeds id names array c works pool places) (few : length pool ≤ 65535)
-    (is : IsClassFile c) (fits : (i : ℕ) (x : BodyWithStates) → slice_get works i ≡ Some x → HasFrameStates x.body x.states) (sound : AreSoundBodies names (bodies_of works))
-    (probes : all_probes (bodies_of works) ≤ most_probes)
-    (coded : (number : ℕ) (x : BodyWithStates) → work_of number works ≡ Some x → IsWrittenCode pool (code_places pool places) names (emitted_of array x)) where
+module _ (id : ℕ) (names : Names) (array : ℕ) (works : List BodyWithStates) (c : ClassFile) (w : Writing) (so : AreWrittenWorks id names array works c w) where
+  abbrev constants : ProbeConstants
+  constants = constants_of w
+
+  abbrev twin : ClassFile
+  twin = twin_class names array c works w
+
   abbrev pub code : BodyWithStates → List ℕ
-  code w = twin_code pool places.method places.frames names (emitted_of array w)
+  code x = code_with names array w x
 
   abbrev count : ℕ
   count = all_probes (bodies_of works)
 
-  at : StandAt pool (needs_of id names array c works) (place_list places ++ takes.class_places)
-  at = stand_at (needs_of id names array c works) c.pool pool (place_list places ++ takes.class_places) (each_listed id names array c works) takes.takes
+  stands : NeedsStand id c count (all_frames names constants array works) w so.ready.takes.class_places
+  stands = needs_stand id names array c works w so.ready.takes
 
-  extends : Extends c.pool pool
-  extends = each_extends c.pool pool (needs_of id names array c works) (place_list places ++ takes.class_places) takes.takes
+  extends : Extends c.pool w.pool
+  extends =
+      each_extends c.pool w.pool (needs_of id names array c works w)
+      (early_list w.fetch w.early ++ (place_list w.fetch count (all_frames names constants array works) w.places ++ so.ready.takes.class_places))
+      so.ready.takes.takes
 
   owner_is : class_name_of c.pool c.this_class ≡ Some (name_of c)
-  owner_is = is.this_class.1 ∙ ap Some (sym (ap (λ (o : Option (List ℕ)). unwrap_or o []) is.this_class.1))
+  owner_is = so.is.this_class.1 ∙ ap Some (sym (ap (λ (o : Option (List ℕ)). unwrap_or o []) so.is.this_class.1))
 
-  pool_is : (twin_class names array c works pool places).pool ≡ pool
+  pool_is : twin.pool ≡ w.pool
   unfolding twin_class
   pool_is = refl
 
-  major_is : (twin_class names array c works pool places).major ≡ c.major
-  unfolding twin_class
-  major_is = refl
-
-  this_is : (twin_class names array c works pool places).this_class ≡ c.this_class
-  unfolding twin_class
-  this_is = refl
-
-  methods_are : (twin_class names array c works pool places).methods ≡ twin_methods c.pool code works c.methods ++ init_member places (all_probes (bodies_of works)) ∷ []
+  methods_are : twin.methods ≡ twin_methods c.pool code works c.methods ++ init_member w.fetch w.places count ∷ []
   unfolding twin_class
   methods_are = refl
 
   member_named : (number : ℕ) (m : Member) → slice_get c.methods number ≡ Some m → AllByRecursion (IsAttribute (HasText c.pool)) m.attributes
-  member_named number m there = (all_at (IsMember (HasText c.pool) (HasMethodDescriptor c.pool)) c.methods number m is.methods.each there).attributes.each
+  member_named number m there = (all_at (IsMember (HasText c.pool) (HasMethodDescriptor c.pool)) c.methods number m so.is.methods.each there).attributes.each
 
   -- ---- a method with code
 
-  module _ (i : ℕ) (x : BodyWithStates) (stands : slice_get works i ≡ Some x) (own : IsWrittenCode pool (code_places pool places) names (emitted_of array x)) where
+  module _ (i : ℕ) (x : BodyWithStates) (at : slice_get works i ≡ Some x)
+      (own : IsWrittenCode w.pool w.fetch (code_places w) names (emitted_of constants array x)) where
     body : BodyOf names c x.body.method x.body
-    body = are.bodies.each i x.body (body_at works i x stands)
+    body = so.ready.are.bodies.each i x.body (body_at works i x at)
 
     well : IsWellMadeOfAnySize x.body
-    well = sound.well_made i x.body (body_at works i x stands)
+    well = so.sound.well_made i x.body (body_at works i x at)
 
     fit : HasFrameStates x.body x.states
-    fit = fits i x stands
+    fit = so.fits i x at
 
     same_owner : x.body.owner ≡ name_of c
     same_owner = same_Some x.body.owner (name_of c) (sym body.is.parts.owner ∙ owner_is)
 
-    new_code : (m : Member) → slice_get c.methods x.body.method ≡ Some m → code_bodies pool (twin_method c.pool code m (Some x)) ≡ code x ∷ []
+    new_code : (m : Member) → slice_get c.methods x.body.method ≡ Some m → code_bodies w.pool (twin_method c.pool code m (Some x)) ≡ code x ∷ []
     new_code m there =
         let same = same_Some m body.method (sym there ∙ body.at) in
-        coded_texts c.pool pool extends (code x) m.attributes (member_named x.body.method m there)
+        coded_texts c.pool w.pool extends (code x) m.attributes (member_named x.body.method m there)
         ∙ ap (map (λ b. code x)) (ap (code_bodies c.pool) same ∙ body.is.is.items.code.single)
 
+    -- the ids of the body are among those of all bodies
+    ids_few : x.first + probe_count x.body ≤ count
+    ids_few =
+        let first = (so.ready.are.each i x at).first in
+        let ids = ids_among (bodies_of works) i x.body (body_at works i x at) in
+        omega (arith, first, ids)
+
+    grown : IsGrownPool c.pool w.pool x.body.owner w.bootstrap x.first (probe_count x.body) (given_with constants array) (code_places w)
+    grown = record {
+      extends = extends;
+      giver_is = subst (λ (o : List ℕ). HasGiver w.fetch w.pool o w.bootstrap (code_places w)) (sym same_owner)
+          (giver_has w.fetch w.pool (name_of c) (signed_id id) w.bootstrap count (all_frames names constants array works) w.early w.places (code_places w)
+          so.few stands.early stands.members refl refl);
+      integers = integers_have w.pool count x.first (probe_count x.body) w.early.integers so.few stands.early.integers ids_few;
+    }
+
+    fitting : IsFitting names w.pool w.fetch (code_places w) (emitted_of constants array x)
+    fitting = record {
+      code = own;
+      frames = frames_are constants names array x (so.ready.are.each i x at).states so.ready.are.array_is well fit own.few own.locals own.stack;
+      classes = classes_of w.pool names constants array works (all_placed id names array c works w so.ready.takes so.few) i x at;
+    }
+
     pub written_at : (m : Member) → slice_get c.methods x.body.method ≡ Some m
-        → IsWrittenMethod names c (twin_class names array c works pool places) (code_places pool places) array m (twin_method c.pool code m (Some x)) x.body x.states x.first
+        → IsWrittenMethod names c twin w.bootstrap (code_places w) (given_with constants array) m (twin_method c.pool code m (Some x)) x.body x.states x.first
     unfolding twin_class
     written_at m there = record {
       major = refl;
       this_class = refl;
-      ids =
-          let first = (are.each i x stands).first in
-          let ids = ids_among (bodies_of works) i x.body (body_at works i x stands) in
-          let few = probes in
-          omega (arith, first, ids, few);
-      pool = record {
-        extends = extends;
-        call_is = of_content pool places.method (member_entry (init_method (name_of c))) at.1.1.1.1.1.0 ∙ ap (λ (o : List ℕ). Some (init_method o)) (sym same_owner);
-      };
+      pool = grown;
       source = record {
         body = subst (λ (k : Member). IsBody names c x.body.method k x.body) (sym (same_Some m body.method (sym there ∙ body.at))) body.is;
         well_made = well;
-        checked = sound.checked i x.body (body_at works i x stands);
-        none_straddles = sound.none_straddles i x.body (body_at works i x stands);
-        states_are = (are.each i x stands).states;
+        checked = so.sound.checked i x.body (body_at works i x at);
+        none_straddles = so.sound.none_straddles i x.body (body_at works i x at);
+        states_are = (so.ready.are.each i x at).states;
         frame_states = fit;
-        array_is = are.array_is;
+        array_is = so.ready.are.array_is;
       };
-      fits = record {
-        code = own;
-        frames = frames_are names array x (are.each i x stands).states are.array_is well fit own.few own.locals own.stack;
-        classes = classes_of pool names array works (all_placed id names array c works pool places takes few) i x stands;
+      fits = subst (IsFitting names w.pool w.fetch (code_places w)) (sym (ready_same w array x)) fitting;
+      written = record {
+        flags = refl;
+        name = refl;
+        desc = refl;
+        code_is = new_code m there
+            ∙ ap (λ (e : Emitted). twin_code w.pool w.fetch (code_places w).giver w.places.array w.places.frames names e ∷ []) (sym (ready_same w array x));
       };
-      written = record { flags = refl; name = refl; desc = refl; code_is = new_code m there };
     }
 
   -- ---- a method without code
 
-  pub none_at : (number : ℕ) (m : Member) → slice_get c.methods number ≡ Some m → work_of number works ≡ None → HasNoCode pool m
-  none_at number m there none = by (are.bodies.all number (slice_get_within c.methods number m there))
+  pub none_at : (number : ℕ) (m : Member) → slice_get c.methods number ≡ Some m → work_of number works ≡ None → HasNoCode w.pool m
+  none_at number m there none = by (so.ready.are.bodies.all number (slice_get_within c.methods number m there))
     where
-      by : Bodiless c number ⊎ IsListed (bodies_of works) number → HasNoCode pool m
+      by : Bodiless c number ⊎ IsListed (bodies_of works) number → HasNoCode w.pool m
       by (inr listed) = absurd (none_found number works none listed)
       by (inl bodiless) =
           let same = same_Some m bodiless.method (sym there ∙ bodiless.at) in
           let old = subst (HasNoCode c.pool) (sym same) bodiless.none in
-          record { bodiless = old.bodiless; none = same_code c.pool pool extends m (member_named number m there) ∙ old.none }
+          record { bodiless = old.bodiless; none = same_code c.pool w.pool extends m (member_named number m there) ∙ old.none }
 
   -- ---- the added method
 
+  -- the place of the number of probes, where it is pushed from there
+  abbrev count_place : ℕ
+  count_place = if nat_le count most_short then 0 else w.places.count
+
   abbrev pub added_places : AddedPlaces
   added_places = record {
-    field = places.field;
-    id = places.id;
-    name = places.name;
-    fetch = places.fetch;
-    array = places.array;
-    frames = places.frames;
+    field = w.places.field;
+    id = w.places.id;
+    name = w.places.name;
+    count = count_place;
+    fetch = w.places.fetch;
+    array = w.places.array;
+    frames = w.places.frames;
   }
 
-  member_below : (place : ℕ) (m : MemberText) → member_of pool place ≡ Some m → place < 65536
-  member_below place m there = by (cases_lt place (length pool))
-    where
-      by : (place < length pool) ⊎ (length pool ≤ place) → place < 65536
-      by (inl less) = omega (arith, less, few)
-      by (inr behind) = absurd (none-some m (sym (member_past pool place behind) ∙ there))
+  added_text_same : added_text w.fetch (init_places w.places) w.places.frames w.places.array count
+      ≡ added_text w.fetch (named_places added_places) w.places.frames w.places.array count
+  added_text_same = placed_so w.fetch w.places count w.places.frames w.places.array
 
-  long_below : (place : ℕ) (value : ℤ) → long_of pool place ≡ Some value → place < 65536
-  unfolding long_of
-  long_below place value there = by (cases_lt place (length pool))
-    where
-      by : (place < length pool) ⊎ (length pool ≤ place) → place < 65536
-      by (inl less) = omega (arith, less, few)
-      by (inr behind) = absurd (none-some value (sym (past long_in pool place behind) ∙ there))
-
-  string_below : (place : ℕ) (text : List ℕ) → string_of pool place ≡ Some text → place < 65536
-  string_below place text there = by (cases_lt place (length pool))
-    where
-      by : (place < length pool) ⊎ (length pool ≤ place) → place < 65536
-      by (inl less) = omega (arith, less, few)
-      by (inr behind) = absurd (none-some text (sym (naming_past naming.String pool place behind) ∙ there))
-
-  field_is : member_of pool places.field ≡ Some (data_field (name_of c))
-  field_is = of_content pool places.field (member_entry (data_field (name_of c))) at.1.1.1.1.0
-
-  fetch_is : member_of pool places.fetch ≡ Some fetch_method
-  fetch_is = of_content pool places.fetch (member_entry fetch_method) at.1.1.1.1.1.1.0
-
-  frames_named : utf8_of pool places.frames ≡ Some (codes "StackMapTable")
-  frames_named = of_content pool places.frames (text_entry (codes "StackMapTable")) at.1.1.1.1.1.1.1.1.0
-
-  id_is : long_of pool places.id ≡ Some (signed_id id)
-  id_is = of_content pool places.id (long_entry (signed_id id)) at.1.1.1.1.1.1.1.1.1.0
-
-  name_is : string_of pool places.name ≡ Some (name_of c)
-  name_is = of_content pool places.name (string_entry (name_of c)) at.1.1.1.1.1.1.1.1.1.1.0
-
-  code_named : utf8_of pool places.code ≡ Some (codes "Code")
-  code_named = of_content pool places.code (text_entry (codes "Code")) at.1.1.1.1.1.1.1.0
-
-  init_code_is : code_bodies pool (init_member places (all_probes (bodies_of works)))
-      ≡ init_text (init_places places) places.frames places.array (all_probes (bodies_of works)) ∷ []
+  init_code_is : code_bodies w.pool (init_member w.fetch w.places count)
+      ≡ added_text w.fetch (named_places added_places) w.places.frames w.places.array count ∷ []
   init_code_is =
       ap (λ (t : Bool). map (λ (a : Attribute). a.body) (if t then own ∷ [] else []))
-      (ap (is_text (codes "Code")) code_named)
+      (ap (is_text (codes "Code")) stands.members.code)
+      ∙ ap (λ (text : List ℕ). text ∷ []) added_text_same
     where
       own : Attribute
-      own = attribute places.code (init_text (init_places places) places.frames places.array (all_probes (bodies_of works)))
+      own = attribute w.places.code (added_text w.fetch (init_places w.places) w.places.frames w.places.array count)
 
-  pub added_method : IsAddedMethod (twin_class names array c works pool places) (name_of c) (signed_id id) (all_probes (bodies_of works)) added_places
-      (init_member places (all_probes (bodies_of works)))
+  pub added_method : IsAddedMethod w.fetch twin (name_of c) (signed_id id) count added_places (init_member w.fetch w.places count)
   unfolding twin_class
   added_method = record {
     code = record {
-      few = probes;
-      pool_few = few;
-      field = member_below places.field (data_field (name_of c)) field_is;
-      id = long_below places.id (signed_id id) id_is;
-      name = string_below places.name (name_of c) name_is;
-      fetch = member_below places.fetch fetch_method fetch_is;
-      frames_named = frames_named;
+      pool_few = so.few;
+      field = field_placed w.fetch w.pool so.few (name_of c) w.places added_places refl refl stands.members.own;
+      count = count_below w.pool so.few count w.places.count (nat_le count most_short) stands.members.count_is;
+      id = long_below w.pool so.few w.places.id (signed_id id) stands.members.id_is;
+      name = string_below w.pool so.few w.places.name (name_of c) stands.members.name_is;
+      fetch_method = member_below w.pool so.few w.places.fetch fetch_method stands.members.fetch_is;
     };
-    owner_is = naming_kept naming.Class c.pool pool (name_of c) c.this_class extends owner_is;
+    owner_is = naming_kept naming.Class c.pool w.pool (name_of c) c.this_class extends owner_is;
     flags = refl;
-    name = of_content pool places.init_name (text_entry init_name) at.1.1.0;
-    desc = of_content pool places.init_type (text_entry init_type) at.1.1.1.0;
+    name = stands.members.init_name;
+    desc = stands.members.init_type;
     code_is = init_code_is;
-    field_is = field_is;
-    id_is = id_is;
-    name_is = name_is;
-    fetch_is = fetch_is;
-    array_is = of_content pool places.array (class_entry data_type) at.1.1.1.1.1.1.1.1.1.1.1.0;
+    field_entries = field_found w.fetch w.pool (name_of c) w.places added_places refl refl stands.members.own stands.members.array_is;
+    id_is = stands.members.id_is;
+    name_is = stands.members.name_is;
+    count_is = count_entry w.pool count w.places.count (nat_le count most_short) stands.members.count_is;
+    fetch_is = stands.members.fetch_is;
   }
 
   -- ---- all of them
 
   abbrev Written : ℕ → Member → Type 0
   Written number new =
-      HasNoCode (twin_class names array c works pool places).pool new
-      ⊎ (IsWrittenAt names c (twin_class names array c works pool places) (code_places pool places) array number new
-      ⊎ IsAddedAt (twin_class names array c works pool places) new)
+      HasNoCode twin.pool new
+      ⊎ (IsWrittenAt names c twin w.bootstrap (code_places w) (given_with constants array) number new
+      ⊎ IsAddedAt twin new)
 
   own_written : (number : ℕ) (m : Member) (o : Option BodyWithStates) → slice_get c.methods number ≡ Some m → work_of number works ≡ o
       → Written number (twin_method c.pool code m o)
@@ -409,59 +462,49 @@ module _ (id : ℕ) (names : Names) (array : ℕ) (works : List BodyWithStates) 
         number_is = h.number_is;
         states = x.states;
         first = x.first;
-        written = written_at h.index x h.stands (coded number x found) m same;
+        written = written_at h.index x h.stands (so.coded number x found) m same;
       }))
 
-  pub all_written : AreWrittenMethods names c (twin_class names array c works pool places) (code_places pool places) array
+  pub all_written : AreWrittenMethods names c twin w.bootstrap (code_places w) (given_with constants array)
   all_written number new there =
-      by (put_cases (twin_methods c.pool code works c.methods) (init_member places count) new number (ap (λ (l : List Member). slice_get l number) (sym methods_are) ∙ there))
+      by (put_cases (twin_methods c.pool code works c.methods) (init_member w.fetch w.places count) new number
+      (ap (λ (l : List Member). slice_get l number) (sym methods_are) ∙ there))
     where
       by : (slice_get (twin_methods c.pool code works c.methods) number ≡ Some new)
-          ⊎ ((number ≡ length (twin_methods c.pool code works c.methods)) × (init_member places (all_probes (bodies_of works)) ≡ new)) → Written number new
+          ⊎ ((number ≡ length (twin_methods c.pool code works c.methods)) × (init_member w.fetch w.places (all_probes (bodies_of works)) ≡ new)) → Written number new
       by (inl own) =
           let h = from_at (λ number method. twin_method c.pool code method (work_of number works)) 0 c.methods number new own in
           let same : 0 + number ≡ number = omega arith in
           subst (Written number) (ap (λ (n : ℕ). twin_method c.pool code h.0 (work_of n works)) (sym same) ∙ h.2)
           (own_written number h.0 (work_of number works) h.1 refl)
       by (inr last) = inr (inr (record {
+        fetch = w.fetch;
         owner = name_of c;
         id = signed_id id;
         count = count;
         places = added_places;
-        added = subst (IsAddedMethod (twin_class names array c works pool places) (name_of c) (signed_id id) count added_places) last.1 added_method;
+        added = subst (IsAddedMethod w.fetch twin (name_of c) (signed_id id) count added_places) last.1 added_method;
       }))
 
-pub methods_so : (names : Names) (array : ℕ) (c : ClassFile) (works : List BodyWithStates) (pool : PoolValue) (places : MemberPlaces)
-    → (twin_class names array c works pool places).methods
-    ≡ twin_methods c.pool (λ w. twin_code pool places.method places.frames names (emitted_of array w)) works c.methods
-    ++ init_member places (all_probes (bodies_of works)) ∷ []
+pub methods_so : (names : Names) (array : ℕ) (c : ClassFile) (works : List BodyWithStates) (w : Writing)
+    → (twin_class names array c works w).methods
+    ≡ twin_methods c.pool (code_with names array w) works c.methods ++ init_member w.fetch w.places (all_probes (bodies_of works)) ∷ []
 unfolding twin_class
-methods_so names array c works pool places = refl
+methods_so names array c works w = refl
 
 -- the method with a number has its instrumented code, if it has any
-pub method_there : (names : Names) (array : ℕ) (c : ClassFile) (works : List BodyWithStates) (pool : PoolValue) (places : MemberPlaces) (number : ℕ) (m : Member)
+pub method_there : (names : Names) (array : ℕ) (c : ClassFile) (works : List BodyWithStates) (w : Writing) (number : ℕ) (m : Member)
     → slice_get c.methods number ≡ Some m
-    → slice_get (twin_class names array c works pool places).methods number
-    ≡ Some (twin_method c.pool (λ w. twin_code pool places.method places.frames names (emitted_of array w)) m (work_of number works))
-method_there names array c works pool places number m there =
-    let code : BodyWithStates → List ℕ = λ y. twin_code pool places.method places.frames names (emitted_of array y) in
+    → slice_get (twin_class names array c works w).methods number ≡ Some (twin_method c.pool (code_with names array w) m (work_of number works))
+method_there names array c works w number m there =
+    let code : BodyWithStates → List ℕ = code_with names array w in
     let same : 0 + number ≡ number = omega arith in
     let own : slice_get (twin_methods c.pool code works c.methods) number ≡ Some (twin_method c.pool code m (work_of number works)) =
     mapped_at (λ n method. twin_method c.pool code method (work_of n works)) 0 number c.methods m there
     ∙ ap (λ (n : ℕ). Some (twin_method c.pool code m (work_of n works))) same in
-    ap (λ (l : List Member). slice_get l number) (methods_so names array c works pool places)
-    ∙ put_stays (twin_methods c.pool code works c.methods) (init_member places (all_probes (bodies_of works)))
+    ap (λ (l : List Member). slice_get l number) (methods_so names array c works w)
+    ∙ put_stays (twin_methods c.pool code works c.methods) (init_member w.fetch w.places (all_probes (bodies_of works)))
     (twin_method c.pool code m (work_of number works)) number own
-
--- each method of the twin class that is written has no code, or its instrumented code, or is the added one
-pub written_methods : (id : ℕ) (names : Names) (array : ℕ) (works : List BodyWithStates) (c twin : ClassFile) (w : IsWritten id names array works c twin)
-    → IsClassFile c → ((i : ℕ) (x : BodyWithStates) → slice_get works i ≡ Some x → HasFrameStates x.body x.states) → AreSoundBodies names (bodies_of works)
-    → all_probes (bodies_of works) ≤ most_probes
-    → ((number : ℕ) (x : BodyWithStates) → work_of number works ≡ Some x → IsWrittenCode w.pool (code_places w.pool w.places) names (emitted_of array x))
-    → AreWrittenMethods names c twin (code_places w.pool w.places) array
-written_methods id names array works c twin w is fits sound probes coded =
-    subst (λ (t : ClassFile). AreWrittenMethods names c t (code_places w.pool w.places) array) (sym w.is)
-    (all_written id names array works c w.pool w.places w.are w.takes w.few is fits sound probes coded)
 
 -- ---- sizes
 
@@ -482,18 +525,18 @@ module _ (old : PoolValue) (HasName : ℕ → Type 0) (code : List ℕ) where
       by false is own single more = more single
 
 -- the text of each Code attribute is short, where the twin class is a class file
-pub texts_short : (id : ℕ) (names : Names) (array : ℕ) (works : List BodyWithStates) (c twin : ClassFile) (w : IsWritten id names array works c twin)
-    → IsClassFile twin → (number : ℕ) (x : BodyWithStates) → work_of number works ≡ Some x
-    → length (twin_code w.pool w.places.method w.places.frames names (emitted_of array x)) ≤ 4294967295
-texts_short id names array works c twin w is number x found =
-    let code : BodyWithStates → List ℕ = λ y. twin_code w.pool w.places.method w.places.frames names (emitted_of array y) in
+pub texts_short : (names : Names) (array : ℕ) (works : List BodyWithStates) (c twin : ClassFile) (w : Writing) → AreBodiesWithStates names array c works
+    → twin ≡ twin_class names array c works w → IsClassFile twin → (number : ℕ) (x : BodyWithStates) → work_of number works ≡ Some x
+    → length (code_with names array w x) ≤ 4294967295
+texts_short names array works c twin w are twin_is is number x found =
+    let code : BodyWithStates → List ℕ = code_with names array w in
     let h = work_found number works x found in
-    let body = w.are.bodies.each h.index x.body (body_at works h.index x h.stands) in
+    let body = are.bodies.each h.index x.body (body_at works h.index x h.stands) in
     let m = body.method in
     let there : slice_get c.methods number ≡ Some m = ap (slice_get c.methods) (sym h.number_is) ∙ body.at in
     let among : slice_get twin.methods number ≡ Some (twin_method c.pool code m (Some x)) =
-    ap (λ (t : ClassFile). slice_get t.methods number) w.is
-    ∙ method_there names array c works w.pool w.places number m there
+    ap (λ (t : ClassFile). slice_get t.methods number) twin_is
+    ∙ method_there names array c works w number m there
     ∙ ap (λ (o : Option BodyWithStates). Some (twin_method c.pool code m o)) found in
     let member = all_at (IsMember (HasText twin.pool) (HasMethodDescriptor twin.pool)) twin.methods number (twin_method c.pool code m (Some x)) is.methods.each among in
     code_short c.pool (HasText twin.pool) (code x) body.is.is.items.bytes m.attributes member.attributes.each body.is.is.items.code.single

@@ -8,10 +8,12 @@ use Rattle.jc_methods.specs.declared.kind.State.{State}
 use Rattle.jc_class.specs.declared.class_file.ClassFile.{ClassFile}
 use Rattle.jc_kinds.specs.Answers.{AreStates}
 use Rattle.jc_plan.specs.Probed.{first_id}
-use Rattle.jc_emit.specs.Emission.{emission, IsArrayNumber}
+use Rattle.jc_emit.specs.Emission.{IsArrayNumber}
 use Rattle.jc_instrument_code.specs.TwinCode.{written_frames}
-use Rattle.jc_instrument_reread.specs.WrittenCode.{by_method}
+use Rattle.jc_instrument_reread.specs.WrittenCode.{ready_emission}
 use Rattle.jc_instrument.specs.Bodies.{AreBodies}
+use Rattle.jc_instrument.specs.Constants.{given_with}
+use Rattle.jc_instrument.specs.declared.constants.ProbeConstants.{ProbeConstants}
 
 -- a body, the states before its instructions, and its first id
 pub record BodyWithStates : Type 0 where
@@ -35,9 +37,10 @@ pub record AreBodiesWithStates (names : Names) (array : ℕ) (c : ClassFile) (wo
 
 -- ---- what is written of a body
 
-abbrev pub emitted_of : (array : ℕ) → BodyWithStates → Emitted
-emitted_of array w = emission w.body w.first w.states (by_method array)
+-- its instrumented code, ready for its layout, and what belongs to it
+abbrev pub emitted_of : ProbeConstants → (array : ℕ) → BodyWithStates → Emitted
+emitted_of constants array w = ready_emission w.body w.first w.states (given_with constants array) constants.giver
 
 -- the frames of the layouts of all bodies, in their order, with classes by their names
-abbrev pub all_frames : Names → (array : ℕ) → List BodyWithStates → List TypeStateAt
-all_frames names array works = flat_map (λ w. written_frames names (emitted_of array w)) works
+abbrev pub all_frames : Names → ProbeConstants → (array : ℕ) → List BodyWithStates → List TypeStateAt
+all_frames names constants array works = flat_map (λ w. written_frames names (emitted_of constants array w)) works

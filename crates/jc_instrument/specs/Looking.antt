@@ -9,32 +9,24 @@ use Rattle.jc_bytes.specs.declared.refusal.RefusalKind.TheVariants as kinds
 use Rattle.jc_class.specs.declared.class_file.ClassFile.{ClassFile}
 use Rattle.jc_kinds.specs.Answers.{IsKindRefusal}
 use Rattle.jc_kinds.specs.Checked.{Checked}
-use Rattle.jc_layout.specs.Layout.{chosen_length}
 use Rattle.jc_plan.specs.Analysed.{all_probes}
 use Rattle.jc_plan.specs.Plan.{plan_of}
 use Rattle.jc_instrument.specs.Bodies.{AreBodiesBelow}
 use Rattle.jc_instrument.specs.Causes.{InMethod}
 use Rattle.jc_instrument.specs.Found.{AreFramesFine, FramesSoFar, HasRoomSoFar, KeepsLack, noted}
-use Rattle.jc_instrument.specs.Probing.{IsFirstTooLong, IsTooLong}
-use Rattle.jc_instrument.specs.Ready.{ArePlanned, IsPlannedBody}
+use Rattle.jc_instrument.specs.Looked.{AreLookedBodies, IsLookedBody}
 use Rattle.jc_instrument.specs.Reasons.{IsFaulty}
 use Rattle.jc_instrument.specs.Room.{AreFirstLacks}
-use Rattle.jc_instrument.specs.RoomCauses.{probed_code}
 use Rattle.jc_instrument.specs.declared.looking.Looking.{Looking}
-use Rattle.jc_instrument.specs.declared.ready.PlannedBody.{PlannedBody}
+use Rattle.jc_instrument.specs.declared.looked.LookedBody.{LookedBody}
 
 -- ---- bodies so far
 
--- the first body whose code is too large; or none has such code, and each is planned
-abbrev pub PlannedSoFar : Names → List Body → List PlannedBody → Option Refusal → Type 0
-PlannedSoFar names bodies planned None = ArePlanned names bodies planned
-PlannedSoFar names bodies planned (Some r) = IsFirstTooLong bodies r
-
--- the first lack of room of each kind, how many probes there are, and, where there is room, what is planned
+-- the first lack of room of each kind, how many probes there are, and, where there is room, what is kept of the bodies
 pub record RoomSoFar (names : Names) (bodies : List Body) (s : Looking) : Type 0 where
   pub lacks : AreFirstLacks bodies s.room
   pub probes : s.probes ≡ all_probes bodies
-  pub planned : HasRoomSoFar s.room → s.probes ≤ most_probes → PlannedSoFar names bodies s.bodies s.large
+  pub looked : HasRoomSoFar s.room → s.probes ≤ most_probes → AreLookedBodies names bodies s.bodies
 
 -- what is known of these bodies
 pub record AreLookedAt (names : Names) (bodies : List Body) (s : Looking) : Type 0 where
@@ -58,19 +50,11 @@ pub record IsLooking (names : Names) (c : ClassFile) (number : ℕ) (s : Looking
 
 -- ---- one body more
 
--- the body with this first id is put last, and its code isn't too large
-pub record PutsPlanned (names : Names) (b : Body) (first : ℕ) (old new : List PlannedBody) : Type 0 where
-  pub planned : PlannedBody
-  pub put : new ≡ old ++ planned ∷ []
-  pub is : IsPlannedBody names b first planned
-  pub short : chosen_length (probed_code b first) ≤ 65535
-
--- what was refused as too large stays; or else the body is planned, or its code is too large
-abbrev pub PlansOn : Names → Body → (old new : Looking) → (large : Option Refusal) → Type 0
-PlansOn names b old new (Some r) = new.large ≡ Some r
-PlansOn names b old new None =
-    ((new.large ≡ None) × PutsPlanned names b old.probes old.bodies new.bodies)
-    ⊎ ((r : Refusal) × (new.large ≡ Some r) × IsTooLong b old.probes r)
+-- the body with this first id is put last
+pub record PutsLooked (names : Names) (b : Body) (first : ℕ) (old new : List LookedBody) : Type 0 where
+  pub looked : LookedBody
+  pub put : new ≡ old ++ looked ∷ []
+  pub is : IsLookedBody names b first looked
 
 -- one more body that passes the kind check is looked at
 pub record LooksOn (names : Names) (b : Body) (old new : Looking) : Type 0 where
@@ -78,7 +62,7 @@ pub record LooksOn (names : Names) (b : Body) (old new : Looking) : Type 0 where
   pub locals : KeepsLack kinds.LocalsFull b old.room.locals new.room.locals
   pub stack : KeepsLack kinds.StackFull b old.room.stack new.room.stack
   pub probes : new.probes ≡ (plan_of b old.probes).next
-  pub planned : HasRoomSoFar new.room → new.probes ≤ most_probes → PlansOn names b old new old.large
+  pub looked : HasRoomSoFar new.room → new.probes ≤ most_probes → PutsLooked names b old.probes old.bodies new.bodies
 
 -- it passes the kind check, and is looked at where all bodies did
 pub record PassesOn (names : Names) (b : Body) (old new : Looking) : Type 0 where

@@ -6,6 +6,7 @@ use Rattle.jc_methods.specs.declared.body.Body.{Body}
 use Rattle.jc_class.specs.declared.class_file.ClassFile.{ClassFile}
 use Rattle.jc_plan.specs.Analysed.{all_probes}
 use Rattle.jc_instrument.specs.Causes.{Cause, NoCause}
+use Rattle.jc_instrument.specs.Constants.{AreConstants}
 use Rattle.jc_instrument.specs.Ready.{ArePlanned}
 use Rattle.jc_instrument.specs.Reasons.{code_causes}
 use Rattle.jc_instrument.specs.RoomCauses.{HasTooLargeCode, early_room_causes}
@@ -16,11 +17,13 @@ use Rattle.jc_instrument.specs.declared.ready_class.ReadyClass.{ReadyClass}
 abbrev pub making_causes : ClassFile → List Cause
 making_causes c = code_causes c ++ (early_room_causes c ++ (HasTooLargeCode c ∷ []))
 
--- What is planned stands for the bodies of the class under these names, and none of those causes refuses it.
+-- What is planned stands for the bodies of the class under these names, whose code loads these constants, and none of those causes
+-- refuses it.
 pub record IsReadyClass (names : Names) (c : ClassFile) (r : ReadyClass) : Type 0 where
   pub bodies : List Body
   pub are : AreCheckedUnder names c bodies
   pub made : All IsWellMade bodies
-  pub planned : ArePlanned names bodies r.bodies
+  pub planned : ArePlanned names r.constants bodies r.bodies
   pub probes : r.probes ≡ all_probes bodies
+  pub loads : AreConstants c r.probes r.bootstrap r.constants
   pub no_cause : NoCause (making_causes c)

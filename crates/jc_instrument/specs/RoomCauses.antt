@@ -1,26 +1,26 @@
 -- Why there is no room in a class for its probes.
 use Rattle.std.specs.Prelude.{◌≡◌, ◌⊎◌, ℕ, ◌+◌, ◌<◌, List, [], ◌∷◌, ◌++◌, length, Some, slice_get}
-use Rattle.jc_methods.specs.ProbeMembers.{most_probes}
+use Rattle.jc_methods.specs.ProbeMembers.{fetch_of, most_probes}
 use Rattle.jc_methods.specs.VerificationTypes.{Names}
 use Rattle.jc_methods.specs.declared.body.Body.{Body}
-use Rattle.jc_methods.specs.declared.insn.Insn.{Insn}
+use Rattle.jc_methods.specs.declared.probe_members.Fetch.{Fetch}
 use Rattle.jc_methods.specs.declared.probe_members.Fetch.TheVariants as fetches
 use Rattle.jc_bytes.specs.declared.refusal.Refusal.{Refusal}
 use Rattle.jc_bytes.specs.declared.refusal.RefusalKind.TheVariants as kinds
-use Rattle.jc_pool.specs.Pool.{PoolValue}
 use Rattle.jc_class.specs.declared.class_file.ClassFile.{ClassFile}
+use Rattle.jc_bootstraps.specs.Bootstraps.{bootstrap_bodies}
 use Rattle.jc_plan.specs.Probed.{first_id}
-use Rattle.jc_emit.specs.Stages.{emitted_code}
 use Rattle.jc_emit.specs.Straddling.{IsFirstStraddling}
-use Rattle.jc_emit.specs.Written.{integer_in}
 use Rattle.jc_layout.specs.Layout.{chosen_length}
 use Rattle.jc_plan.specs.Analysed.{all_probes}
 use Rattle.jc_instrument.specs.Bodies.{AreBodiesOf}
 use Rattle.jc_instrument.specs.Causes.{Cause, of_class, InMethod}
-use Rattle.jc_instrument.specs.Needed.{TakesNeeds}
+use Rattle.jc_instrument.specs.Constants.{AreConstants, probed_code}
+use Rattle.jc_instrument.specs.Bootstraps.{TakesNoBootstrap}
 use Rattle.jc_instrument.specs.Reasons.{OfBody}
-use Rattle.jc_instrument.specs.BodiesWithStates.{BodyWithStates, AreBodiesWithStates}
-use Rattle.jc_instrument.specs.declared.needs.MemberPlaces.{MemberPlaces}
+use Rattle.jc_instrument.specs.BodiesWithStates.{BodyWithStates}
+use Rattle.jc_instrument.specs.TwinText.{IsReadyFor, Writing}
+use Rattle.jc_instrument.specs.declared.constants.ProbeConstants.{ProbeConstants}
 
 -- ---- the probe array, and the probes
 
@@ -31,7 +31,7 @@ StraddlesArguments c = OfBody c (λ names body place. IsFirstStraddling body (So
 abbrev pub HasStraddling : ClassFile → Cause
 HasStraddling c = InMethod kinds.StraddlingLocal (StraddlesArguments c)
 
--- more than 32,767 probes
+-- more probes than a class has at most
 pub record HasTooManyProbes (c : ClassFile) (r : Refusal) : Type 0 where
   pub bodies : List Body
   pub are : AreBodiesOf c bodies
@@ -40,13 +40,21 @@ pub record HasTooManyProbes (c : ClassFile) (r : Refusal) : Type 0 where
 
 -- ---- the added members, and room in methods
 
--- no number is left for one more field or one more method (JVM Specification 4.1)
-abbrev pub IsFull : ClassFile → Type 0
-IsFull c = (length c.fields ≡ 65535) ⊎ (length c.methods ≡ 65535)
+-- no number is left for one more method or, where one is added, for one more field (JVM Specification 4.1)
+abbrev pub IsFull : Fetch → ClassFile → Type 0
+IsFull fetches.Member c = (length c.fields ≡ 65535) ⊎ (length c.methods ≡ 65535)
+IsFull fetches.Constant c = length c.methods ≡ 65535
 
 pub record HasFullMembers (c : ClassFile) (r : Refusal) : Type 0 where
-  pub full : IsFull c
+  pub full : IsFull (fetch_of c.major) c
   pub refusal : r ≡ of_class kinds.MembersFull 65536
+
+-- no bootstrap method can be added, of a class whose methods load a constant (JVM Specification 4.7.23)
+pub record HasBadBootstraps (c : ClassFile) (r : Refusal) : Type 0 where
+  pub by_constant : fetch_of c.major ≡ fetches.Constant
+  pub place : ℕ
+  pub none : TakesNoBootstrap c.pool (length c.attributes) (bootstrap_bodies c.pool c.attributes) place
+  pub refusal : r ≡ of_class kinds.BadBootstraps place
 
 -- no number is left for one more local variable (JVM Specification 4.7.3)
 abbrev pub FillsLocals : ClassFile → ℕ → ℕ → Type 0
@@ -64,20 +72,18 @@ HasFullStack c = InMethod kinds.StackFull (FillsStack c)
 
 -- ---- code that is too large
 
--- The instrumented code of a body whose first id is this one. The place of the method that the prelude calls is 0 here: it takes
--- two bytes, whatever it is.
-abbrev pub probed_code : Body → (first : ℕ) → List Insn
-probed_code body first = emitted_code body first fetches.Member (integer_in [])
-
 -- the layout that is chosen for the instrumented code of the method with this number has so many bytes, more than 65,535
 pub record IsTooLarge (c : ClassFile) (number place : ℕ) : Type 0 where
   pub bodies : List Body
   pub are : AreBodiesOf c bodies
+  pub bootstrap : ℕ
+  pub constants : ProbeConstants
+  pub loads : AreConstants c (all_probes bodies) bootstrap constants
   pub index : ℕ
   pub body : Body
   pub stands : slice_get bodies index ≡ Some body
   pub number_is : body.method ≡ number
-  pub size : place ≡ chosen_length (probed_code body (first_id bodies index))
+  pub size : place ≡ chosen_length (probed_code constants body (first_id bodies index))
   pub large : 65535 < place
 
 abbrev pub HasTooLargeCode : ClassFile → Cause
@@ -90,11 +96,9 @@ pub record NeedsTooMuch (id : ℕ) (c : ClassFile) : Type 0 where
   pub names : Names
   pub array : ℕ
   pub works : List BodyWithStates
-  pub are : AreBodiesWithStates names array c works
-  pub pool : PoolValue
-  pub places : MemberPlaces
-  pub takes : TakesNeeds id names array c works pool places
-  pub many : 65535 < length pool
+  pub with : Writing
+  pub ready : IsReadyFor id names array works c with
+  pub many : 65535 < length with.pool
 
 pub record HasFullPool (id : ℕ) (c : ClassFile) (r : Refusal) : Type 0 where
   pub full : NeedsTooMuch id c
@@ -108,6 +112,7 @@ early_room_causes c =
     HasStraddling c
     ∷ HasTooManyProbes c
     ∷ HasFullMembers c
+    ∷ HasBadBootstraps c
     ∷ HasFullLocals c
     ∷ HasFullStack c
     ∷ []

@@ -4,8 +4,9 @@ use Rattle.jc_bytes.specs.declared.fail.Fail.{Fail}
 use Rattle.jc_bytes.specs.declared.fail.Fail.TheVariants as fails
 use Rattle.jc_pool.specs.Pool.{PoolValue}
 use Rattle.jc_pool.specs.declared.add.PoolFull.{PoolFull}
-use Rattle.jc_methods.specs.ProbeMembers.{data_name, data_type, init_name, init_type}
-use Rattle.jc_instrument.specs.Contents.{Content, text_entry, class_entry, string_entry, long_entry, member_entry, TakesEach}
+use Rattle.jc_methods.specs.ProbeMembers.{data_name, data_type, init_name, init_type, bootstrap_type, bootstraps_name}
+use Rattle.jc_instrument.specs.Contents.{Content, text_entry, class_entry, string_entry, long_entry, member_entry, handle_entry, TakesEach}
+use Rattle.jc_instrument.specs.Needed.{bootstrap_handle}
 use Rattle.jc_instrument_reread.specs.Written.{data_field, init_method, fetch_method}
 use Rattle.jc_instrument.specs.declared.needs.Need.{Need}
 use Rattle.jc_instrument.specs.declared.needs.Need.TheVariants as needs
@@ -24,6 +25,9 @@ content_needed owner id needs.Frames = text_entry (codes "StackMapTable")
 content_needed owner id needs.Id = long_entry id
 content_needed owner id needs.Name = string_entry owner
 content_needed owner id needs.Array = class_entry data_type
+content_needed owner id needs.BootstrapType = text_entry bootstrap_type
+content_needed owner id needs.Handle = handle_entry (bootstrap_handle owner)
+content_needed owner id needs.Bootstraps = text_entry bootstraps_name
 
 abbrev pub contents_of : (owner : List ℕ) → (id : ℤ) → List Need → List Content
 contents_of owner id list = map (content_needed owner id) list

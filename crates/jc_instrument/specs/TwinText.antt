@@ -6,15 +6,21 @@ use Rattle.jc_pool.specs.Pool.{PoolValue}
 use Rattle.jc_class.specs.declared.class_file.Attribute.{Attribute}
 use Rattle.jc_class.specs.declared.class_file.ClassFile.{ClassFile}
 use Rattle.jc_class.specs.declared.class_file.Member.{Member}
+use Rattle.jc_bootstraps.specs.Bootstraps.{bootstrap_bodies, has_name as has_text, with_bootstrap}
 use Rattle.jc_body.specs.Attributes.{has_name}
+use Rattle.jc_methods.specs.declared.probe_members.Fetch.{Fetch}
+use Rattle.jc_methods.specs.declared.probe_members.Fetch.TheVariants as fetches
 use Rattle.jc_emit.specs.Added.{InitPlaces}
-use Rattle.jc_methods.specs.ProbeMembers.{data_flags, init_flags}
+use Rattle.jc_methods.specs.ProbeMembers.{data_flags, init_flags, bootstraps_name}
 use Rattle.jc_plan.specs.Analysed.{all_probes}
 use Rattle.jc_instrument_code.specs.CodeText.{attribute}
-use Rattle.jc_instrument_code.specs.InitText.{init_text}
+use Rattle.jc_instrument_code.specs.InitText.{added_text}
 use Rattle.jc_instrument_code.specs.TwinCode.{twin_code}
-use Rattle.jc_instrument.specs.Needed.{TakesNeeds}
-use Rattle.jc_instrument.specs.BodiesWithStates.{BodyWithStates, bodies_of, AreBodiesWithStates, emitted_of}
+use Rattle.jc_instrument.specs.Needed.{EarlyPlaces, GetsBy, TakesNeeded, name_of, needed, signed_id}
+use Rattle.jc_instrument.specs.Contents.{Content}
+use Rattle.jc_instrument.specs.Constants.{constants_at}
+use Rattle.jc_instrument.specs.BodiesWithStates.{BodyWithStates, bodies_of, AreBodiesWithStates, emitted_of, all_frames}
+use Rattle.jc_instrument.specs.declared.constants.ProbeConstants.{ProbeConstants}
 use Rattle.jc_instrument.specs.declared.needs.MemberPlaces.{MemberPlaces}
 
 -- ---- a method
@@ -40,46 +46,113 @@ twin_methods old code works methods = map_from (λ number method. twin_method ol
 abbrev pub data_member : MemberPlaces → Member
 data_member p = record { flags = data_flags; name = p.data_name; desc = p.data_type; attributes = [] }
 
--- no number is pushed from the pool
-abbrev pub init_places : MemberPlaces → InitPlaces
-init_places p = record { field = p.field; id = p.id; name = p.name; count = 0; fetch = p.fetch }
+-- the field, where there is one
+abbrev pub added_fields : Fetch → MemberPlaces → List Member
+added_fields fetches.Member p = data_member p ∷ []
+added_fields fetches.Constant p = []
 
-abbrev pub init_member : MemberPlaces → (count : ℕ) → Member
-init_member p count = record {
+abbrev pub init_places : MemberPlaces → InitPlaces
+init_places p = record { field = p.field; id = p.id; name = p.name; count = p.count; fetch = p.fetch }
+
+abbrev pub init_member : Fetch → MemberPlaces → (count : ℕ) → Member
+init_member fetch p count = record {
   flags = init_flags;
   name = p.init_name;
   desc = p.init_type;
-  attributes = attribute p.code (init_text (init_places p) p.frames p.array count) ∷ [];
+  attributes = attribute p.code (added_text fetch (init_places p) p.frames p.array count) ∷ [];
 }
+
+-- ---- the bootstrap method
+
+-- the attribute BootstrapMethods gets one more, behind so many
+abbrev pub with_bootstrap_at : PoolValue → (handle bootstrap : ℕ) → Attribute → Attribute
+with_bootstrap_at pool handle bootstrap a =
+    if has_text pool bootstraps_name a then attribute a.name (with_bootstrap handle bootstrap a.body) else a
+
+-- where the class has none, its attribute comes last
+abbrev pub new_attribute : (name handle : ℕ) → List (List ℕ) → List Attribute
+new_attribute name handle [] = attribute name (with_bootstrap handle 0 []) ∷ []
+new_attribute name handle (body ∷ bodies) = []
+
+-- the attributes with one more bootstrap method
+abbrev pub with_one_more : PoolValue → (bootstrap : ℕ) → MemberPlaces → List Attribute → List Attribute
+with_one_more pool bootstrap p attributes =
+    map (with_bootstrap_at pool p.handle bootstrap) attributes
+    ++ new_attribute p.bootstraps p.handle (bootstrap_bodies pool attributes)
+
+abbrev pub twin_attributes : Fetch → PoolValue → (bootstrap : ℕ) → MemberPlaces → List Attribute → List Attribute
+twin_attributes fetches.Member pool bootstrap p attributes = attributes
+twin_attributes fetches.Constant pool bootstrap p attributes = with_one_more pool bootstrap p attributes
 
 -- ---- the class
 
+-- the place of what the prelude names first: the method that it calls, or the constant that it loads
+abbrev pub giver_by : Fetch → (constant method : ℕ) → ℕ
+giver_by fetches.Member constant method = method
+giver_by fetches.Constant constant method = constant
+
+abbrev pub giver_in : ProbeConstants → MemberPlaces → ℕ
+giver_in constants p = giver_by constants.fetch constants.giver p.method
+
+-- what a class is written with
+pub record Writing : Type 0 where
+  pub fetch : Fetch
+  pub bootstrap : ℕ
+  pub early : EarlyPlaces
+  pub places : MemberPlaces
+  pub pool : PoolValue
+
+-- the constants that its code loads
+abbrev pub constants_of : Writing → ProbeConstants
+constants_of w = constants_at w.fetch w.early
+
+-- what the Code attribute of a body holds
+abbrev pub code_with : Names → (array : ℕ) → Writing → BodyWithStates → List ℕ
+code_with names array w work =
+    twin_code w.pool w.fetch (giver_in (constants_of w) w.places) w.places.array w.places.frames names (emitted_of (constants_of w) array work)
+
 -- The class with this pool, in which the members' entries stand at these places: each method with code has its twin's, and the
--- field and the method go last.
-unfoldable pub twin_class : Names → (array : ℕ) → ClassFile → List BodyWithStates → PoolValue → MemberPlaces → ClassFile
-twin_class names array c works pool places = record {
+-- members that are added go last.
+unfoldable pub twin_class : Names → (array : ℕ) → ClassFile → List BodyWithStates → Writing → ClassFile
+twin_class names array c works w = record {
   minor = c.minor;
   major = c.major;
-  pool = pool;
+  pool = w.pool;
   flags = c.flags;
   this_class = c.this_class;
   super_class = c.super_class;
   interfaces = c.interfaces;
-  fields = c.fields ++ data_member places ∷ [];
+  fields = c.fields ++ added_fields w.fetch w.places;
   methods =
-      twin_methods c.pool (λ w. twin_code pool places.method places.frames names (emitted_of array w)) works c.methods
-      ++ init_member places (all_probes (bodies_of works)) ∷ [];
-  attributes = c.attributes;
+      twin_methods c.pool (code_with names array w) works c.methods
+      ++ init_member w.fetch w.places (all_probes (bodies_of works)) ∷ [];
+  attributes = twin_attributes w.fetch c.pool w.bootstrap w.places c.attributes;
 }
+
+-- what a class with this id needs
+abbrev pub needs_of : (id : ℕ) → Names → (array : ℕ) → ClassFile → List BodyWithStates → Writing → List Content
+needs_of id names array c works w =
+    needed w.fetch w.bootstrap (name_of c) (signed_id id) (all_probes (bodies_of works)) (all_frames names (constants_of w) array works)
+
+-- the pool of the class takes what the class needs
+abbrev pub TakesNeeds : (id : ℕ) → Names → (array : ℕ) → ClassFile → List BodyWithStates → Writing → Type 0
+TakesNeeds id names array c works w =
+    TakesNeeded c.pool w.fetch w.bootstrap (name_of c) (signed_id id) (all_probes (bodies_of works)) (all_frames names (constants_of w) array works)
+    w.pool w.early w.places
+
+-- The bodies of the class with this id and their states are these, and it gets its array so; and so is what it is written with,
+-- whether its pool has room for it or not.
+pub record IsReadyFor (id : ℕ) (names : Names) (array : ℕ) (works : List BodyWithStates) (c : ClassFile) (w : Writing) : Type 0 where
+  pub gets : GetsBy c w.fetch w.bootstrap
+  pub are : AreBodiesWithStates names array c works
+  pub takes : TakesNeeds id names array c works w
 
 -- the twin class that is written for a class with this id, whose works are these
 pub record IsWritten (id : ℕ) (names : Names) (array : ℕ) (works : List BodyWithStates) (c twin : ClassFile) : Type 0 where
-  pub are : AreBodiesWithStates names array c works
-  pub pool : PoolValue
-  pub places : MemberPlaces
-  pub takes : TakesNeeds id names array c works pool places
-  pub few : length pool ≤ 65535
-  pub is : twin ≡ twin_class names array c works pool places
+  pub with : Writing
+  pub ready : IsReadyFor id names array works c with
+  pub few : length with.pool ≤ 65535
+  pub is : twin ≡ twin_class names array c works with
 
 -- the twin class that is written for a class with this id
 pub record IsWrittenFor (id : ℕ) (c twin : ClassFile) : Type 0 where

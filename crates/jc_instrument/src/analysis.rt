@@ -38,7 +38,7 @@ fn answer(alloc: Global, bytes: &[u8]) -> Result<Analysed, Fail<Refusal>>
 ///
 /// 1. `NotAClass`, at the offset of the first item that fails, where the bytes are no class file (JVM Specification
 ///    4.1, 4.4 to 4.7).
-/// 2. `Version`, with the major version, where that is below 50 or above 61.
+/// 2. `Version`, with the major version, where that is below 50 or above 65.
 /// 3. `AlreadyInstrumented`, at 0, where a field or a method is named `$jacocoInit` or `$jacocoData`, or a Class entry
 ///    names `org/jacoco/agent/rt/internal/Offline`.
 /// 4. `InterfaceBody`, at 0, where a method of an interface has a Code attribute.

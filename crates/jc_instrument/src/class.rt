@@ -12,9 +12,9 @@ use jc_pool::Pool;
 const OLDEST: u16 = 50;
 
 /// The greatest major version that is taken.
-const NEWEST: u16 = 61;
+const NEWEST: u16 = 65;
 
-/// Whether the major version is none that is taken: below 50 or above 61 (JVM Specification 4.1, table 4.1-A).
+/// Whether the major version is none that is taken: below 50 or above 65 (JVM Specification 4.1, table 4.1-A).
 pub fn is_wrong_version(major: u16) -> bool
     ensures { IsTrue result ↔ IsOutside major }
 {

@@ -8,11 +8,10 @@ ghost use Rattle.jc_class.specs.declared.class_file.ClassFile.{ClassFile as Clas
 ghost use Rattle.jc_plan.specs.Analysed.{all_probes};
 ghost use Rattle.jc_instrument.specs.Contents.{Content, TakesEach, IsOfClass};
 ghost use Rattle.jc_instrument.specs.GrownPool.{IsGrown};
-ghost use Rattle.jc_instrument.specs.Needed.{needs_of};
 ghost use Rattle.jc_instrument.specs.Reasons.{AnalysisReason};
 ghost use Rattle.jc_instrument.specs.Refused.{Reason, IsAccepted};
 ghost use Rattle.jc_instrument.specs.SameOutside.{IsSameOutside};
-ghost use Rattle.jc_instrument.specs.TwinText.{IsWritten};
+ghost use Rattle.jc_instrument.specs.TwinText.{IsWritten, needs_of};
 ghost use Rattle.jc_instrument.specs.BodiesWithStates.{BodyWithStates, bodies_of};
 
 /// A class file that isn't analysed isn't instrumented, for the same reason; so one that is accepted is analysed. What
@@ -38,10 +37,12 @@ pub fn each_pool_grows()
 {}
 
 /// One twin class is written of a class with this id, whatever the names with which its bodies are read. Outside of code
-/// it is the class, but for what its pool needs, the field and the method.
+/// it is the class, but for what its pool needs, the members that are added and, where it gets its array by a constant, one more
+/// bootstrap method.
 pub fn each_class_has_one_twin()
     ensures one { (id array other : ℕ) (names others : Names) (works more : List BodyWithStates) (c twin same : Class)
         → IsWritten id names array works c twin → IsWritten id others other more c same → twin ≡ same }
     ensures outside { (id array : ℕ) (names : Names) (works : List BodyWithStates) (c twin : Class)
-        → IsWritten id names array works c twin → IsSameOutside id (needs_of id names array c works) (all_probes (bodies_of works)) c twin }
+        → (w : IsWritten id names array works c twin)
+        → IsSameOutside id w.with.bootstrap (needs_of id names array c works w.with) (all_probes (bodies_of works)) c twin }
 {}

@@ -14,14 +14,14 @@ ghost use Rattle.jc_instrument.specs.Bodies.{IsReadable};
 ghost use Rattle.jc_instrument.specs.Causes.{IsFirstCause};
 ghost use Rattle.jc_instrument.specs.Found.{AreFramesFine};
 ghost use Rattle.jc_instrument.specs.KeptStates.{places_if_kept, places_kept};
-ghost use Rattle.jc_instrument.specs.Looking.{IsLooking, LooksAtBody, LooksOn, PutsPlanned};
-ghost use Rattle.jc_instrument.specs.Probing.{IsTooLong};
+ghost use Rattle.jc_instrument.specs.Looking.{IsLooking, LooksAtBody, LooksOn, PutsLooked};
 ghost use Rattle.jc_instrument.specs.Reasons.{method_causes};
 ghost use Rattle.jc_instrument.specs.Steps.{IsSubroutineAt};
 
 use crate::found::{FrameRefusals, RoomRefusals, are_frames_fine, has_room_so_far, lacks, noted};
 use crate::kept::keep_first;
-use crate::ready::{LaidCode, PlannedBody, ReadyBody, UnreadBody, laid_body};
+use crate::looked::{KeptBody, LookedBody};
+use crate::ready::UnreadBody;
 use crate::states::checked_states;
 use jc_body::read_body;
 use jc_bytes::{Fail, List, Memory, Names, Refusal, RefusalKind};
@@ -39,57 +39,45 @@ pub struct Looking {
     pub frames: FrameRefusals,
     /// The first refusals for want of room, where the kind check refuses no body.
     pub room: RoomRefusals,
-    /// The first refusal of code that is too large, where nothing else is refused.
-    pub large: Option<Refusal>,
-    /// The bodies whose code is to be written, where nothing is refused.
-    pub bodies: List<PlannedBody>,
+    /// The bodies, where none is refused and none lacks room.
+    pub bodies: List<LookedBody>,
     /// How many probes there are.
     pub probes: u32,
     /// How many more places the states of bodies that are kept may take.
     pub left: usize,
 }
 
-/// Lays out the instrumented code of one more body that has room for its probes. The body is kept with its states where
-/// there was room for these.
-fn plan_next(
-    alloc: Global,
+/// One more body that has room for its probes is put last. It is kept with its states where there was room for these.
+fn put_looked(
     body: Body,
     plan: Plan,
     first: u32,
     states: Option<List<State>>,
-    bodies: &mut List<PlannedBody>,
-) -> Result<(), Fail<Refusal>>
+    bodies: &mut List<LookedBody>,
+) -> Result<(), Memory>
     requires made { IsWellMade body }
     requires plan { plan ≡ plan_of body first }
     requires next { plan.next ≤ most_probes }
     requires taken { IsTaken body }
     requires rows { length body.handlers ≤ 65535 }
     ensures put { (names : ClassNames) → AreNumberedFrames (length names) body.frames → IfSome states (AreStates names body)
-        → OnOk result (PutsPlanned names body first bodies.old bodies.new) }
+        → OnOk result (PutsLooked names body first bodies.old bodies.new) }
     ensures few { OnOk result (places_kept bodies.new ≤ places_kept bodies.old + places_if_kept body states) }
-    ensures refused { IfErr result (λ e. Said e (IsTooLong body first)) }
     ensures stays { OnErr result (bodies.new ≡ bodies.old) }
 {
-    let LaidCode { laid, insn_places } = laid_body(alloc, &body, &plan)?;
-    let next = match states {
-        Some(states) => PlannedBody::Ready(ReadyBody {
-            body,
-            plan,
-            laid,
-            insn_places,
-            states,
-        }),
-        None => PlannedBody::Unread(UnreadBody {
+    let looked = match states {
+        Some(states) => LookedBody::Kept(KeptBody { body, plan, states }),
+        None => LookedBody::Unread(UnreadBody {
             method: body.method,
             first,
         }),
     };
-    bodies.push(next)?;
+    bodies.push(looked)?;
     Ok(())
 }
 
-/// Looks at one more body that passes the kind check: what room it lacks, its probes, and then its layout, where nothing is
-/// refused so far.
+/// Looks at one more body that passes the kind check: what room it lacks, and its probes. It is put to the others where no body lacks
+/// room so far.
 fn look_at_passing(
     alloc: Global,
     body: Body,
@@ -110,23 +98,13 @@ fn look_at_passing(
     let first = so_far.probes;
     let plan = plan(alloc, &body, first)?;
     so_far.probes = plan.next;
-    if let Some(_) = so_far.large {
-        return Ok(());
-    }
     if !has_room_so_far(&so_far.room) {
         return Ok(());
     }
     if plan.next > MOST_PROBES {
         return Ok(());
     }
-    match plan_next(alloc, body, plan, first, states, &mut so_far.bodies) {
-        Ok(()) => Ok(()),
-        Err(Fail::Memory) => Err(Memory),
-        Err(Fail::Said(refusal)) => {
-            so_far.large = Some(refusal);
-            Ok(())
-        }
-    }
+    put_looked(body, plan, first, states, &mut so_far.bodies)
 }
 
 /// Looks at one more body: whether it passes the kind check (JVM Specification 4.10.1), and, where all bodies do, the rest.
@@ -228,7 +206,6 @@ pub fn look_at_methods(
             locals: None,
             stack: None,
         },
-        large: None,
         bodies: List::new(alloc),
         probes: 0,
         left,

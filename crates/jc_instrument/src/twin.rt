@@ -1,31 +1,33 @@
 //! The instrumented class, from its parts.
-ghost use Rattle.std.specs.Prelude.{◌≡◌, ◌≤◌, ℕ, List as Seq, All, IfOk, IfErr, length};
+ghost use Rattle.std.specs.Prelude.{◌≡◌, ◌≤◌, ◌<◌, ℕ, List as Seq, All, IfOk, IfErr, length};
 ghost use Rattle.jc_methods.specs.ProbeMembers.{most_probes};
 ghost use Rattle.jc_methods.specs.VerificationTypes.{Names as ClassNames};
 ghost use Rattle.jc_bytes.specs.Reader.{most_read};
 ghost use Rattle.jc_class.specs.ClassText.{ClassText};
 ghost use Rattle.jc_class.specs.Sizes.{BodiesWithin};
 ghost use Rattle.jc_class.specs.Writable.{IsClassFile};
-ghost use Rattle.jc_plan.specs.Analysed.{all_probes};
-ghost use Rattle.jc_instrument.specs.BodiesWithStates.{BodyWithStates as Work, all_frames, bodies_of};
+ghost use Rattle.jc_instrument.specs.BodiesWithStates.{BodyWithStates as Work};
 ghost use Rattle.jc_instrument.specs.Members.{AreCoded, AreTextPlaces, IsFirstIfAny};
 ghost use Rattle.jc_bytes.specs.Failing.{Said};
 ghost use Rattle.jc_bytes.specs.Texts.{IsShortText};
-ghost use Rattle.jc_instrument.specs.Needed.{frame_needs, name_of};
+ghost use Rattle.jc_bootstraps.specs.Bootstraps.{bootstrap_bodies};
+ghost use Rattle.jc_instrument.specs.Needed.{IsNextBootstrap, name_of};
 ghost use Rattle.jc_instrument.specs.Ready.{AreReadyFrom, source_of};
 ghost use Rattle.jc_instrument.specs.ReadyClass.{IsReadyClass};
 ghost use Rattle.jc_instrument.specs.RoomCauses.{HasFullPool};
-ghost use Rattle.jc_instrument.specs.Taking.{RefusesEach};
-ghost use Rattle.jc_instrument.specs.TwinText.{IsWrittenFor};
-ghost use Rattle.jc_instrument.specs.Writing.{ArePlannedWorks, IsFullFor, IsTwinFrom};
+ghost use Rattle.jc_instrument.specs.TwinText.{IsWrittenFor, giver_in};
+ghost use Rattle.jc_instrument.specs.Writing.{AreReadyWorks, IsFullFor, IsTwinFrom, RefusesWorks};
 
 use crate::again::source_of;
-use crate::members::{PlannedBodies, data_member, init_member, put_codes};
-use crate::needs::{MemberPlaces, take_members};
+use crate::attributes::twin_attributes;
+use crate::constants::ProbeConstants;
+use crate::members::{PlannedBodies, init_member, put_codes, with_added_fields};
+use crate::needs::{MemberPlaces, take_constants, take_members};
 use crate::ready_class::ReadyClass;
 use jc_bytes::{Fail, Names, Refusal, RefusalKind};
 use jc_class::ClassFile;
 use jc_instrument_code::{CodePlaces, first_text};
+use jc_methods::Fetch;
 use jc_pool::{Pool, PoolFull};
 use std::alloc::Global;
 
@@ -48,10 +50,21 @@ fn text_place(pool: &Pool, text: &[u8]) -> u16
     }
 }
 
+/// The place of what the prelude names first.
+fn giver_place(constants: &ProbeConstants, members: &MemberPlaces) -> u16
+    ensures { result ≡ giver_in constants.now members.now }
+{
+    match constants.fetch {
+        Fetch::Member => members.method,
+        Fetch::Constant => constants.giver,
+    }
+}
+
 /// Where the pool has what the Code attributes name. A text that stands nowhere is one that no method needs.
-fn code_places(pool: &Pool, members: &MemberPlaces) -> CodePlaces
+fn code_places(pool: &Pool, constants: &ProbeConstants, members: &MemberPlaces) -> CodePlaces
     ensures texts { AreTextPlaces pool.now result }
-    ensures method { result.method ≡ members.now.method }
+    ensures giver { result.giver ≡ giver_in constants.now members.now }
+    ensures array { result.array ≡ members.now.array }
     ensures frames { result.frames ≡ members.now.frames }
     ensures few { length pool.now ≤ 65535 }
 {
@@ -59,7 +72,8 @@ fn code_places(pool: &Pool, members: &MemberPlaces) -> CodePlaces
     let count = pool.count();
     prove!(count <= u16::MAX);
     CodePlaces {
-        method: members.method,
+        giver: giver_place(constants, members),
+        array: members.array,
         lines: text_place(pool, b"LineNumberTable"),
         vars: text_place(pool, b"LocalVariableTable"),
         kind_vars: text_place(pool, b"LocalVariableTypeTable"),
@@ -67,8 +81,7 @@ fn code_places(pool: &Pool, members: &MemberPlaces) -> CodePlaces
     }
 }
 
-/// The instrumented class. The pool of the class has taken what the added members need, and takes the classes that frames
-/// name. Bodies that weren't kept are read again from `source`.
+/// The instrumented class. The pool of the class has taken what the added members need, and takes what frames ask for. Bodies that weren't kept are read again from `source`.
 fn twin_class(
     alloc: Global,
     class: ClassFile,
@@ -78,18 +91,25 @@ fn twin_class(
     places: &TwinPlaces,
 ) -> Result<ClassFile, Fail<PoolFull>>
     requires few { ready.probes ≤ most_probes }
-    requires method { places.now.codes.method ≡ places.now.members.method }
+    requires giver { places.now.codes.giver ≡ giver_in ready.constants places.now.members }
+    requires array { places.now.codes.array ≡ places.now.members.array }
     requires frames { places.now.codes.frames ≡ places.now.members.frames }
-    requires ready { AreReadyFrom names.old source.now ready.bodies }
+    requires ready { AreReadyFrom names.old ready.constants source.now ready.bodies }
     requires coded { AreCoded class.pool class.methods ready.bodies }
-    ensures twin { (others : ClassNames) (array : ℕ) (works : Seq Work)
-        → ArePlannedWorks names.old others array source.now ready.bodies works → ready.probes ≡ all_probes (bodies_of works)
-        → IfOk result (IsTwinFrom class places.now others array works) }
-    ensures refused { (others : ClassNames) (array : ℕ) (works : Seq Work)
-        → ArePlannedWorks names.old others array source.now ready.bodies works
-        → IfErr result (RefusesEach class.pool (frame_needs (all_frames others array works))) }
+    requires number { IsNextBootstrap ready.constants.fetch (bootstrap_bodies class.pool class.attributes) ready.bootstrap }
+    requires room { ready.bootstrap < 65535 }
+    ensures twin { (others : ClassNames) (array : ℕ) (works : Seq Work) → AreReadyWorks names.old others ready array source.now works
+        → IfOk result (IsTwinFrom class places.now ready others array works) }
+    ensures refused { (others : ClassNames) (array : ℕ) (works : Seq Work) → AreReadyWorks names.old others ready array source.now works
+        → IfErr result (RefusesWorks class.pool ready.constants others array works) }
 {
-    let ReadyClass { bodies, probes } = ready;
+    let ReadyClass {
+        bodies,
+        probes,
+        bootstrap,
+        constants,
+    } = ready;
+    let fetch = constants.fetch;
     let ClassFile {
         minor,
         major,
@@ -98,14 +118,20 @@ fn twin_class(
         this_class,
         super_class,
         interfaces,
-        mut fields,
+        fields,
         methods,
         attributes,
     } = class;
-    let all = PlannedBodies { bodies, source };
+    let all = PlannedBodies {
+        bodies,
+        source,
+        constants: &constants,
+    };
+    let members = &places.members;
+    let attributes = twin_attributes(alloc, &pool, attributes, fetch, bootstrap, members)?;
     let mut methods = put_codes(alloc, methods, all, &places.codes, names, &mut pool)?;
-    fields.push(data_member(alloc, &places.members))?;
-    methods.push(init_member(alloc, &places.members, probes)?)?;
+    let fields = with_added_fields(alloc, fields, fetch, members)?;
+    methods.push(init_member(alloc, fetch, members, probes)?)?;
     Ok(ClassFile {
         minor,
         major,
@@ -129,8 +155,8 @@ pub struct ClassIdentity<'a> {
     pub name: &'a [u8],
 }
 
-/// The instrumented class of a class with this id and this name, whose bodies are ready. Its pool takes what the added
-/// members need, and then the classes that frames name, body after body. `source` is the class as it was given.
+/// The instrumented class of a class with this id and this name, whose bodies are ready. Its pool takes the constants that code
+/// loads, what the added members need, and then what frames ask for, body after body. `source` is the class as it was given.
 fn written_twin(
     alloc: Global,
     identity: ClassIdentity<'_>,
@@ -146,12 +172,17 @@ fn written_twin(
     requires source { source.now ≡ source_of ready.bodies class }
     requires sizes { All (λ m. BodiesWithin most_read m.attributes) class.methods }
     requires few { ready.probes ≤ most_probes }
+    requires number { ready.bootstrap < 65535 }
     ensures twin { IfOk result (IsWrittenFor identity.entry.id class) }
     ensures refused { IfErr result (IsFullFor identity.entry.id class) }
 {
     let mut class = class;
-    let members = take_members(alloc, identity.name, identity.id, &mut class.pool)?;
-    let codes = code_places(&class.pool, &members);
+    let fetch = ready.constants.fetch;
+    let probes = ready.probes;
+    take_constants(alloc, fetch, ready.bootstrap, probes, &mut class.pool)?;
+    let ClassIdentity { id, name } = identity;
+    let members = take_members(alloc, fetch, name, id, probes, &mut class.pool)?;
+    let codes = code_places(&class.pool, &ready.constants, &members);
     let places = TwinPlaces { members, codes };
     twin_class(alloc, class, ready, source, names, &places)
 }
@@ -172,6 +203,7 @@ fn twin_from(
     requires source { source ≡ source_of ready.bodies class }
     requires sizes { All (λ m. BodiesWithin most_read m.attributes) class.methods }
     requires few { ready.probes ≤ most_probes }
+    requires number { ready.bootstrap < 65535 }
     ensures twin { IfOk result (IsWrittenFor identity.entry.id class) }
     ensures refused { IfErr result (IsFullFor identity.entry.id class) }
 {
@@ -196,6 +228,7 @@ pub fn grown_twin(
     requires ready { IsReadyClass names.old class ready }
     requires sizes { All (λ m. BodiesWithin most_read m.attributes) class.methods }
     requires few { ready.probes ≤ most_probes }
+    requires number { ready.bootstrap < 65535 }
     ensures twin { IfOk result (IsWrittenFor identity.entry.id class) }
     ensures refused { IfErr result (λ e. Said e (HasFullPool identity.entry.id class)) }
 {

@@ -1,5 +1,5 @@
 //! Instrumented class files.
-ghost use Rattle.std.specs.Prelude.{◌≡◌, ◌⊎◌, ◌≤◌, ⊤, true, false, length, All, Some, None, IfOk, IfErr, MatchResult};
+ghost use Rattle.std.specs.Prelude.{◌≡◌, ◌⊎◌, ◌≤◌, ◌<◌, ⊤, true, false, length, All, Some, None, IfOk, IfErr, MatchResult};
 ghost use Rattle.std.specs.List.{list_any};
 ghost use Rattle.jc_bytes.specs.ByteLists.{AreBytes};
 ghost use Rattle.jc_bytes.specs.Reader.{most_read};
@@ -74,14 +74,18 @@ fn is_too_long(attribute: &Attribute) -> bool
     attribute.body.len() > MOST_BYTES
 }
 
+/// Whether one of the attributes would.
+fn some_attribute_too_long(attributes: &[Attribute]) -> bool
+    ensures { result ≡ list_any is_too_long attributes.now }
+{
+    attributes.iter().any(|attribute| is_too_long(attribute))
+}
+
 /// Whether one of the method's attributes would.
 fn has_too_long(method: &Member) -> bool
     ensures { result ≡ has_too_long method.now }
 {
-    method
-        .attributes
-        .iter()
-        .any(|attribute| is_too_long(attribute))
+    some_attribute_too_long(&method.attributes)
 }
 
 /// Whether an attribute of one of the methods would.
@@ -112,6 +116,7 @@ fn named_class(
     requires changes { is_left_alone class.now ≡ false }
     ensures ready { IfOk result (λ named. IsReadyClass names.new class.now named.ready) }
     ensures few { IfOk result (λ named. named.ready.probes ≤ most_probes) }
+    ensures number { IfOk result (λ named. named.ready.bootstrap < 65535) }
     ensures name { IfOk result (λ named. class_name_of class.now.pool class.now.this_class ≡ Some named.name) }
     ensures short { IfOk result (λ named. IsShortText named.name) }
     ensures refused { IfErr result (λ e. Said e (IsFirstCause (making_causes class.now))) }
@@ -121,13 +126,13 @@ fn named_class(
     Ok(NamedClass { ready, name })
 }
 
-/// The bytes of an instrumented class, whose methods have no attribute that is too long.
+/// The bytes of an instrumented class, of which no attribute is too long.
 fn class_bytes(alloc: Global, twin: ClassFile) -> Result<Bytes, Memory>
-    requires { list_any has_too_long twin.methods ≡ false → IsClassFile twin }
+    requires { list_any has_too_long twin.methods ≡ false → list_any is_too_long twin.attributes ≡ false → IsClassFile twin }
     ensures text { IfOk result (λ bytes. ClassText bytes twin) }
     ensures bytes { IfOk result AreBytes }
 {
-    if some_too_long(&twin.methods) {
+    if some_too_long(&twin.methods) || some_attribute_too_long(&twin.attributes) {
         return Err(Memory);
     }
     let bytes = write_class(alloc, &twin)?;
@@ -153,6 +158,7 @@ fn twin_bytes(
     requires ready { IsReadyClass names.old class ready }
     requires sizes { All (λ m. BodiesWithin most_read m.attributes) class.methods }
     requires few { ready.probes ≤ most_probes }
+    requires number { ready.bootstrap < 65535 }
     ensures text { IfOk result (IsTwinText identity.entry.id class) }
     ensures refused { IfErr result (λ e. Said e (HasFullPool identity.entry.id class)) }
 {
@@ -212,8 +218,9 @@ fn whole(alloc: Global, bytes: &[u8]) -> Result<Instrumented, Fail<Refusal>>
 /// The class file with its probes, or the reason for which it has none.
 ///
 /// A module file, a synthetic class and a class or an interface without code (JVM Specification 4.1) stay as they
-/// are, without probes. Another class has in its code a probe for each probed edge of its control flow, a field and a
-/// method that keep and give the array of probes, and in its constant pool what these name. The ids of its probes run
+/// are, without probes. Another class has in its code a probe for each probed edge of its control flow, and in its constant pool
+/// what these name. Below version 55 a field and a method are added that keep and give the array of probes; from 55 on the array is
+/// given by a constant (4.4.10), whose bootstrap method is added, the last one of the attribute BootstrapMethods (4.7.23). The ids of its probes run
 /// from 0 through the bodies (JaCoCo's documentation on control flow). The id of the class is that of the bytes given.
 ///
 /// # Errors
@@ -224,12 +231,15 @@ fn whole(alloc: Global, bytes: &[u8]) -> Result<Instrumented, Fail<Refusal>>
 /// 1. The eight refusals of [`crate::analyse`], in their order.
 /// 2. `StraddlingLocal`, at the instruction, where a long or a double has one half in the last local variable of the
 ///    arguments (JVM Specification 2.6.1).
-/// 3. `TooManyProbes`, with their number, where there are more than 32,767.
-/// 4. `MembersFull`, at 65,536, where the class has 65,535 fields or methods (4.1).
-/// 5. `LocalsFull`, at 65,536, where a method has 65,535 local variables (4.7.3).
-/// 6. `StackFull`, with the depth that is needed, where the stack has no room for three operands more (4.7.3).
-/// 7. `CodeTooLarge`, with its length, where the code of a method would have more than 65,535 bytes (4.7.3).
-/// 8. `PoolFull`, at 65,536, where the constant pool would have a count above 65,535 (4.1).
+/// 3. `TooManyProbes`, with their number, where there are more than 65,535.
+/// 4. `MembersFull`, at 65,536, where the class has 65,535 methods or, below version 55, as many fields (4.1).
+/// 5. `BadBootstraps`, from version 55 on: at 0 where there are two attributes BootstrapMethods, or one that isn't of its form
+///    (4.7.23), or where a bootstrap method has a handle or an argument at a place, or an entry of the pool asks for a bootstrap
+///    method with a number, that isn't there; else at 65,536 where there are 65,535 of them, or no such attribute among 65,535.
+/// 6. `LocalsFull`, at 65,536, where a method has 65,535 local variables (4.7.3).
+/// 7. `StackFull`, with the depth that is needed, where the stack has no room for three operands more (4.7.3).
+/// 8. `CodeTooLarge`, with its length, where the code of a method would have more than 65,535 bytes (4.7.3).
+/// 9. `PoolFull`, at 65,536, where the constant pool would have a count above 65,535 (4.1).
 pub fn instrument(alloc: Global, bytes: &[u8]) -> Result<Instrumented, Fail<Refusal>>
     requires size { length bytes.now ≤ most_read }
     // What is answered is so.

@@ -6,6 +6,7 @@ use Rattle.std.specs.List.{flat_map, AllByRecursion}
 use Rattle.std.proofs.Math.Nat.{mod-lt}
 use Rattle.std.proofs.lemmas.Bool.{cases_lt, and_parts, ltb-true}
 use Rattle.std.proofs.lemmas.List.Elements.{recursion_from_All}
+use Rattle.jc_methods.specs.declared.probe_members.Fetch.{Fetch}
 use Rattle.jc_bytes.specs.ByteLists.{AreBytes}
 use Rattle.jc_methods.specs.Flow.{flow_of, jump_target, inverse_of}
 use Rattle.jc_methods.specs.Insn.{with_places, IsWellFormed}
@@ -40,16 +41,18 @@ use Rattle.jc_plan.proofs.CountLaws.{each_joined}
 use Rattle.jc_plan.specs.Plan.{lead_probe}
 use Rattle.jc_plan.specs.Probed.{probe_of}
 use Rattle.jc_plan.specs.declared.branch.Branch.{Branch}
-use Rattle.jc_emit.specs.Items.{Item, insn_of, lead_part, early_part, hop_part, arm_parts, tests_part, image_part, lead_of, land_of, segment, twin_items}
+use Rattle.jc_emit.specs.Items.{Item, insn_of, lead_part, early_part, hop_part, arm_parts, tests_part, image_part, lead_of, land_of, prelude, segment, twin_items}
 use Rattle.jc_emit.specs.Marks.{push, push_by, unplaced}
+use Rattle.jc_emit.specs.Stages.{emitted_code}
 use Rattle.jc_emit.specs.Sizes.{narrow, insn_at, early_probe, late_probe, arms_at}
 use Rattle.jc_emit.specs.TwinCode.{to_of}
 use Rattle.jc_emit.specs.Written.{integer_in}
-use Rattle.jc_layout.specs.LaidBody.{with_place}
+use Rattle.jc_layout.specs.LaidBody.{constant_size, ready_code, with_operand, with_place}
 use Rattle.jc_layout.specs.Layout.{chosen, chosen_starts, chosen_text}
 use Rattle.jc_layout.proofs.FormedLaws.{inverse_form}
-use Rattle.jc_layout.proofs.LayableLaws.{all_formed}
-use Rattle.jc_instrument.specs.RoomCauses.{probed_code}
+use Rattle.jc_layout.proofs.LayableLaws.{all_formed, ready_formed}
+use Rattle.jc_instrument.specs.Constants.{probed_code}
+use Rattle.jc_instrument.specs.declared.constants.ProbeConstants.{ProbeConstants}
 use Rattle.jc_instrument_laws.proofs.ClassSpellingLaws.{bytes_both, big_bytes_are}
 
 pub short_are : (x : ℕ) → AreBytes (short x)
@@ -197,11 +200,17 @@ code_are places wide n (insn ∷ code) (at ∷ starts) formed small =
     (insn_are at (wide n) (with_places places insn) (well_formed_with places insn formed.0) (places_byte places insn small.0))
     (code_are places wide (suc n) code starts formed.1 small.1)
 
-pub placed_are : (call : ℕ) (bytes : List ℕ) → AreBytes bytes → AreBytes (with_place call bytes)
-placed_are call [] are = tt
-placed_are call (a ∷ []) are = are
-placed_are call (a ∷ b ∷ []) are = are
-placed_are call (op ∷ high ∷ low ∷ bytes) are = (are.0, bytes_both (short call) bytes (short_are call) are.1.1.1)
+operand_are : (offset place : ℕ) (bytes : List ℕ) → AreBytes bytes → AreBytes (with_operand offset place bytes)
+operand_are zero place [] are = tt
+operand_are zero place (a ∷ []) are = are
+operand_are zero place (a ∷ b ∷ []) are = are
+operand_are zero place (op ∷ high ∷ low ∷ bytes) are = (are.0, bytes_both (short place) bytes (short_are place) are.1.1.1)
+operand_are (suc offset) place [] are = tt
+operand_are (suc offset) place (a ∷ bytes) are = (are.0, operand_are offset place bytes are.1)
+
+pub placed_are : (fetch : Fetch) (giver array : ℕ) (bytes : List ℕ) → AreBytes bytes → AreBytes (with_place fetch giver array bytes)
+placed_are fetches.Member giver array bytes are = operand_are 0 giver bytes are
+placed_are fetches.Constant giver array bytes are = operand_are (constant_size giver) array bytes are
 
 -- ---- the code of a body
 
@@ -229,9 +238,9 @@ push_by_byte integer n = by (nat_le n most_short)
     by true = push_byte n
     by false = tt
 
-module _ (b : Body) (first : ℕ) (small : AllByRecursion HasByte b.code) where
+module _ (constants : ProbeConstants) (b : Body) (first : ℕ) (small : AllByRecursion HasByte b.code) where
   abbrev ItemByte : Item → Type 0
-  ItemByte x = HasByte (insn_of (unplaced (integer_in [])) b.arg_slots x)
+  ItemByte x = HasByte (insn_of (unplaced (integer_in constants.integers)) b.arg_slots x)
 
   abbrev AllItems : List Item → Type 0
   AllItems xs = AllByRecursion ItemByte xs
@@ -243,58 +252,72 @@ module _ (b : Body) (first : ℕ) (small : AllByRecursion HasByte b.code) where
 
   lead_byte : (o : Option ℕ) (i : ℕ) → AllItems (lead_part o i)
   lead_byte None i = tt
-  lead_byte (Some id) i = (tt, (push_by_byte (integer_in []) id, (tt, (tt, tt))))
+  lead_byte (Some id) i = (tt, (push_by_byte (integer_in constants.integers) id, (tt, (tt, tt))))
 
   early_byte : (o : Option ℕ) (i : ℕ) → AllItems (early_part o i)
   early_byte None i = tt
-  early_byte (Some id) i = (tt, (push_by_byte (integer_in []) id, (tt, (tt, tt))))
+  early_byte (Some id) i = (tt, (push_by_byte (integer_in constants.integers) id, (tt, (tt, tt))))
 
   hop_byte : (land : ℕ → ℕ) (o : Option ℕ) (to : ℕ) → AllItems (hop_part land o to)
   hop_byte land None to = tt
-  hop_byte land (Some id) to = (tt, (push_by_byte (integer_in []) id, (tt, (tt, (tt, tt)))))
+  hop_byte land (Some id) to = (tt, (push_by_byte (integer_in constants.integers) id, (tt, (tt, (tt, tt)))))
 
   arms_byte : (land : ℕ → ℕ) (xs : List Branch) → AllItems (arm_parts land (probe_of b first) xs)
   arms_byte land [] = tt
   arms_byte land (x ∷ xs) = each_joined ItemByte (hop_part land (probe_of b first x) (to_of x)) (arm_parts land (probe_of b first) xs)
       (hop_byte land (probe_of b first x) (to_of x)) (arms_byte land xs)
 
-  tests_byte : (i : ℕ) (insn : Insn) (o : Option ℕ) → HasByte insn → AllItems (tests_part b first (narrow fetches.Member) i insn o)
-  tests_byte i insn None h = (places_byte (land_of b first (narrow fetches.Member)) insn h, tt)
+  tests_byte : (i : ℕ) (insn : Insn) (o : Option ℕ) → HasByte insn → AllItems (tests_part b first (narrow constants.fetch) i insn o)
+  tests_byte i insn None h = (places_byte (land_of b first (narrow constants.fetch)) insn h, tt)
   tests_byte i insn (Some id) h =
-      (inverted_byte (lead_of b first (narrow fetches.Member) (i + 1)) insn h, hop_byte (land_of b first (narrow fetches.Member)) (Some id) (jump_target insn))
+      (inverted_byte (lead_of b first (narrow constants.fetch) (i + 1)) insn h, hop_byte (land_of b first (narrow constants.fetch)) (Some id) (jump_target insn))
 
-  image_byte : (i : ℕ) (insn : Insn) (flow : Flow) → HasByte insn → AllItems (image_part b first (narrow fetches.Member) i insn flow)
+  image_byte : (i : ℕ) (insn : Insn) (flow : Flow) → HasByte insn → AllItems (image_part b first (narrow constants.fetch) i insn flow)
   image_byte i insn flows.GoesOn h = (slot_byte b.arg_slots insn h, tt)
   image_byte i insn flows.Branches h = tests_byte i insn (late_probe b first i) h
-  image_byte i insn flows.Jumps h = (places_byte (land_of b first (narrow fetches.Member)) insn h, tt)
-  image_byte i insn flows.Switches h = (places_byte _ insn h, arms_byte (land_of b first (narrow fetches.Member)) (arms_at b.code i))
+  image_byte i insn flows.Jumps h = (places_byte (land_of b first (narrow constants.fetch)) insn h, tt)
+  image_byte i insn flows.Switches h = (places_byte _ insn h, arms_byte (land_of b first (narrow constants.fetch)) (arms_at b.code i))
   image_byte i insn flows.Returns h = (h, tt)
   image_byte i insn flows.Throws h = (h, tt)
 
-  segment_byte : (i : ℕ) → AllItems (segment b first (narrow fetches.Member) i)
+  segment_byte : (i : ℕ) → AllItems (segment b first (narrow constants.fetch) i)
   segment_byte i =
       each_joined ItemByte (lead_part (lead_probe b first i) i) _ (lead_byte (lead_probe b first i) i)
       (each_joined ItemByte (early_part (early_probe b first i) i) _ (early_byte (early_probe b first i) i)
       (image_byte i (insn_at b.code i) (flow_of (insn_at b.code i)) (at_byte b.code small i)))
 
-  pieces_byte : (n : ℕ) → AllItems (pieces (segment b first (narrow fetches.Member)) n)
+  pieces_byte : (n : ℕ) → AllItems (pieces (segment b first (narrow constants.fetch)) n)
   pieces_byte zero = tt
-  pieces_byte (suc n) = each_joined ItemByte (pieces (segment b first (narrow fetches.Member)) n) (segment b first (narrow fetches.Member) n) (pieces_byte n) (segment_byte n)
+  pieces_byte (suc n) = each_joined ItemByte (pieces (segment b first (narrow constants.fetch)) n) (segment b first (narrow constants.fetch) n) (pieces_byte n) (segment_byte n)
 
-  items_byte : AllItems (twin_items b first (narrow fetches.Member))
+  prelude_byte : (fetch : Fetch) → AllItems (prelude fetch)
+  prelude_byte fetches.Member = (tt, (tt, tt))
+  prelude_byte fetches.Constant = (tt, (tt, (tt, tt)))
+
+  items_byte : AllItems (twin_items b first (narrow constants.fetch))
   unfolding twin_items
-  items_byte = (tt, (tt, pieces_byte (length b.code)))
+  items_byte =
+      each_joined ItemByte (prelude constants.fetch) (pieces (segment b first (narrow constants.fetch)) (length b.code)) (prelude_byte constants.fetch)
+      (pieces_byte (length b.code))
 
-  mapped_byte : (xs : List Item) → AllItems xs → AllByRecursion HasByte (map (insn_of (unplaced (integer_in [])) b.arg_slots) xs)
+  mapped_byte : (xs : List Item) → AllItems xs → AllByRecursion HasByte (map (insn_of (unplaced (integer_in constants.integers)) b.arg_slots) xs)
   mapped_byte [] all = tt
   mapped_byte (x ∷ xs) all = (all.0, mapped_byte xs all.1)
 
-  pub text_are : IsWellMadeOfAnySize b → AreBytes (chosen_text (probed_code b first))
+  ready_byte : (fetch : Fetch) (place : ℕ) (code : List Insn) → AllByRecursion HasByte code → AllByRecursion HasByte (ready_code fetch place code)
+  ready_byte fetches.Member place code all = all
+  ready_byte fetches.Constant place [] all = tt
+  ready_byte fetches.Constant place (load ∷ code) all = (tt, all.1)
+
+  pub text_are : IsWellMadeOfAnySize b → AreBytes (chosen_text (probed_code constants b first))
   unfolding chosen_text
   text_are made =
-      let code = probed_code b first in
+      let code = probed_code constants b first in
+      let emitted = emitted_code b first constants.fetch (integer_in constants.integers) in
       code_are (slice_index (chosen_starts code)) (chosen code) 0 code (chosen_starts code)
-      (recursion_from_All IsWellFormed code (all_formed b first fetches.Member (integer_in []) made.code)) (mapped_byte (twin_items b first (narrow fetches.Member)) items_byte)
+      (recursion_from_All IsWellFormed code
+      (ready_formed constants.fetch constants.giver emitted (all_formed b first constants.fetch (integer_in constants.integers) made.code)))
+      (ready_byte constants.fetch constants.giver emitted (mapped_byte (twin_items b first (narrow constants.fetch)) items_byte))
 
 -- ---- the code that was read
 

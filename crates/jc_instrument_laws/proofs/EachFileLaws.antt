@@ -1,14 +1,15 @@
 -- Bytes become an instrumented class file, or have a reason for which they don't.
-use Rattle.std.proofs.Common.{◌≡◌, ◌⊎◌, inl, inr, ℕ, ℤ, ◌<◌, ◌≤◌, Bool, true, false, List, [], ◌∷◌, ◌++◌, length, Some, refl, sym, subst, arith}
-use Rattle.std.specs.List.{AllByRecursion}
+use Rattle.std.proofs.Common.{◌≡◌, ◌⊎◌, inl, inr, ℕ, ◌<◌, ◌≤◌, Bool, true, false, List, [], ◌∷◌, ◌++◌, length, Some, refl, sym, subst, arith}
 use Rattle.std.proofs.lemmas.Bool.{cases_lt}
 use Rattle.jc_bytes.specs.ByteLists.{AreBytes}
-use Rattle.jc_methods.specs.VerificationTypes.{TypeStateAt}
+use Rattle.jc_methods.specs.ProbeMembers.{fetch_of}
+use Rattle.jc_methods.specs.declared.probe_members.Fetch.{Fetch}
+use Rattle.jc_methods.specs.declared.probe_members.Fetch.TheVariants as fetches
 use Rattle.jc_bytes.specs.Reader.{most_read}
 use Rattle.jc_bytes.specs.declared.refusal.Refusal.{Refusal}
 use Rattle.jc_bytes.specs.declared.refusal.RefusalKind.TheVariants as kinds
 use Rattle.jc_methods.specs.declared.body.Body.{Body}
-use Rattle.jc_pool.specs.Pool.{PoolValue}
+use Rattle.jc_bootstraps.specs.Bootstraps.{bootstrap_bodies}
 use Rattle.jc_class.specs.ClassId.{class_id}
 use Rattle.jc_class.specs.ClassText.{ClassText, FirstBad, not_a_class}
 use Rattle.jc_class.specs.Writable.{IsClassFile}
@@ -20,17 +21,17 @@ use Rattle.jc_instrument.specs.Bodies.{AreBodiesOf}
 use Rattle.jc_instrument.specs.Causes.{Cause, Never, IsFirstCause, NoCause, unless, of_class}
 use Rattle.jc_instrument.specs.InstrumentedFile.{Becomes, IsInstrumentedFile}
 use Rattle.jc_instrument.specs.LeftAlone.{is_left_alone}
-use Rattle.jc_instrument.specs.Needed.{name_of, signed_id, needed, needs_of, TakesNeeds}
+use Rattle.jc_instrument.specs.Bootstraps.{TakesNoBootstrap}
+use Rattle.jc_instrument.specs.Needed.{GetsBy, IsNextBootstrap, name_of, needed, signed_id}
 use Rattle.jc_instrument.specs.Reasons.{analysis_causes, code_causes, interface_causes, class_causes}
 use Rattle.jc_instrument.specs.Refused.{Reason}
-use Rattle.jc_instrument.specs.RoomCauses.{HasFullPool, HasTooLargeCode, early_room_causes, room_causes}
-use Rattle.jc_instrument.specs.TwinText.{IsWritten, twin_class}
+use Rattle.jc_instrument.specs.RoomCauses.{HasBadBootstraps, HasFullPool, HasTooLargeCode, early_room_causes, room_causes}
+use Rattle.jc_instrument.specs.TwinText.{IsReadyFor, IsWritten, Writing, twin_class}
 use Rattle.jc_instrument.specs.BodiesWithStates.{bodies_of, all_frames}
-use Rattle.jc_instrument.specs.declared.needs.MemberPlaces.{MemberPlaces}
 use Rattle.jc_instrument.specs.declared.whole.Instrumented.{Instrumented}
 use Rattle.jc_instrument.proofs.CauseLaws.{first_behind, first_in_front, none_in_both}
 use Rattle.jc_instrument.proofs.CausesDecidedLaws.{causes_decided}
-use Rattle.jc_instrument.proofs.ClassTakingLaws.{all_classes_entire}
+use Rattle.jc_instrument.proofs.BootstrapsDecidedLaws.{next_or_none}
 use Rattle.jc_instrument.proofs.DecidedLaws.{first_or_none, none_behind}
 use Rattle.jc_instrument.proofs.EachAnalysisLaws.{bodies_checked}
 use Rattle.jc_instrument.proofs.FullPoolLaws.{no_full_pool}
@@ -38,8 +39,9 @@ use Rattle.jc_instrument.proofs.PoolTextLaws.{class_pool}
 use Rattle.jc_instrument.proofs.RoomDecidedLaws.{rooms_decided}
 use Rattle.jc_instrument.proofs.SomeBodiesLaws.{AllBodies, all_bodies}
 use Rattle.jc_instrument.proofs.SomeWorksLaws.{AllWorks, all_works}
-use Rattle.jc_instrument.proofs.TakenNeedsLaws.{takes_needed}
-use Rattle.jc_instrument.proofs.TakingLaws.{IsEntire, some_takings}
+use Rattle.jc_instrument.proofs.ConstantsLaws.{some_constants}
+use Rattle.jc_instrument.proofs.TakenNeedsLaws.{ready_found}
+use Rattle.jc_instrument.proofs.TakingLaws.{some_takings}
 use Rattle.jc_instrument.proofs.TextSizesLaws.{class_size}
 use Rattle.jc_instrument_laws.proofs.TwinSpellingLaws.{twin_text}
 
@@ -47,19 +49,46 @@ use Rattle.jc_instrument_laws.proofs.TwinSpellingLaws.{twin_text}
 abbrev making : ClassFile → List Cause
 making c = early_room_causes c ++ (HasTooLargeCode c ∷ [])
 
--- ---- what is needed of a pool
+-- ---- how a class gets its array
 
-all_entire : (owner : List ℕ) (id : ℤ) (frames : List TypeStateAt) → AllByRecursion IsEntire (needed owner id frames)
-all_entire owner id frames = (tt, (tt, (tt, (tt, (tt, (tt, (tt, (tt, (tt, (tt, (tt, (tt, all_classes_entire frames))))))))))))
+-- there is room for one more behind those that attributes of the name hold
+abbrev TakesOne : ClassFile → List (List ℕ) → Type 0
+TakesOne c bodies = (place : ℕ) → TakesNoBootstrap c.pool (length c.attributes) bodies place → ⊥
 
--- a pool that takes it, whatever its count
-some_pool : (id : ℕ) (c : ClassFile) (bodies : List Body) (w : AllWorks c bodies)
-    → (pool : PoolValue) × (places : MemberPlaces) × TakesNeeds id w.names w.array c w.works pool places
-some_pool id c bodies w =
-    let frames = all_frames w.names w.array w.works in
-    let some = some_takings c.pool (needs_of id w.names w.array c w.works) (all_entire (name_of c) (signed_id id) frames) in
-    let taken = takes_needed c.pool some.0 (name_of c) (signed_id id) frames some.1 some.2 in
-    (some.0, taken.0, taken.1)
+abbrev HasNext : List (List ℕ) → Type 0
+HasNext bodies = (bootstrap : ℕ) × IsNextBootstrap fetches.Constant bodies bootstrap
+
+next_number : (c : ClassFile) (bodies : List (List ℕ)) → TakesOne c bodies → HasNext bodies
+next_number c bodies none = by bodies none (next_or_none fetches.Constant bodies)
+  where
+    by : (bodies : List (List ℕ)) → TakesOne c bodies → HasNext bodies ⊎ ((bootstrap : ℕ) → IsNextBootstrap fetches.Constant bodies bootstrap → ⊥)
+        → HasNext bodies
+    by bodies none (inl next) = next
+    by [] none (inr never) = (0, refl)
+    by (body ∷ []) none (inr never) = absurd (none 0 (inl ((λ entries text. never (length entries) (entries, text, refl)), refl)))
+    by (body ∷ other ∷ bodies) none (inr never) = absurd (none 0 refl)
+
+-- where one more bootstrap method can be added, the class gets its array so
+some_way : (c : ClassFile) → Never (HasBadBootstraps c) → (bootstrap : ℕ) × GetsBy c (fetch_of c.major) bootstrap
+some_way c never =
+    let next = by (fetch_of c.major) refl in
+    (next.0, record { fetch_is = refl; bootstrap_is = next.1 })
+  where
+    by : (fetch : Fetch) → fetch_of c.major ≡ fetch → (bootstrap : ℕ) × IsNextBootstrap fetch (bootstrap_bodies c.pool c.attributes) bootstrap
+    by fetches.Member same = (0, refl)
+    by fetches.Constant same =
+        next_number c (bootstrap_bodies c.pool c.attributes) (λ place none. never _ (record { by_constant = same; place = place; none = none; refusal = refl }))
+
+-- what it is written with, whatever the count of its pool
+some_writing : (id : ℕ) (c : ClassFile) (bodies : List Body) (w : AllWorks c bodies) (bootstrap : ℕ) → GetsBy c (fetch_of c.major) bootstrap
+    → (v : Writing) × IsReadyFor id w.names w.array w.works c v
+some_writing id c bodies w bootstrap gets =
+    let count = all_probes (bodies_of w.works) in
+    let some = some_constants c count bootstrap gets in
+    let frames = all_frames w.names some.0 w.array w.works in
+    let all = some_takings c.pool (needed some.0.fetch bootstrap (name_of c) (signed_id id) count frames) in
+    let found = ready_found id w.names w.array c w.works bootstrap some.0 w.are some.1 all.0 all.1 all.2 in
+    (found.0, found.1)
 
 -- ---- a class that doesn't stay as it is, for which no cause of its analysis holds
 
@@ -105,39 +134,34 @@ module _ (bytes : List ℕ) (c : ClassFile) (text : ClassText bytes c) (is : IsC
         (subst (λ (t : Bool). NoCause (unless t (interface_causes c ++ code_causes c))) changes
         (none_behind (class_causes c) (unless (is_left_alone c) (interface_causes c ++ code_causes c)) none))
 
-    module _ (none_room : NoCause (making c)) (all : AllBodies c) (of_class_is : AreBodiesOf c all.bodies) (w : AllWorks c all.bodies)
-        (pool : PoolValue) (places : MemberPlaces)
-        (takes : TakesNeeds id w.names w.array c w.works pool places) where
-      full : 65535 < length pool → Found
+    module _ (none_room : NoCause (making c)) (all : AllBodies c) (of_class_is : AreBodiesOf c all.bodies) (w : AllWorks c all.bodies) (v : Writing)
+        (ready : IsReadyFor id w.names w.array w.works c v) where
+      full : 65535 < length v.pool → Found
       full many = refused (of_class kinds.PoolFull 65536) (first_behind (making c) (HasFullPool id c ∷ []) _ none_room (inl (record {
         full = record {
           names = w.names;
           array = w.array;
           works = w.works;
-          are = w.are;
-          pool = pool;
-          places = places;
-          takes = takes;
+          with = v;
+          ready = ready;
           many = many;
         };
         refusal = refl;
       })))
 
-      module _ (few : length pool ≤ 65535) where
+      module _ (few : length v.pool ≤ 65535) where
         abbrev twin : ClassFile
-        twin = twin_class w.names w.array c w.works pool places
+        twin = twin_class w.names w.array c w.works v
 
         written : IsWritten id w.names w.array w.works c twin
-        written = record { are = w.are; pool = pool; places = places; takes = takes; few = few; is = refl }
+        written = record { with = v; ready = ready; few = few; is = refl }
 
         not_full : Never (HasFullPool id c)
         not_full = no_full_pool id w.names w.array w.works c twin written
 
         made : Found
         made =
-            let t = twin_text bytes c text is are short none_room all of_class_is w
-            (λ full. none_room.1.1.0 _ (record { full = full; refusal = refl })) pool places
-            takes few in
+            let t = twin_text bytes c text is are short none_room all of_class_is w v ready few in
             let a : Instrumented =
             record { bytes = t.0; id = id; name = is.this_class.0; probes = all_probes (bodies_of w.works); changed = true } in
             inl (
@@ -165,14 +189,16 @@ module _ (bytes : List ℕ) (c : ClassFile) (text : ClassText bytes c) (is : IsC
             )
 
     with_works : NoCause (making c) → (all : AllBodies c) → AreBodiesOf c all.bodies → AllWorks c all.bodies → Found
-    with_works none_room all are_bodies w = by (some_pool id c all.bodies w)
+    with_works none_room all are_bodies w =
+        let way = some_way c none_room.1.1.1.0 in
+        by (some_writing id c all.bodies w way.0 way.1)
       where
-        by : (pool : PoolValue) × (places : MemberPlaces) × TakesNeeds id w.names w.array c w.works pool places → Found
-        by (pool, places, takes) = by_count (cases_lt 65535 (length pool))
+        by : (v : Writing) × IsReadyFor id w.names w.array w.works c v → Found
+        by (v, ready) = by_count (cases_lt 65535 (length v.pool))
           where
-            by_count : (65535 < length pool) ⊎ (length pool ≤ 65535) → Found
-            by_count (inl many) = full none_room all are_bodies w pool places takes many
-            by_count (inr few) = made none_room all are_bodies w pool places takes few
+            by_count : (65535 < length v.pool) ⊎ (length v.pool ≤ 65535) → Found
+            by_count (inl many) = full none_room all are_bodies w v ready many
+            by_count (inr few) = made none_room all are_bodies w v ready few
 
     with_bodies : AllBodies c → Found
     with_bodies all =

@@ -22,6 +22,7 @@ use Rattle.jc_layout.specs.Layout.{chosen}
 use Rattle.jc_layout.specs.Merged.{is_used_by, merged, used_frames, with_frame}
 use Rattle.jc_layout.proofs.MergedLaws.{merged_cases, used_cases}
 use Rattle.jc_instrument_code.specs.TwinCode.{chosen_frames}
+use Rattle.jc_instrument_reread.specs.WrittenCode.{ready_emission}
 
 -- how many instructions the arms of a switch take
 abbrev pub arms_size : Body → (first : ℕ) → ℕ → ℕ
@@ -110,9 +111,9 @@ module _ (b : Body) (first : ℕ) (states : List State) (given : Emitting) where
       (merged_cases narrow_frames (used_frames wide further) f c)
 
   -- each frame that is written has a moved state
-  pub each_moved : (f : FrameAt) → Contains (chosen_frames (emission b first states given)) f → IsMoved f
+  pub each_moved : (giver : ℕ) (f : FrameAt) → Contains (chosen_frames (ready_emission b first states given giver)) f → IsMoved f
   unfolding emission
-  each_moved f c = chosen_moved (chosen (emission b first states given).code) f c
+  each_moved giver f c = chosen_moved (chosen (ready_emission b first states given giver).code) f c
 
   -- ---- how many there are
 
@@ -191,6 +192,7 @@ module _ (b : Body) (first : ℕ) (states : List State) (given : Emitting) where
       let both = merged_count narrow_frames (used_frames wide further) in
       omega (arith, most, more, used, both)
 
-  pub written_most : 5 * length (chosen_frames (emission b first states given)) ≤ 15 * length b.code + total (arms_size b first) (length b.code)
+  pub written_most : (giver : ℕ)
+      → 5 * length (chosen_frames (ready_emission b first states given giver)) ≤ 15 * length b.code + total (arms_size b first) (length b.code)
   unfolding emission
-  written_most = chosen_most (chosen (emission b first states given).code)
+  written_most giver = chosen_most (chosen (ready_emission b first states given giver).code)

@@ -10,6 +10,7 @@ pub mod NamedFramesLaws
 pub mod WrittenSizesLaws
 pub mod CodeBytesLaws
 pub mod WrittenBytesLaws
+pub mod AttributeBytesLaws
 pub mod ReadCodeLaws
 pub mod TwinSpellingLaws
 pub mod EachFileLaws

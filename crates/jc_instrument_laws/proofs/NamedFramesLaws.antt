@@ -12,12 +12,10 @@ use Rattle.jc_methods.specs.declared.body.FrameAt.{FrameAt}
 use Rattle.jc_methods.specs.declared.kind.Kind.{Kind}
 use Rattle.jc_methods.specs.declared.kind.Kind.TheVariants as kinds
 use Rattle.jc_methods.specs.declared.kind.State.{State}
-use Rattle.jc_methods.specs.declared.probe_members.Fetch.TheVariants as fetches
 use Rattle.jc_bytes.proofs.BooleanLaws.{first_in, later_in}
 use Rattle.jc_frames.specs.Frames.{values_in}
 use Rattle.jc_frames.specs.FullTable.{named_by, named_by_all}
 use Rattle.jc_kinds.specs.Answers.{AreStates}
-use Rattle.jc_emit.specs.Emission.{emission}
 use Rattle.jc_emit.specs.Items.{image_of}
 use Rattle.jc_emit.specs.Shift.{image_kind, probe_array_class}
 use Rattle.jc_emit.specs.Sizes.{narrow, insn_at}
@@ -27,7 +25,9 @@ use Rattle.jc_instrument_laws.proofs.EmittedFramesLaws.{IsOf, IsMoved, each_move
 use Rattle.jc_instrument_laws.proofs.NamedStatesLaws.{HasTexts, state_named, values_named}
 use Rattle.jc_instrument_laws.proofs.NamedStepsLaws.{AllNamed, AreNamed, IsNamed}
 use Rattle.jc_instrument_laws.proofs.PoolSpellingLaws.{IsText}
-use Rattle.jc_instrument_reread.specs.WrittenCode.{by_method}
+use Rattle.jc_instrument_reread.specs.WrittenCode.{ready_emission}
+use Rattle.jc_instrument.specs.Constants.{given_with}
+use Rattle.jc_instrument.specs.declared.constants.ProbeConstants.{ProbeConstants}
 use Rattle.jc_instrument.proofs.WritableLaws.{slots_above, fewer_taken, put_in_count, some_taken, one_put_in}
 
 -- ---- values by their kinds
@@ -63,7 +63,8 @@ record IsSmall (names : Names) (b : Body) (s : State) : Type 0 where
   local_names : AllByRecursion (KindNamed names) s.locals
   stack_names : AllByRecursion (KindNamed names) s.stack
 
-module _ (names : Names) (b : Body) (made : IsWellMadeOfAnySize b) (texts : HasTexts names b) (first : ℕ) (states : List State) (array : ℕ)
+module _ (names : Names) (b : Body) (made : IsWellMadeOfAnySize b) (texts : HasTexts names b) (first : ℕ) (states : List State)
+    (constants : ProbeConstants) (array : ℕ)
     (are : AreStates names b states) (array_is : get_or names array [] ≡ probe_array_class) (array_text : IsText probe_array_class) where
   small_at : (i : ℕ) → IsSmall names b (state_at states i)
   small_at i = by (cases_lt i (length states))
@@ -82,7 +83,7 @@ module _ (names : Names) (b : Body) (made : IsWellMadeOfAnySize b) (texts : HasT
       by (inr past) = subst (IsSmall names b) (sym (get_or_past states i no_state past))
           (record { locals = omega arith; stack = omega arith; local_names = tt; stack_names = tt })
 
-  small : (s : State) → IsOf b first states (by_method array) s → IsSmall names b s
+  small : (s : State) → IsOf b first states (given_with constants array) s → IsSmall names b s
   small s (i, inl is) = subst (IsSmall names b) (sym is) (small_at i)
   small s (i, inr is) =
       let before = small_at i in
@@ -100,11 +101,11 @@ module _ (names : Names) (b : Body) (made : IsWellMadeOfAnySize b) (texts : HasT
     pub count : length f.state.locals + length f.state.stack ≤ b.max_locals + 1 + b.max_stack
     pub named : AreNamed f.state
 
-  small_frame : (f : FrameAt) → IsMoved b first states (by_method array) f → IsSmallFrame (type_state_at names f)
+  small_frame : (f : FrameAt) → IsMoved b first states (given_with constants array) f → IsSmallFrame (type_state_at names f)
   small_frame f moved =
       let s = moved.state in
       let is = small s moved.of in
-      let place = image_of b first (narrow fetches.Member) in
+      let place = image_of b first (narrow constants.fetch) in
       let images = map (image_kind place) s.locals in
       let locals_is : f.state.locals ≡ insert images b.arg_slots (kinds.Object array) = ap (λ (t : State). t.locals) moved.is in
       let stack_is : f.state.stack ≡ map (image_kind place) s.stack = ap (λ (t : State). t.stack) moved.is in
@@ -125,14 +126,14 @@ module _ (names : Names) (b : Body) (made : IsWellMadeOfAnySize b) (texts : HasT
         };
       }
 
-  small_frames : (frames : List FrameAt) → ((f : FrameAt) → Contains frames f → IsMoved b first states (by_method array) f)
+  small_frames : (frames : List FrameAt) → ((f : FrameAt) → Contains frames f → IsMoved b first states (given_with constants array) f)
       → AllByRecursion IsSmallFrame (map (type_state_at names) frames)
   small_frames [] each = tt
   small_frames (f ∷ frames) each =
       (small_frame f (each f (first_in f frames)), small_frames frames (λ g c. each g (later_in f frames g c)))
 
-  pub written_small : AllByRecursion IsSmallFrame (written_frames names (emission b first states (by_method array)))
-  written_small = small_frames (chosen_frames (emission b first states (by_method array))) (each_moved b first states (by_method array))
+  pub written_small : AllByRecursion IsSmallFrame (written_frames names (ready_emission b first states (given_with constants array) constants.giver))
+  written_small = small_frames (chosen_frames (ready_emission b first states (given_with constants array) constants.giver)) (each_moved b first states (given_with constants array) constants.giver)
 
   -- ---- the names of classes
 
@@ -149,5 +150,5 @@ module _ (names : Names) (b : Body) (made : IsWellMadeOfAnySize b) (texts : HasT
       (names_texts (values_in f.state.locals) (values_named f.state.locals all.0.named.locals)) (names_texts f.state.stack all.0.named.stack))
       (frames_texts frames all.1)
 
-  pub written_texts : AllByRecursion IsText (named_by_all (written_frames names (emission b first states (by_method array))))
-  written_texts = frames_texts (written_frames names (emission b first states (by_method array))) written_small
+  pub written_texts : AllByRecursion IsText (named_by_all (written_frames names (ready_emission b first states (given_with constants array) constants.giver)))
+  written_texts = frames_texts (written_frames names (ready_emission b first states (given_with constants array) constants.giver)) written_small

@@ -18,7 +18,7 @@ use Rattle.jc_class.proofs.ReadClassLaws.{IsOfBytes}
 
 -- ---- a Code attribute
 
-kept_are : (p : Attribute → Bool) (l : List Attribute) → AllByRecursion (λ a. AreBytes a.body) l
+pub kept_are : (p : Attribute → Bool) (l : List Attribute) → AllByRecursion (λ a. AreBytes a.body) l
     → AllByRecursion AreBytes (map (λ (a : Attribute). a.body) (filter p l))
 kept_are p [] all = tt
 kept_are p (a ∷ l) all = by (p a) (kept_are p l all.1)

@@ -4,6 +4,9 @@ use Rattle.std.specs.Prelude.{ℤ, pos}
 use Rattle.std.specs.Int.{w16, cast_unsigned}
 use Rattle.std.specs.List.{flat_map, AllByRecursion}
 use Rattle.std.proofs.lemmas.Bool.{leb-true}
+use Rattle.jc_methods.specs.ProbeMembers.{most_short}
+use Rattle.jc_methods.specs.declared.probe_members.Fetch.{Fetch}
+use Rattle.jc_methods.specs.declared.probe_members.Fetch.TheVariants as fetches
 use Rattle.jc_bytes.specs.ByteLists.{AreBytes}
 use Rattle.jc_bytes.specs.BigNumbers.{short, word}
 use Rattle.jc_methods.specs.VerificationTypes.{Names, VerificationType, object, uninit, TypeStateAt}
@@ -30,7 +33,8 @@ use Rattle.jc_layout.specs.LaidBody.{with_place}
 use Rattle.jc_layout.specs.Layout.{chosen_text}
 use Rattle.jc_instrument_code.specs.CodeText.{attribute, attribute_text, code_text, counted_text, all_parts, row_text, line_text, var_text, table_attributes, frame_attributes}
 use Rattle.jc_instrument_code.specs.FirstPlaces.{text_place}
-use Rattle.jc_instrument_code.specs.InitText.{push_count, end_offset, init_bytes, init_frame_places, init_frames, init_text}
+use Rattle.jc_instrument_code.specs.InitText.{count_text, push_count, end_offset, added_text, bootstrap_bytes, bootstrap_text, init_bytes, init_frame_places, init_frames, init_text}
+use Rattle.jc_instrument_code.proofs.BootstrapLaws.{bootstrap_size}
 use Rattle.jc_instrument_code.specs.TwinCode.{written_frames, offset_in, places_of, lines_name, vars_name, kind_vars_name, code_attributes, twin_code}
 use Rattle.jc_instrument_laws.proofs.ClassSpellingLaws.{bytes_both, big_bytes_are}
 use Rattle.jc_instrument_laws.proofs.CodeBytesLaws.{short_are, word_are, push_are, placed_are}
@@ -114,14 +118,14 @@ code_text_are max_stack max_locals code rows attributes a b c =
     (bytes_both (word (length code)) _ (word_are (length code))
     (bytes_both code _ a (bytes_both rows _ b (bytes_both (short (length attributes)) _ (short_are (length attributes)) (attributes_are attributes c))))))
 
-pub written_are : (pool : PoolValue) (method frames_name : ℕ) (names : Names) (e : Emitted) → AreBytes (chosen_text e.code)
-    → AreBytes (twin_code pool method frames_name names e)
+pub written_are : (pool : PoolValue) (fetch : Fetch) (giver array frames_name : ℕ) (names : Names) (e : Emitted) → AreBytes (chosen_text e.code)
+    → AreBytes (twin_code pool fetch giver array frames_name names e)
 unfolding twin_code
-written_are pool method frames_name names e are =
+written_are pool fetch giver array frames_name names e are =
     let offset = offset_in e in
     let Are : Attribute → Type 0 = λ a. AreBytes a.body in
-    code_text_are e.max_stack e.max_locals (with_place method (chosen_text e.code)) (counted_text (row_text offset) e.handlers)
-    (code_attributes pool frames_name e (written_frames names e)) (placed_are method (chosen_text e.code) are)
+    code_text_are e.max_stack e.max_locals (with_place fetch giver array (chosen_text e.code)) (counted_text (row_text offset) e.handlers)
+    (code_attributes pool frames_name e (written_frames names e)) (placed_are fetch giver array (chosen_text e.code) are)
     (counted_are (row_text offset) (row_are offset) e.handlers)
     (each_joined Are (table_attributes (text_place pool lines_name) (line_text offset) e.lines) _
     (parts_are (text_place pool lines_name) (line_text offset) (line_are offset) (all_parts e.lines))
@@ -149,6 +153,14 @@ push_fits n = by (nat_le n 5) refl (nat_le n 127)
     by true is u = let few = leb-true n 5 is in ((omega (arith, few), tt), omega arith)
     by false is true = (push_are (form_of opcode.bipush) opcode.bipush (pos n) (omega arith), push_few (form_of opcode.bipush) opcode.bipush (pos n))
     by false is false = (push_are (form_of opcode.sipush) opcode.sipush (pos n) (omega arith), push_few (form_of opcode.sipush) opcode.sipush (pos n))
+
+count_fits : (integer n : ℕ) → AreBytes (count_text integer n) × (length (count_text integer n) ≤ 3)
+count_fits integer n = by (nat_le n most_short)
+  where
+    by : (small : Bool) → AreBytes (if small then push_count n else opcode.ldc_w ∷ short integer)
+        × (length (if small then push_count n else opcode.ldc_w ∷ short integer) ≤ 3)
+    by true = push_fits n
+    by false = ((omega arith, short_are integer), let size = short_size integer in omega (arith, size))
 
 init_are : (p : InitPlaces) (pushed : List ℕ) → AreBytes pushed → AreBytes (init_bytes p pushed)
 unfolding init_bytes
@@ -198,10 +210,10 @@ init_count p pushed few =
     omega (arith, few, a, b, c, d, e, one, two, three, four, five, six, seven)
 
 -- a short text of bytes
-pub init_fits : (p : InitPlaces) (frames array count : ℕ) → AreBytes (init_text p frames array count) × (length (init_text p frames array count) ≤ 4294967295)
+init_fits : (p : InitPlaces) (frames array count : ℕ) → AreBytes (init_text p frames array count) × (length (init_text p frames array count) ≤ 4294967295)
 init_fits p frames array count =
-    let pushed = push_count count in
-    let fits = push_fits count in
+    let pushed = count_text p.count count in
+    let fits = count_fits p.count count in
     let code = init_bytes p pushed in
     let stack_map = init_frames frames array pushed in
     let most = init_count p pushed fits.1 in
@@ -223,3 +235,44 @@ init_fits p frames array count =
       code_text_are init_stack 0 code (short 0) (stack_map ∷ []) (init_are p pushed fits.0) (short_are 0) (table_are places list, tt),
       omega (arith, most, a, b, c, counted, one_attribute, table, alone, one, two, three, four, five),
     )
+
+-- ---- that of the bootstrap method
+
+bootstrap_are : (p : InitPlaces) (pushed : List ℕ) → AreBytes pushed → AreBytes (bootstrap_bytes p pushed)
+unfolding bootstrap_bytes
+bootstrap_are p pushed are = (
+  omega arith,
+  bytes_both (short p.id) _ (short_are p.id) (
+    omega arith,
+    bytes_both (short p.name) _ (short_are p.name)
+        (bytes_both pushed _ are (omega arith, bytes_both (short p.fetch) _ (short_are p.fetch) (omega arith, tt))),
+  ),
+)
+
+bootstrap_fits : (p : InitPlaces) (count : ℕ) → AreBytes (bootstrap_text p count) × (length (bootstrap_text p count) ≤ 4294967295)
+bootstrap_fits p count =
+    let pushed = count_text p.count count in
+    let fits = count_fits p.count count in
+    let code = bootstrap_bytes p pushed in
+    let size = bootstrap_size p pushed in
+    let few = fits.1 in
+    let a = short_size init_stack in
+    let b = short_size 3 in
+    let c = word_size (length code) in
+    let d = short_size 0 in
+    let rest = counted_text attribute_text [] in
+    let counted = counted_count 0 attribute_text [] in
+    let one = length-append (short init_stack) (short 3 ++ (word (length code) ++ (code ++ (short 0 ++ rest)))) in
+    let two = length-append (short 3) (word (length code) ++ (code ++ (short 0 ++ rest))) in
+    let three = length-append (word (length code)) (code ++ (short 0 ++ rest)) in
+    let four = length-append code (short 0 ++ rest) in
+    let five = length-append (short 0) rest in (
+      code_text_are init_stack 3 code (short 0) [] (bootstrap_are p pushed fits.0) (short_are 0) tt,
+      omega (arith, size, few, a, b, c, d, counted, one, two, three, four, five),
+    )
+
+-- that of the method that is added
+pub added_fits : (fetch : Fetch) (p : InitPlaces) (frames array count : ℕ)
+    → AreBytes (added_text fetch p frames array count) × (length (added_text fetch p frames array count) ≤ 4294967295)
+added_fits fetches.Member p frames array count = init_fits p frames array count
+added_fits fetches.Constant p frames array count = bootstrap_fits p count

@@ -4,6 +4,7 @@ use Rattle.std.specs.List.{flat_map, AllByRecursion}
 use Rattle.std.proofs.Math.Nat.{add-mul, mul-add, mul_assoc, mul_comm, mul-le-mul, mul-le-mul_right}
 use Rattle.std.proofs.lemmas.Grind.{flat_map-append}
 use Rattle.std.proofs.lemmas.List.{length-map}
+use Rattle.jc_methods.specs.declared.probe_members.Fetch.{Fetch}
 use Rattle.jc_methods.specs.VerificationTypes.{Names, TypeStateAt, type_state_at}
 use Rattle.jc_bytes.specs.Reader.{most_read}
 use Rattle.jc_bytes.specs.PlainLists.{total}
@@ -15,7 +16,6 @@ use Rattle.jc_methods.specs.declared.body.LineAt.{LineAt}
 use Rattle.jc_methods.specs.declared.body.VarAt.{VarAt}
 use Rattle.jc_methods.specs.declared.emitted.Emitted.{Emitted}
 use Rattle.jc_methods.specs.declared.kind.State.{State}
-use Rattle.jc_methods.specs.declared.probe_members.Fetch.TheVariants as fetches
 use Rattle.jc_class.specs.declared.class_file.Attribute.{Attribute}
 use Rattle.jc_frames.specs.FullFrames as full
 use Rattle.jc_insn.proofs.ReadBackLaws.{short_size, word_size}
@@ -30,9 +30,10 @@ use Rattle.jc_layout.proofs.ChoiceLaws.{text_length}
 use Rattle.jc_instrument_code.specs.CodeText.{attribute_text, counted_text, row_text, line_text, var_text, table_attributes, frame_attributes}
 use Rattle.jc_instrument_code.specs.FirstPlaces.{text_place}
 use Rattle.jc_instrument_code.specs.TwinCode.{chosen_frames, written_frames, offset_in, places_of, lines_name, vars_name, kind_vars_name, code_attributes, twin_code}
-use Rattle.jc_instrument_code.proofs.TwinCodeLaws.{placed_size}
-use Rattle.jc_instrument_reread.specs.WrittenCode.{by_method}
-use Rattle.jc_instrument.specs.RoomCauses.{probed_code}
+use Rattle.jc_layout.proofs.SpelledLaws.{placed_size}
+use Rattle.jc_instrument_reread.specs.WrittenCode.{ready_emission}
+use Rattle.jc_instrument.specs.Constants.{given_with, probed_code}
+use Rattle.jc_instrument.specs.declared.constants.ProbeConstants.{ProbeConstants}
 use Rattle.jc_instrument_laws.proofs.CodeWeightLaws.{code_least}
 use Rattle.jc_instrument_laws.proofs.EmittedFramesLaws.{arms_size, written_most}
 use Rattle.jc_instrument_laws.proofs.FrameSizesLaws.{attribute_count, counted_count, sized_most, table_most, tables_most}
@@ -91,15 +92,16 @@ frames_few name most size p (f ∷ frames) all few =
 
 -- ---- one body
 
-module _ (names : Names) (b : Body) (first : ℕ) (states : List State) (array : ℕ) (bound : IsBounded b) (locals : b.max_locals ≤ 65534)
+module _ (names : Names) (b : Body) (first : ℕ) (states : List State) (constants : ProbeConstants) (array : ℕ)
+    (bound : IsBounded b) (locals : b.max_locals ≤ 65534)
     (stack : b.max_stack ≤ 65532)
-    (short_code : chosen_length (probed_code b first) ≤ 65535)
+    (short_code : chosen_length (probed_code constants b first) ≤ 65535)
     (small : AllByRecursion (λ f. length f.state.locals + length f.state.stack ≤ b.max_locals + 1 + b.max_stack)
-    (written_frames names (emission b first states (by_method array))))
+    (written_frames names (ready_emission b first states (given_with constants array) constants.giver)))
     (handlers : 8 * length b.handlers ≤ most_read) (lines : 4 * length b.lines ≤ most_read) (vars : 10 * length b.vars ≤ most_read)
     (kind_vars : 10 * length b.kind_vars ≤ most_read) where
   abbrev e : Emitted
-  e = emission b first states (by_method array)
+  e = ready_emission b first states (given_with constants array) constants.giver
 
   abbrev count : ℕ
   count = length b.code
@@ -116,8 +118,8 @@ module _ (names : Names) (b : Body) (first : ℕ) (states : List State) (array :
 
   frames_size : length (chosen_frames e) * frame_size ≤ 3990000000
   frames_size =
-      let least = code_least b first in
-      let few = written_most b first states (by_method array) in
+      let least = code_least constants b first in
+      let few = written_most b first states (given_with constants array) constants.giver in
       let frames = length (chosen_frames e) in
       let five : (5 * frames) * frame_size ≤ (15 * count + arms) * frame_size = mul-le-mul_right frame_size few in
       let split = add-mul (15 * count) arms frame_size in
@@ -134,40 +136,40 @@ module _ (names : Names) (b : Body) (first : ℕ) (states : List State) (array :
 
   code_count : length (chosen_text e.code) ≤ 65535
   unfolding emission
-  code_count = let same = text_length (probed_code b first) in omega (arith, same, short_code)
+  code_count = let same = text_length (probed_code constants b first) in omega (arith, same, short_code)
 
   rows_few : length (counted_text (row_text (offset_in e)) e.handlers) ≤ 67110000
   unfolding emission
   rows_few =
-      let rows = map (moved_row (lead_of b first (narrow fetches.Member)) (land_of b first (narrow fetches.Member))) b.handlers in
+      let rows = map (moved_row (lead_of b first (narrow constants.fetch)) (land_of b first (narrow constants.fetch))) b.handlers in
       let text = row_text (offset_in e) in
       let all = counted_count 0 text rows in
       let size = sized_most 0 text 8 (row_count (offset_in e)) rows in
-      let same = length-map b.handlers (moved_row (lead_of b first (narrow fetches.Member)) (land_of b first (narrow fetches.Member))) in
+      let same = length-map b.handlers (moved_row (lead_of b first (narrow constants.fetch)) (land_of b first (narrow constants.fetch))) in
       omega (arith, all, size, same, handlers)
 
   lines_few : (name : ℕ) (offset : ℕ → ℕ) → length (flat_map attribute_text (table_attributes name (line_text offset) e.lines)) ≤ 67120000
   unfolding emission
   lines_few name offset =
-      let same = length-map b.lines (moved_line (land_of b first (narrow fetches.Member))) in
-      table_few name 4 (line_text offset) (line_count offset) (map (moved_line (land_of b first (narrow fetches.Member))) b.lines) (omega (arith, same, lines))
+      let same = length-map b.lines (moved_line (land_of b first (narrow constants.fetch))) in
+      table_few name 4 (line_text offset) (line_count offset) (map (moved_line (land_of b first (narrow constants.fetch))) b.lines) (omega (arith, same, lines))
       (omega (arith, same, lines))
 
   vars_few : (name : ℕ) (offset : ℕ → ℕ) → length (flat_map attribute_text (table_attributes name (var_text offset) e.vars)) ≤ 67120000
   unfolding emission
   vars_few name offset =
-      let same = length-map b.vars (moved_var b.arg_slots (land_of b first (narrow fetches.Member))) in
-      table_few name 10 (var_text offset) (var_count offset) (map (moved_var b.arg_slots (land_of b first (narrow fetches.Member))) b.vars) (omega (arith, same, vars))
+      let same = length-map b.vars (moved_var b.arg_slots (land_of b first (narrow constants.fetch))) in
+      table_few name 10 (var_text offset) (var_count offset) (map (moved_var b.arg_slots (land_of b first (narrow constants.fetch))) b.vars) (omega (arith, same, vars))
       (omega (arith, same, vars))
 
   kind_vars_few : (name : ℕ) (offset : ℕ → ℕ) → length (flat_map attribute_text (table_attributes name (var_text offset) e.kind_vars)) ≤ 67120000
   unfolding emission
   kind_vars_few name offset =
-      let same = length-map b.kind_vars (moved_var b.arg_slots (land_of b first (narrow fetches.Member))) in
-      table_few name 10 (var_text offset) (var_count offset) (map (moved_var b.arg_slots (land_of b first (narrow fetches.Member))) b.kind_vars) (omega (arith, same, kind_vars))
+      let same = length-map b.kind_vars (moved_var b.arg_slots (land_of b first (narrow constants.fetch))) in
+      table_few name 10 (var_text offset) (var_count offset) (map (moved_var b.arg_slots (land_of b first (narrow constants.fetch))) b.kind_vars) (omega (arith, same, kind_vars))
       (omega (arith, same, kind_vars))
 
-  module _ (pool : PoolValue) (method frames_name : ℕ) where
+  module _ (pool : PoolValue) (fetch : Fetch) (giver place frames_name : ℕ) where
     abbrev offset : ℕ → ℕ
     offset = offset_in e
 
@@ -203,16 +205,16 @@ module _ (names : Names) (b : Body) (first : ℕ) (states : List State) (array :
         omega (arith, all, one, two, three, l, v, k, m)
 
     -- the whole text
-    pub written_few : length (twin_code pool method frames_name names e) ≤ 4294967295
+    pub written_few : length (twin_code pool fetch giver place frames_name names e) ≤ 4294967295
     unfolding twin_code
     written_few =
-        let code = with_place method (chosen_text e.code) in
+        let code = with_place fetch giver place (chosen_text e.code) in
         let rows = counted_text (row_text offset) e.handlers in
         let rest = counted_text attribute_text (code_attributes pool frames_name e (written_frames names e)) in
         let stack_size = short_size e.max_stack in
         let locals_size = short_size e.max_locals in
         let code_size = word_size (length code) in
-        let same = placed_size method (chosen_text e.code) in
+        let same = placed_size fetch giver place (chosen_text e.code) in
         let few = code_count in
         let rows_size = rows_few in
         let attributes_size = attributes_few in

@@ -1,4 +1,5 @@
-use Rattle.std.proofs.Common.{◌≡◌, ℕ, List, suc, get_or, ◌++◌, ◌∷◌, [], take, drop, sym, subst, arith}
+use Rattle.std.proofs.Common.{◌≡◌, ℕ, List, suc, get_or, ◌++◌, ◌∷◌, [], take, drop, sym, ◌∙◌, subst, arith}
+use Rattle.std.proofs.lemmas.List.{length-map, take_all}
 use Rattle.std.proofs.lemmas.Result.{err_from_is_err_and}
 use Rattle.jc_pool.proofs.AddingLaws.{extends_more}
 use Rattle.jc_instrument.specs.Contents.{Content, TakesEach}
@@ -6,18 +7,15 @@ use Rattle.jc_instrument.specs.Needed.{signed_id}
 use Rattle.jc_instrument.specs.Taking.{content_needed, contents_of, RefusesEach}
 use Rattle.jc_instrument.specs.declared.needs.Need.{Need}
 use Rattle.jc_instrument.specs.declared.needs.Need.TheVariants as needs
-use Rattle.jc_instrument.specs.declared.needs.TheConstants as constants
-use Rattle.jc_instrument.proofs.TakingLaws.{all_entire, next_contents, refused_here, split_contents, takes_both, takes_count, takes_one}
+use Rattle.jc_instrument.proofs.TakingLaws.{next_contents, refused_here, split_contents, takes_both, takes_count, takes_one}
 use Rattle.jc_instrument.proofs.needs.take_each.Goals as goal
-
-abbrev list : List Need
-list = constants.MEMBER_NEEDS
 
 pub taking-preserved : goal.taking-preserved
 taking-preserved c =
     let old = c.args.pool.now in
     let owner = c.args.owner.now in
     let id = signed_id c.args.id in
+    let list = c.args.needs.now in
     let i = c.taking.need-index in
     let need = content_needed owner id (get_or list i needs.DataName) in
     let front = contents_of owner id (take i list) in
@@ -36,12 +34,13 @@ returns-in_err-place-clause-refused c =
     let old = c.args.pool.now in
     let owner = c.args.owner.now in
     let id = signed_id c.args.id in
+    let list = c.args.needs.now in
     let i = c.taking.need-index in
     let e = c.in_err-place.field-0.0 in
     let p = err_from_is_err_and c.from_residual.result c.from_residual.ensures.1 in
     let rest = drop (suc i) list in
     let here = refused_here old c.taking.pool (contents_of owner id (take i list)) (contents_of owner id rest) c.taking.places.items
-    (content_needed owner id (get_or list i needs.DataName)) e (all_entire owner id rest) c.taking.invariant.takes c.in_err-place.ensures.full in
+    (content_needed owner id (get_or list i needs.DataName)) e c.taking.invariant.takes c.in_err-place.ensures.full in
     rw (p.1, p.2) (subst (λ (cs : List Content). RefusesEach old cs e) (sym (split_contents owner id list i needs.DataName c.taking-test.true)) here)
 
 pub returns-in_err-place-clause-extends : goal.returns-in_err-place-clause-extends
@@ -54,13 +53,12 @@ returns-in_err-push-clause-extends c =
 
 pub returns-clause-ok : goal.returns-clause-ok
 returns-clause-ok c =
-    let end : c.taking.need-index ≡ 12 = omega arith in
-    subst (λ (n : ℕ). TakesEach c.args.pool.now (contents_of c.args.owner.now (signed_id c.args.id) (take n list)) c.taking.pool c.taking.places.items)
-    end c.taking.invariant.takes
+    let list = c.args.needs.now in
+    subst (λ (l : List Need). TakesEach c.args.pool.now (contents_of c.args.owner.now (signed_id c.args.id) l) c.taking.pool c.taking.places.items)
+    (take_all c.taking.need-index list (omega arith)) c.taking.invariant.takes
 
 pub returns-clause-count : goal.returns-clause-count
 returns-clause-count c =
-    let end : c.taking.need-index ≡ 12 = omega arith in
-    takes_count c.args.pool.now c.taking.pool (contents_of c.args.owner.now (signed_id c.args.id) list) c.taking.places.items
-    (subst (λ (n : ℕ). TakesEach c.args.pool.now (contents_of c.args.owner.now (signed_id c.args.id) (take n list)) c.taking.pool c.taking.places.items)
-    end c.taking.invariant.takes)
+    let list = c.args.needs.now in
+    takes_count c.args.pool.now c.taking.pool (contents_of c.args.owner.now (signed_id c.args.id) list) c.taking.places.items (returns-clause-ok c)
+    ∙ length-map list (content_needed c.args.owner.now (signed_id c.args.id))

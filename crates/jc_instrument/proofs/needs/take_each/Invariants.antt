@@ -8,6 +8,6 @@ use Rattle.jc_instrument.proofs.needs.take_each.Given as goal
 -- the needs so far are taken
 abbrev pub invariant-taking : goal.invariant-taking
 invariant-taking l = record {
-  takes : TakesEach l.fn.pool (contents_of l.owner (signed_id l.id) (take l.need-index l.need-items)) l.pool l.places.items;
+  takes : TakesEach l.fn.pool (contents_of l.owner (signed_id l.id) (take l.need-index l.needs)) l.pool l.places.items;
   extends : Extends l.fn.pool l.pool;
 }

@@ -1,38 +1,21 @@
-use Rattle.std.proofs.Common.{◌≡◌, ℕ, ◌<◌, [], ◌∷◌, get_or, length, sym, subst, ◌∙◌, ap, arith}
-use Rattle.std.proofs.lemmas.List.{get_or_default}
-use Rattle.std.proofs.lemmas.Result.{err_from_is_err_and}
+use Rattle.std.proofs.Common.{[], IfOk, IfErr, sym, subst}
+use Rattle.jc_methods.specs.declared.probe_members.Fetch.{Fetch}
 use Rattle.jc_instrument.specs.Contents.{TakesEach}
-use Rattle.jc_instrument.specs.Needed.{signed_id, member_needs}
-use Rattle.jc_instrument.proofs.TakingLaws.{all_items, items_from}
+use Rattle.jc_instrument.specs.Needed.{member_needs, place_list, signed_id}
+use Rattle.jc_instrument.specs.Taking.{RefusesEach}
 use Rattle.jc_instrument.proofs.needs.take_members.Goals as goal
 
-pub returns-in_err-places-clause-refused : goal.returns-in_err-places-clause-refused
-returns-in_err-places-clause-refused c =
-    let p = err_from_is_err_and c.from_residual.result c.from_residual.ensures.1 in
-    rw (p.1, p.2) c.in_err-places.ensures.refused
+pub returns-in-Member-clause-ok : goal.returns-in-Member-clause-ok
+returns-in-Member-clause-ok c =
+    subst (λ (f : Fetch). IfOk c.take_field_members.result (λ places. TakesEach c.args.pool.now (member_needs f c.args.owner.now (signed_id c.args.id) c.args.count [])
+    c.take_field_members.new.pool (place_list f c.args.count [] places))) (sym c.in-Member.is) c.take_field_members.ensures.ok
 
-pub returns-clause-ok : goal.returns-clause-ok
-returns-clause-ok c =
-    let l = c.in_ok-places.places.items in
-    let count : length l ≡ 12 = c.in_ok-places.ensures.count in
-    let at : (n a : ℕ) → n < 12 → a ≡ get_or l n a → get_or l n 0 ≡ a = λ n a less is.
-    get_or_default l n 0 a (let m : n < length l = omega (arith, less, count) in m) ∙ sym is in
-    let are : items_from 12 0 l
-    ≡ c.index.result.now ∷ c.index-2.result.now ∷ c.index-3.result.now ∷ c.index-4.result.now ∷ c.index-5.result.now ∷ c.index-6.result.now
-    ∷ c.index-7.result.now ∷ c.index-8.result.now ∷ c.index-9.result.now ∷ c.index-10.result.now ∷ c.index-11.result.now
-    ∷ c.index-12.result.now ∷ [] = λ i.
-    at 0 c.index.result.now (omega arith) c.index.ensures i
-    ∷ at 1 c.index-2.result.now (omega arith) c.index-2.ensures i
-    ∷ at 2 c.index-3.result.now (omega arith) c.index-3.ensures i
-    ∷ at 3 c.index-4.result.now (omega arith) c.index-4.ensures i
-    ∷ at 4 c.index-5.result.now (omega arith) c.index-5.ensures i
-    ∷ at 5 c.index-6.result.now (omega arith) c.index-6.ensures i
-    ∷ at 6 c.index-7.result.now (omega arith) c.index-7.ensures i
-    ∷ at 7 c.index-8.result.now (omega arith) c.index-8.ensures i
-    ∷ at 8 c.index-9.result.now (omega arith) c.index-9.ensures i
-    ∷ at 9 c.index-10.result.now (omega arith) c.index-10.ensures i
-    ∷ at 10 c.index-11.result.now (omega arith) c.index-11.ensures i
-    ∷ at 11 c.index-12.result.now (omega arith) c.index-12.ensures i
-    ∷ [] in
-    subst (TakesEach c.args.pool.now (member_needs c.args.owner.now (signed_id c.args.id)) c.take_each.new.pool)
-    (sym (all_items l) ∙ ap (λ (n : ℕ). items_from n 0 l) count ∙ are) c.in_ok-places.ensures.ok
+pub returns-in-Member-clause-refused : goal.returns-in-Member-clause-refused
+returns-in-Member-clause-refused c =
+    subst (λ (f : Fetch). IfErr c.take_field_members.result (RefusesEach c.args.pool.now (member_needs f c.args.owner.now (signed_id c.args.id) c.args.count [])))
+    (sym c.in-Member.is) c.take_field_members.ensures.refused
+
+pub returns-in-Constant-clause-ok : goal.returns-in-Constant-clause-ok
+returns-in-Constant-clause-ok c =
+    subst (λ (f : Fetch). IfOk c.take_bootstrap_members.result (λ places. TakesEach c.args.pool.now (member_needs f c.args.owner.now (signed_id c.args.id) c.args.count [])
+    c.take_bootstrap_members.new.pool (place_list f c.args.count [] places))) (sym c.in-Constant.is) c.take_bootstrap_members.ensures.ok

@@ -48,7 +48,7 @@ returns-clause-changed c =
         written = w.written;
         are_bytes = t.are_bytes;
         text = t.text;
-        probes = v.count ∙ one_probe_count v.others w.names v.array w.array class v.works w.works v.are w.written.are;
+        probes = v.count ∙ one_probe_count v.others w.names v.array w.array class v.works w.works v.are w.written.ready.are;
         changed = refl;
       };
       no_cause = none_in_both (making_causes class) (HasFullPool c.args.id class ∷ []) r.no_cause
