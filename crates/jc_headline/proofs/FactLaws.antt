@@ -1,5 +1,5 @@
 -- A file of a report, the class that is linked of it, and that of what was written of it.
-use Rattle.std.proofs.Common.{◌≡◌, ◌⊎◌, inl, inr, ℕ, ℤ, ◌+◌, Bool, true, false, ◌||◌, List, [], ◌∷◌, map, Some, None, Contains, refl, sym, ◌∙◌, ap, subst}
+use Rattle.std.proofs.Common.{◌≡◌, ◌⊎◌, inl, inr, ℕ, ℤ, ◌+◌, Bool, true, false, ◌||◌, List, [], ◌∷◌, map, Some, Contains, refl, sym, ◌∙◌, ap, subst}
 use Rattle.std.specs.List.{AllByRecursion, list_any, sum_by}
 use Rattle.std.proofs.lemmas.Bool.{or_left, or_right}
 use Rattle.std.proofs.lemmas.Option.{same_Some}
@@ -21,7 +21,7 @@ use Rattle.jc_class.specs.declared.class_file.ClassFile.{ClassFile}
 use Rattle.jc_class.proofs.FirstBadLaws.{one_class_of}
 use Rattle.jc_plan.specs.Probed.{probe_count}
 use Rattle.jc_pool.specs.Lookup.{class_name_of}
-use Rattle.jc_emit.specs.Added.{IsAddedBody}
+use Rattle.jc_emit.specs.Added.{IsAddedBody, bootstrap_of}
 use Rattle.jc_emit.specs.TwinBodies.{AreTwinBodies}
 use Rattle.jc_instrument.specs.Analysis.{IsAnalysis}
 use Rattle.jc_instrument.specs.Bodies.{AreBodies, AreBodiesUnless}
@@ -135,7 +135,11 @@ module _ (names new_names : Names) (o w : List ℕ) (l n : Linked) (short : IsSh
           record {
             declares = has_init n.bodies pair.added (last_in names new_names _ _ 0 l.bodies n.bodies pair.added pair.bodies)
                 (added_name (fetch_of l.version) new_names l.name _ _ pair.added pair.added_is);
-            init = record { id = class_id o; count = sum_by probe_count l.bodies; bootstrap = None };
+            init = record {
+              id = class_id o;
+              count = sum_by probe_count l.bodies;
+              bootstrap = bootstrap_of twin.twin.is.fetch twin.twin.is.bootstrap;
+            };
             probes = probes_new o w short.0 are_new twin names new_names l n p q;
             id = sym is.described.id;
             count = refl;

@@ -1,6 +1,6 @@
 -- Where the methods of originals have few slots, and the changed ones differ in their ids, nothing refuses the instrumented files.
 use Rattle.std.proofs.Common.{◌≡◌, ◌⊎◌, inl, inr, ℕ, zero, suc, ◌+◌, ◌*◌, ◌≤◌, List, [], ◌∷◌, ◌++◌, length, Some, refl, sym, ◌∙◌, ap, subst, arith}
-use Rattle.std.specs.Prelude.{slice_get}
+use Rattle.std.specs.Prelude.{ℤ, slice_get}
 use Rattle.std.specs.List.{AllByRecursion}
 use Rattle.std.proofs.Math.Nat.{mul-le-mul_right}
 use Rattle.std.proofs.lemmas.Option.{none-some, same_Some, slice_get_within}
@@ -8,7 +8,9 @@ use Rattle.jc_bytes.proofs.ListLaws.{all_at}
 use Rattle.jc_methods.specs.WellMade.{most_slots}
 use Rattle.jc_methods.specs.declared.body.Body.{Body}
 use Rattle.jc_methods.specs.declared.body.What.{What}
+use Rattle.jc_methods.specs.VerificationTypes.{Names}
 use Rattle.jc_methods.specs.declared.probe_members.Fetch.{Fetch}
+use Rattle.jc_methods.specs.declared.probe_members.Fetch.TheVariants as fetches
 use Rattle.jc_class.specs.ClassId.{class_id}
 use Rattle.jc_class.specs.declared.class_file.ClassFile.{ClassFile}
 use Rattle.jc_class.specs.declared.class_file.Member.{Member}
@@ -19,6 +21,7 @@ use Rattle.jc_body.specs.declared.coded.Coded.{Coded}
 use Rattle.jc_body.proofs.CodedLaws.{no_items, one_coded}
 use Rattle.jc_body.proofs.SizeLaws.{insns_short}
 use Rattle.jc_plan.specs.Probed.{probe_count}
+use Rattle.jc_emit.specs.Added.{IsAddedBody}
 use Rattle.jc_emit.specs.TwinBodies.{AreTwinBodies}
 use Rattle.jc_instrument.specs.Bodies.{IsListed}
 use Rattle.jc_instrument_laws.specs.TwinClass.{TwinClass}
@@ -30,6 +33,12 @@ use Rattle.jc_headline.specs.FewSlots.{UsesFewSlots, DifferInId}
 -- so many instructions as code can have are within the bound
 abbrev FitsIn : (slots : ℕ) → Type 0
 FitsIn slots = 65535 * slots ≤ most_slots
+
+-- the method that is added has few
+added_slots : (fetch : Fetch) (names : Names) (class : List ℕ) (id : ℤ) (count : ℕ) (b : Body) → IsAddedBody fetch names class id count b
+    → (b.max_locals ≤ 3) × (b.max_stack ≡ 4)
+added_slots fetches.Member names class id count b is = (let none = is.method.max_locals_is in omega (arith, none), is.method.max_stack)
+added_slots fetches.Constant names class id count b is = (let three = is.method.max_locals_is in omega (arith, three), is.method.max_stack)
 
 -- so are four slots more than each body has
 abbrev HaveRoom : List Body → Type 0
@@ -58,9 +67,11 @@ module _ (original text : List ℕ) (few : UsesFewSlots original) (w : IsWritten
       by : (i : ℕ) → slice_get (h.added ∷ []) i ≡ Some y → FitsIn (y.max_locals + y.max_stack)
       by zero there =
           let same : h.added ≡ y = same_Some h.added y there in
-          let locals : y.max_locals ≡ 0 = ap (λ (b : Body). b.max_locals) (sym same) ∙ h.added_is.method.max_locals_is in
-          let stack : y.max_stack ≡ 4 = ap (λ (b : Body). b.max_stack) (sym same) ∙ h.added_is.method.max_stack in
-          omega (arith, locals, stack)
+          let few = added_slots h.fetch h.new_names _ _ _ h.added h.added_is in
+          let most = few.0 in
+          let locals : y.max_locals ≡ h.added.max_locals = ap (λ (b : Body). b.max_locals) (sym same) in
+          let stack : y.max_stack ≡ 4 = ap (λ (b : Body). b.max_stack) (sym same) ∙ few.1 in
+          omega (arith, most, locals, stack)
       by (suc i) there = absurd (none-some y there)
   twin_fits fetch giver first (b ∷ bs) [] twins sources i y at = absurd twins
   twin_fits fetch giver first (b ∷ bs) (z ∷ ys) twins sources zero y at =

@@ -17,7 +17,8 @@ use Rattle.jc_bootstraps.proofs.BootstrapFormLaws.{one_list, read_text, text_rea
 use Rattle.jc_bootstraps.proofs.BootstrapLaws.{ends, ends_exact, ends_not}
 use Rattle.jc_instrument.proofs.DecidedLaws.{OrNot}
 use Rattle.jc_instrument.proofs.RoomDecidedLaws.{both_or_not}
-use Rattle.jc_link_programs.specs.OwnBootstrap.{HasBootstrap, IsLastBootstrap, IsOwn, bootstrap_handle}
+use Rattle.jc_instrument.specs.Needed.{bootstrap_handle}
+use Rattle.jc_link_programs.specs.OwnBootstrap.{HasBootstrap, IsLastBootstrap, IsOwn}
 use Rattle.jc_link_programs.specs.Statics.{single}
 use Rattle.jc_link_programs.proofs.OwnBootstrapLaws.{last_number_is, none_alone, none_ended, other_last}
 use Rattle.jc_link_laws.proofs.FoundPairLaws.{texts_or_not}

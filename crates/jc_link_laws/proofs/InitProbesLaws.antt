@@ -1,21 +1,17 @@
 -- What the added method of a twin class asks for.
-use Rattle.std.proofs.Common.{◌≡◌, ◌⊎◌, inl, inr, ℕ, ℤ, zero, suc, ◌<◌, ◌≤◌, List, [], ◌∷◌, length, map, cond, Option, Some, None, codes, refl, sym, ◌∙◌, ap, subst, arith}
+use Rattle.std.proofs.Common.{◌≡◌, ◌⊎◌, inl, inr, ℕ, ℤ, zero, suc, ◌≤◌, List, [], ◌∷◌, length, map, cond, nat_le, if◌then◌else◌, Option, Some, codes, refl, sym, ◌∙◌, ap, subst}
 use Rattle.std.specs.Prelude.{slice_get}
-use Rattle.std.proofs.lemmas.Bool.{cases_lt}
 use Rattle.std.proofs.lemmas.Option.{none-some, slice_get_within, get_or_from_slice_get}
-use Rattle.jc_bytes.specs.Decoder.{◌>>=◌}
+use Rattle.jc_bytes.specs.BigNumbers.{short}
 use Rattle.jc_bytes.proofs.ListLaws.{all_at, put_cases}
-use Rattle.jc_methods.specs.ProbeMembers.{init_name, most_probes}
+use Rattle.jc_methods.specs.ProbeMembers.{init_name, most_short}
 use Rattle.jc_methods.specs.VerificationTypes.{Names}
 use Rattle.jc_methods.specs.declared.body.Body.{Body}
+use Rattle.jc_methods.specs.declared.probe_members.Fetch.{Fetch}
 use Rattle.jc_methods.specs.declared.probe_members.Fetch.TheVariants as fetches
-use Rattle.jc_pool.specs.Lookup.{Member as MemberText, class_name_of, long_in, long_of, member_of, string_of, utf8_of}
+use Rattle.jc_pool.specs.Lookup.{class_name_of, string_of, utf8_of}
 use Rattle.jc_pool.specs.Pool.{PoolValue}
-use Rattle.jc_pool.specs.declared.index.Naming.TheVariants as naming
 use Rattle.jc_pool.proofs.AddedLaws.{utf8_kept}
-use Rattle.jc_pool.proofs.AddedMemberLaws.{member_past}
-use Rattle.jc_pool.proofs.KeyPlaceLaws.{naming_past}
-use Rattle.jc_pool.proofs.OneMoreEntryLaws.{entry_past}
 use Rattle.jc_class.specs.ClassFormat.{HasText, HasMethodDescriptor}
 use Rattle.jc_class.specs.Writable.{IsClassFile, IsMember}
 use Rattle.jc_class.specs.declared.class_file.Attribute.{Attribute}
@@ -23,97 +19,98 @@ use Rattle.jc_class.specs.declared.class_file.ClassFile.{ClassFile}
 use Rattle.jc_class.specs.declared.class_file.Member.{Member}
 use Rattle.jc_body.specs.Attributes.{bodies_of, is_text}
 use Rattle.jc_body.specs.BodyOf.{BodyOf, IsBody}
-use Rattle.jc_instrument_code.specs.InitText.{init_bytes, init_text, named_places}
+use Rattle.jc_instrument_code.specs.InitText.{added_text, bootstrap_bytes, init_bytes, init_frames, named_places}
+use Rattle.jc_instrument_code.specs.CodeText.{code_text}
+use Rattle.jc_emit.specs.Added.{InitPlaces, init_stack}
 use Rattle.jc_instrument_code.specs.declared.init.AddedPlaces.{AddedPlaces}
-use Rattle.jc_emit.specs.Added.{InitPlaces, init_code}
-use Rattle.jc_instrument_reread.specs.Written.{IsAddedMethod}
+use Rattle.jc_instrument_reread.specs.InitRead.{HasFieldPlaces}
+use Rattle.jc_instrument_reread.specs.Written.{HasFieldEntries, IsAddedMethod}
+use Rattle.jc_instrument_reread.proofs.BootstrapAgainLaws.{bootstrap_body, bootstrap_is_body}
 use Rattle.jc_instrument_reread.proofs.InitAgainLaws.{init_body, init_is_body, init_names}
 use Rattle.jc_instrument_reread.proofs.OneBodyLaws.{same_bodies}
 use Rattle.jc_instrument.specs.Reasons.{HasAdded}
-use Rattle.jc_instrument.specs.SameOutside.{AreKeptMethods, IsInitMethod, IsSameOutside}
+use Rattle.jc_instrument.specs.SameOutside.{AreKeptMethods, IsInitMethod, IsSameOutside, NamesField}
 use Rattle.jc_instrument.specs.Contents.{Content}
+use Rattle.jc_instrument.proofs.WrittenAgainLaws.{count_below, count_entry, long_below, member_below, pushed_same, string_below}
+use Rattle.jc_link_programs.specs.ProbeInits.{added_code}
 use Rattle.jc_link_programs.proofs.ProbeInitLaws.{same_name_place}
-
--- ---- places that name something are among those of the pool
-
-module _ (pool : PoolValue) (few : length pool < 65536) where
-  member_below : (place : ℕ) (m : MemberText) → member_of pool place ≡ Some m → place < 65536
-  member_below place m there = by (cases_lt place (length pool))
-    where
-      by : (place < length pool) ⊎ (length pool ≤ place) → place < 65536
-      by (inl less) = omega (arith, less, few)
-      by (inr past) = absurd (none-some m (sym (member_past pool place past) ∙ there))
-
-  string_below : (place : ℕ) (text : List ℕ) → string_of pool place ≡ Some text → place < 65536
-  string_below place text there = by (cases_lt place (length pool))
-    where
-      by : (place < length pool) ⊎ (length pool ≤ place) → place < 65536
-      by (inl less) = omega (arith, less, few)
-      by (inr past) = absurd (none-some text (sym (naming_past naming.String pool place past) ∙ there))
-
-  long_past : (place : ℕ) → length pool ≤ place → long_of pool place ≡ None
-  unfolding long_of
-  long_past place past = ap (λ o. o >>= long_in) (entry_past pool place past)
-
-  long_below : (place : ℕ) (value : ℤ) → long_of pool place ≡ Some value → place < 65536
-  long_below place value there = by (cases_lt place (length pool))
-    where
-      by : (place < length pool) ⊎ (length pool ≤ place) → place < 65536
-      by (inl less) = omega (arith, less, few)
-      by (inr past) = absurd (none-some value (sym (long_past place past) ∙ there))
 
 -- ---- the name that its code names
 
-module _ (t : ClassFile) (few_places : length t.pool < 65536) (owner : List ℕ) (id : ℤ) (count : ℕ) (few : count ≤ most_probes)
-    (owner_is : class_name_of t.pool t.this_class ≡ Some owner) (method : Member) (m : IsInitMethod t.pool owner id count method) where
+module _ (fetch : Fetch) (t : ClassFile) (few_places : length t.pool ≤ 65535) (owner : List ℕ) (id : ℤ) (count : ℕ)
+    (owner_is : class_name_of t.pool t.this_class ≡ Some owner) (method : Member) (m : IsInitMethod fetch t.pool owner id count method) where
+  -- where no Integer is pushed its place is of no matter
   abbrev places : AddedPlaces
   places = record {
     field = m.places.field;
     id = m.places.id;
     name = m.places.name;
+    count = if nat_le count most_short then 0 else m.places.count;
     fetch = m.places.fetch;
     array = m.array;
     frames = m.frames;
   }
 
-  -- the text of its code is the same for each place of the number, which it pushes without one
-  added : IsAddedMethod t owner id count places method
-  unfolding init_bytes
+  field_placed : (f : Fetch) → NamesField f t.pool owner m.places m.frames m.array → HasFieldPlaces f t.pool places
+  field_placed fetches.Member is = (member_below t.pool few_places m.places.field _ is.0, is.1)
+  field_placed fetches.Constant is = tt
+
+  field_found : (f : Fetch) → NamesField f t.pool owner m.places m.frames m.array → HasFieldEntries f t.pool owner places
+  field_found fetches.Member is = (is.0, is.2)
+  field_found fetches.Constant is = tt
+
+  text_same : (f : Fetch) → added_text f m.places m.frames m.array count ≡ added_text f (named_places places) m.frames m.array count
+  unfolding init_bytes bootstrap_bytes
+  text_same fetches.Member = λ k.
+      code_text init_stack 0 (init_bytes m.places (pushed_same count m.places.count k)) (short 0) (init_frames m.frames m.array (pushed_same count m.places.count k) ∷ [])
+  text_same fetches.Constant = λ k. code_text init_stack 3 (bootstrap_bytes m.places (pushed_same count m.places.count k)) (short 0) []
+
+  added : IsAddedMethod fetch t owner id count places method
   added = record {
     code = record {
-      few = few;
-      pool_few = omega (arith, few_places);
-      field = member_below t.pool few_places m.places.field _ m.field_is;
+      pool_few = few_places;
+      field = field_placed fetch m.field_is;
+      count = count_below t.pool few_places count m.places.count (nat_le count most_short) m.count_is;
       id = long_below t.pool few_places m.places.id id m.id_is;
       name = string_below t.pool few_places m.places.name owner m.name_is;
-      fetch = member_below t.pool few_places m.places.fetch _ m.fetch_is;
-      frames_named = m.frames_are;
+      fetch_method = member_below t.pool few_places m.places.fetch _ m.fetch_is;
     };
     owner_is = owner_is;
     flags = m.flags;
     name = m.name;
     desc = m.desc;
     code_is = code_is;
-    field_is = m.field_is;
+    field_entries = field_found fetch m.field_is;
     id_is = m.id_is;
     name_is = m.name_is;
+    count_is = count_entry t.pool count m.places.count (nat_le count most_short) m.count_is;
     fetch_is = m.fetch_is;
-    array_is = m.array_is;
   }
     where
-      code_is : bodies_of t.pool (codes "Code") method.attributes ≡ init_text (named_places places) m.frames m.array count ∷ []
+      code_is : bodies_of t.pool (codes "Code") method.attributes ≡ added_text fetch (named_places places) m.frames m.array count ∷ []
       code_is =
           ap (bodies_of t.pool (codes "Code")) m.attributes
           ∙ ap (λ (o : Option (List ℕ)). map (λ (a : Attribute). a.body) (cond (is_text (codes "Code") o) (m.code ∷ []) [])) m.code_is
-          ∙ ap (λ (text : List ℕ). text ∷ []) m.text
+          ∙ ap (λ (text : List ℕ). text ∷ []) (m.text ∙ text_same fetch)
+
+  -- its code, whatever the names with which it is read
+  code_read : (f : Fetch) (w : IsAddedMethod f t owner id count places method) (names : Names) (number : ℕ) (b : Body) → IsBody names t number method b
+      → b.code ≡ added_code f (named_places places) count
+  code_read fetches.Member w names number b body =
+      let same = same_bodies names (init_names t owner id count places method w) t number method _ _ b (init_body t owner id count places method w number) body
+      (init_is_body t owner id count places method w number) in
+      ap (λ (x : Body). x.code) same.rest
+  code_read fetches.Constant w names number b body =
+      let same = same_bodies names [] t number method _ _ b (bootstrap_body t owner id count places method w number) body
+      (bootstrap_is_body t owner id count places method w number) in
+      ap (λ (x : Body). x.code) same.rest
 
   pub text_is : (names : Names) (number : ℕ) (b : Body) (p : InitPlaces) → BodyOf names t number b → slice_get t.methods number ≡ Some method
-      → b.code ≡ init_code p count → string_of t.pool p.name ≡ Some owner
+      → b.code ≡ added_code fetch p count → string_of t.pool p.name ≡ Some owner
   text_is names number b p body at code =
       let same_method = same_of (sym body.at ∙ at) in
-      let same = same_bodies names (init_names t owner id count places method added) t number method _ _ b (init_body t owner id count places method added number)
-      (subst (λ (x : Member). IsBody names t number x b) same_method body.is) (init_is_body t owner id count places method added number) in
-      let place = same_name_place fetches.Member p (named_places places) count count (sym code ∙ ap (λ (x : Body). x.code) same.rest) in
+      let own = code_read fetch added names number b (subst (λ (x : Member). IsBody names t number x b) same_method body.is) in
+      let place = same_name_place fetch p (named_places places) count count (sym code ∙ own) in
       ap (string_of t.pool) place ∙ m.name_is
     where
       same_of : {x y : Member} → Some x ≡ Some y → x ≡ y
@@ -132,7 +129,8 @@ kept_there pool (x ∷ ms) (y ∷ ns) kept zero n at = (x, refl, ap (λ (m : Mem
     some_is e = cc
 kept_there pool (x ∷ ms) (y ∷ ns) kept (suc i) n at = kept_there pool ms ns kept.1 i n at
 
-module _ (id count : ℕ) (needs : List Content) (c t : ClassFile) (class : IsClassFile c) (not_added : HasAdded c → ⊥) (out : IsSameOutside id needs count c t) where
+module _ (id bootstrap count : ℕ) (needs : List Content) (c t : ClassFile) (class : IsClassFile c) (not_added : HasAdded c → ⊥)
+    (out : IsSameOutside id bootstrap needs count c t) where
   none_kept : (number : ℕ) (x : Member) → slice_get out.kept number ≡ Some x → utf8_of t.pool x.name ≡ Some init_name → ⊥
   none_kept number x at named =
       let m = kept_there c.pool c.methods out.kept out.kept_are number x at in

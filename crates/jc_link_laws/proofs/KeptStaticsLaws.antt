@@ -6,6 +6,7 @@ use Rattle.std.specs.List.{list_any, AllByRecursion}
 use Rattle.std.specs.Option.{option_and_then}
 use Rattle.std.proofs.lemmas.Bool.{eq-eqb, true≢false}
 use Rattle.std.proofs.lemmas.Option.{none-some, same_Some}
+use Rattle.std.proofs.lemmas.List.{append-nil}
 use Rattle.std.proofs.lemmas.List.Concat.{flat_map-cons}
 use Rattle.jc_bytes.specs.Decoder.{◌>>=◌}
 use Rattle.jc_bytes.specs.Descriptor.{FieldType, Byte, Char, Int, Long, Short, Boolean}
@@ -13,6 +14,8 @@ use Rattle.jc_bytes.proofs.BooleanLaws.{which_in, none_in}
 use Rattle.jc_methods.specs.DescriptorTypes.{field_type_in}
 use Rattle.jc_methods.specs.EntryState.{is_static}
 use Rattle.jc_methods.specs.ProbeMembers.{data_name, data_type, init_name}
+use Rattle.jc_methods.specs.declared.probe_members.Fetch.{Fetch}
+use Rattle.jc_methods.specs.declared.probe_members.Fetch.TheVariants as fetches
 use Rattle.jc_programs.specs.Narrowing.{narrowed}
 use Rattle.jc_programs.specs.declared.program.StaticField.{StaticField}
 use Rattle.jc_pool.specs.declared.constant.ConstText.{ConstText}
@@ -29,8 +32,8 @@ use Rattle.jc_class.specs.Writable.{IsAttribute, IsMember, NamesItsConstants}
 use Rattle.jc_class.specs.declared.class_file.Attribute.{Attribute}
 use Rattle.jc_class.specs.declared.class_file.Member.{Member}
 use Rattle.jc_body.specs.Attributes.{bodies_of, has_name, is_text}
-use Rattle.jc_emit.specs.Added.{data_static}
-use Rattle.jc_instrument.specs.SameOutside.{IsKeptMethod, AreKeptMethods, IsDataField}
+use Rattle.jc_emit.specs.Added.{added_statics, data_static}
+use Rattle.jc_instrument.specs.SameOutside.{AreAddedFields, IsKeptMethod, AreKeptMethods, IsDataField}
 use Rattle.jc_instrument.proofs.TwinLaws.{text_is}
 use Rattle.jc_link_programs.specs.Statics.{int_in, long_in, int_at, long_at, number_at, first_by, first_number, single, place_in, constant_place, static_with, as_static, static_of, statics_among, is_clinit}
 
@@ -133,7 +136,7 @@ module _ (old new : PoolValue) (more : Extends old new) where
 
   -- ---- attributes
 
-  text_same : (place : ℕ) → HasText old place → utf8_of new place ≡ utf8_of old place
+  pub text_same : (place : ℕ) → HasText old place → utf8_of new place ≡ utf8_of old place
   text_same place t = utf8_kept old new t.0 place more t.1 ∙ sym t.1
 
   named_same : (name : List ℕ) (attributes : List Attribute) → AllByRecursion (IsAttribute (HasText old)) attributes
@@ -209,12 +212,19 @@ first_of_none : (pool : PoolValue) (type : Option FieldType) → first_by pool t
 first_of_none pool (Some type) = refl
 first_of_none pool None = refl
 
-pub data_field_static : (pool : PoolValue) (field : Member) → IsDataField pool field → static_of pool field ≡ data_static ∷ []
+data_field_static : (pool : PoolValue) (field : Member) → IsDataField pool field → static_of pool field ≡ data_static ∷ []
 data_field_static pool field is =
     ap (λ (f : ℕ). if is_static f then static_with pool field (utf8_of pool field.name) (utf8_of pool field.desc) else []) is.flags
     ∙ ap₂ (λ (n d : Option (List ℕ)). static_with pool field n d) is.name is.desc
     ∙ ap (λ (l : List Attribute). record { name = data_name; desc = data_type; first = first_number pool data_type l } ∷ []) is.attributes
     ∙ ap (λ (z : ℤ). record { name = data_name; desc = data_type; first = z } ∷ []) (first_of_none pool (field_type_in data_type))
+
+-- the static fields that are added
+pub added_fields_static : (fetch : Fetch) (pool : PoolValue) (added : List Member) → AreAddedFields fetch pool added
+    → statics_among pool added ≡ added_statics fetch
+added_fields_static fetches.Member pool added are =
+    ap (statics_among pool) are.1 ∙ flat_map-cons (static_of pool) are.0 [] ∙ append-nil (static_of pool are.0) ∙ data_field_static pool are.0 are.2
+added_fields_static fetches.Constant pool added are = ap (statics_among pool) are
 
 pub init_no_clinit : (pool : PoolValue) (m : Member) → utf8_of pool m.name ≡ Some init_name → is_clinit pool m ≡ false
 init_no_clinit pool m name = ap (is_text (codes "<clinit>")) name

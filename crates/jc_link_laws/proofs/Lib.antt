@@ -1,3 +1,4 @@
+pub mod KeptBootstrapsLaws
 pub mod ChangedPairLaws
 pub mod FoundBootstrapLaws
 pub mod FoundPairLaws

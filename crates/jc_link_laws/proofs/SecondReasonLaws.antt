@@ -23,7 +23,6 @@ use Rattle.jc_body.specs.Faults.{HasSubroutine, OfCode, TooWide, faults, faults_
 use Rattle.jc_body.specs.First.{AreNowhere, Fault, IsFirstFault}
 use Rattle.jc_body.proofs.AnswerLaws.{bodiless_or_body, bodiless_or_fault}
 use Rattle.jc_methods.specs.declared.probe_members.Fetch.{Fetch}
-use Rattle.jc_methods.specs.declared.probe_members.Fetch.TheVariants as fetches
 use Rattle.jc_kinds.specs.Checked.{Checked}
 use Rattle.jc_kinds.proofs.CheckLaws.{checked_not_missing, checked_not_clash}
 use Rattle.jc_plan.specs.Probed.{probe_count}
@@ -133,7 +132,7 @@ module _ (original text : List ℕ) (short : IsShortFile original) (w : IsWritte
 
   twin_passes : (i : ℕ) (y : Body) → slice_get (h.twins ++ h.added ∷ []) i ≡ Some y → Checked h.new_names y
   twin_passes =
-      each_passes h.names h.new_names h.added (inits.verified fetches.Member h.new_names _ _ _ h.added h.added_is) fetches.Member (name_of c) 0 0 h.bodies (h.twins ++ h.added ∷ []) h.each source
+      each_passes h.names h.new_names h.added (inits.verified h.fetch h.new_names _ _ _ h.added h.added_is) h.fetch (name_of c) h.bootstrap 0 h.bodies (h.twins ++ h.added ∷ []) h.each source
 
   -- ---- each method
 

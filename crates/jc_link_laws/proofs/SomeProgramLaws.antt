@@ -49,7 +49,7 @@ use Rattle.jc_link_laws.proofs.FoundProbesLaws.{found_probes}
 
 link_decided : (c : ClassFile) → IsClassFile c → AreDecided (link_causes c)
 link_decided c is = (
-  by (cases_lt c.major 50) (cases_lt 61 c.major),
+  by (cases_lt c.major 50) (cases_lt 65 c.major),
   (
     in_method_decided kinds.Subroutine (IsFaulty c kinds.Subroutine) (length c.methods) (subroutine_at c is) (faulty_below c is kinds.Subroutine),
     (
@@ -62,14 +62,14 @@ link_decided c is = (
   ),
 )
   where
-    none : (50 ≤ c.major) → (c.major ≤ 61) → (r : Refusal) → WrongVersion c r → ⊥
+    none : (50 ≤ c.major) → (c.major ≤ 65) → (r : Refusal) → WrongVersion c r → ⊥
     none low high r w = inside w.outside
       where
         inside : IsOutside c.major → ⊥
         inside (inl less) = omega (arith, less, low)
         inside (inr more) = omega (arith, more, high)
 
-    by : (c.major < 50) ⊎ (50 ≤ c.major) → (61 < c.major) ⊎ (c.major ≤ 61) → IsDecided (WrongVersion c)
+    by : (c.major < 50) ⊎ (50 ≤ c.major) → (65 < c.major) ⊎ (c.major ≤ 65) → IsDecided (WrongVersion c)
     by (inl old) new = inl (of_class kinds.Version c.major, record { outside = inl old; refusal = refl })
     by (inr low) (inl new) = inl (of_class kinds.Version c.major, record { outside = inr new; refusal = refl })
     by (inr low) (inr high) = inr (none low high)

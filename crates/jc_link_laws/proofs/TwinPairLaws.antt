@@ -25,7 +25,7 @@ use Rattle.jc_instrument.specs.Causes.{NoCause}
 use Rattle.jc_instrument.specs.Reasons.{HasAdded, HasAddedName}
 use Rattle.jc_instrument.specs.Refused.{IsAccepted, probe_causes}
 use Rattle.jc_link_programs.specs.Linking.{IsLinkedOf, IsLinkedClass}
-use Rattle.jc_link_programs.specs.OwnBootstrap.{added_type}
+use Rattle.jc_instrument_reread.specs.Written.{added_type}
 use Rattle.jc_link_programs.specs.ProbeInits.{AreProbes, added_of, is_added}
 use Rattle.jc_link_programs.specs.Statics.{static_of, static_with, statics_among}
 use Rattle.jc_link_programs.proofs.SameLinkedLaws.{same_linked}

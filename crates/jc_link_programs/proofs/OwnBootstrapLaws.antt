@@ -19,7 +19,8 @@ use Rattle.jc_class.specs.ItemReading.{passes}
 use Rattle.jc_bootstraps.specs.Bootstraps.{Bootstrap, EndsWith, bootstraps, bootstrap_bodies, told_of}
 use Rattle.jc_bootstraps.specs.declared.bootstraps.LastBootstrap.{LastBootstrap}
 use Rattle.jc_bootstraps.proofs.BootstrapFormLaws.{one_list}
-use Rattle.jc_link_programs.specs.OwnBootstrap.{HasBootstrap, IsLastBootstrap, IsMethod, IsOwn, bootstrap_handle, bootstrap_method}
+use Rattle.jc_instrument.specs.Needed.{bootstrap_handle}
+use Rattle.jc_link_programs.specs.OwnBootstrap.{HasBootstrap, IsLastBootstrap, IsMethod, IsOwn, bootstrap_method}
 use Rattle.jc_link_programs.specs.Statics.{single}
 
 -- ---- the attributes of the name

@@ -1,26 +1,18 @@
 -- The bootstrap method that gives a class its probe array.
 use Rattle.std.specs.Prelude.{◌≡◌, ℕ, List, [], ◌∷◌, ◌++◌, length, Option, Some, None}
-use Rattle.jc_methods.specs.ProbeMembers.{init_name, init_type, bootstrap_type}
+use Rattle.jc_methods.specs.ProbeMembers.{init_name, bootstrap_type}
 use Rattle.jc_methods.specs.declared.probe_members.Fetch.{Fetch}
 use Rattle.jc_methods.specs.declared.probe_members.Fetch.TheVariants as fetches
-use Rattle.jc_pool.specs.Lookup.{Member, Handle, handle_of}
+use Rattle.jc_pool.specs.Lookup.{Member, handle_of}
 use Rattle.jc_pool.specs.Pool.{PoolValue}
 use Rattle.jc_class.specs.declared.class_file.ClassFile.{ClassFile}
 use Rattle.jc_bootstraps.specs.Bootstraps.{Bootstrap, bootstraps, bootstrap_bodies}
 use Rattle.jc_bootstraps.specs.declared.bootstraps.LastBootstrap.{LastBootstrap}
-
--- the descriptor of the method that instrumentation adds
-abbrev pub added_type : Fetch → List ℕ
-added_type fetches.Member = init_type
-added_type fetches.Constant = bootstrap_type
+use Rattle.jc_instrument.specs.Needed.{bootstrap_handle}
 
 -- the added method of the class with this name, as the Methodref that names it (JVM Specification 4.4.2)
 abbrev pub bootstrap_method : (class : List ℕ) → Member
 bootstrap_method class = record { tag = 10; class = class; name = init_name; desc = bootstrap_type }
-
--- the handle that calls this static method, REF_invokeStatic (JVM Specification 4.4.8, 5.4.3.5)
-abbrev pub bootstrap_handle : (class : List ℕ) → Handle
-bootstrap_handle class = record { kind = 6; target = bootstrap_method class }
 
 -- ---- the last bootstrap method
 

@@ -17,7 +17,8 @@ use Rattle.jc_programs.specs.declared.program.ProbeInit.{ProbeInit}
 use Rattle.jc_pool.specs.Lookup.{string_of}
 use Rattle.jc_class.specs.declared.class_file.ClassFile.{ClassFile}
 use Rattle.jc_emit.specs.Added.{HasCount, InitPlaces, bootstrap_code, init_code}
-use Rattle.jc_link_programs.specs.OwnBootstrap.{HasBootstrap, added_type}
+use Rattle.jc_instrument_reread.specs.Written.{added_type}
+use Rattle.jc_link_programs.specs.OwnBootstrap.{HasBootstrap}
 use Rattle.jc_link_programs.specs.declared.asked.Asked.{Asked}
 use Rattle.jc_link_programs.specs.declared.asked.Counted.{Counted}
 use Rattle.jc_link_programs.specs.declared.asked.Counted.TheVariants as counts

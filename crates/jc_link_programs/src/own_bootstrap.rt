@@ -1,7 +1,8 @@
 //! The bootstrap method that gives a class its probe array.
 ghost use Rattle.std.specs.Prelude.{◌≡◌, ◌↔◌, ℕ, IsTrue, Some, IfSome, IfNone};
 ghost use Rattle.jc_pool.specs.Lookup.{handle_of, member as text_of, reference_of};
-ghost use Rattle.jc_link_programs.specs.OwnBootstrap.{IsLastBootstrap, IsMethod, IsOwn, bootstrap_handle, bootstrap_method};
+ghost use Rattle.jc_instrument.specs.Needed.{bootstrap_handle};
+ghost use Rattle.jc_link_programs.specs.OwnBootstrap.{IsLastBootstrap, IsMethod, IsOwn, bootstrap_method};
 
 use crate::statics::single_named;
 use jc_bootstraps::{LastBootstrap, bootstrap_count, last_bootstrap};

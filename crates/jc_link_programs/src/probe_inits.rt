@@ -6,7 +6,8 @@ ghost use Rattle.jc_methods.specs.ProbeMembers.{data_name, data_type, runtime_cl
 ghost use Rattle.jc_methods.specs.WellMade.{what_used};
 ghost use Rattle.jc_methods.specs.declared.body.What.TheVariants as whats;
 ghost use Rattle.jc_pool.specs.Lookup.{string_of};
-ghost use Rattle.jc_link_programs.specs.OwnBootstrap.{HasBootstrap, added_type};
+ghost use Rattle.jc_instrument_reread.specs.Written.{added_type};
+ghost use Rattle.jc_link_programs.specs.OwnBootstrap.{HasBootstrap};
 ghost use Rattle.jc_link_programs.specs.ProbeInits.{added_code, added_of, int_above, is_added, number_in, places_of, AreProbes, CodeAsks};
 ghost use Rattle.jc_link_programs.specs.ProbeInits.{NamesField, NamesMembers};
 

@@ -1,6 +1,6 @@
 use Rattle.std.proofs.Common.{◌≡◌, false, nat_eq, refl, rules, subst, sym, ◌∙◌, true≢false, IsTrue, ◌↔◌, Bool, Some, ap}
 use Rattle.jc_pool.specs.Lookup.{handle_of}
-use Rattle.jc_link_programs.specs.OwnBootstrap.{bootstrap_handle}
+use Rattle.jc_instrument.specs.Needed.{bootstrap_handle}
 use Rattle.jc_link_programs.proofs.OwnBootstrapLaws.{handle_told, no_handle, other_kind}
 use Rattle.jc_link_programs.proofs.own_bootstrap.is_bootstrap_handle.Goals as goal
 
