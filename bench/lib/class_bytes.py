@@ -10,7 +10,11 @@ The lines of METHODS make a class file (JVM Specification 4.1), which is printed
     extends NAME            its superclass, java/lang/Object without this line
     field FLAGS NAME DESCRIPTOR CONSTANT..     a field with a ConstantValue attribute for each constant
     constant CONSTANT       a further one of the last field; `bytes:` and digits stand for what an attribute holds
-    probes ID COUNT         the field and the method by which an instrumented class asks for its probe array
+    probes ID COUNT         the field and the method by which an instrumented class asks for its probe array; from version 55
+                            on the bootstrap method, which is the last one
+    bootstrap HANDLE ARGUMENTS     an entry of the BootstrapMethods attribute, of constants; a number is a place of the pool
+    attribute NAME DIGITS   a further attribute of the class, with what it holds
+    pool CONSTANT           a constant that stands in the pool in front of what has no such line
     method FLAGS NAME DESCRIPTOR MAX_STACK MAX_LOCALS
     MNEMONIC OPERANDS       the next instruction of the method
     frame AT TYPES | TYPES  a stack map frame: its instruction, the local variables, and the stack
@@ -23,7 +27,8 @@ The lines of METHODS make a class file (JVM Specification 4.1), which is printed
 Places in the code are numbers of instructions. A jump has its target as its operand, `tableswitch` its default, its
 least key and the targets, and `lookupswitch` its default and `KEY:TARGET`s. What stands in the constant pool is written
 as its class and name with the descriptor, as `B.f:(I)V`, a class by its name, and a constant as `int:7`, `long:7`,
-`float:0`, `double:0`, `string:x`, `class:A`, `handle:B.f:()V`, `type:()V` or `dynamic:f:I`. A type of a frame is
+`float:0`, `double:0`, `string:x`, `class:A`, `handle:B.f:()V`, `type:()V`, `dynamic:f:I` or `text:x`. A dynamic constant and
+the operand of `invokedynamic` have the number of their bootstrap method in front, as `dynamic:1:f:I`, or 0. A type of a frame is
 `top`, `int`, `float`, `double`, `long`, `null`, `uninitializedThis`, `class:NAME` or `uninitialized:AT`, and a long or a
 double in local variables stands for both of its own. Frames are written in full, and `pad N` puts N `nop`s. Instructions on local
 variables are wide where they have to be.
@@ -46,7 +51,8 @@ invokeinterface invokedynamic new newarray anewarray arraylength athrow checkcas
 multianewarray ifnull ifnonnull goto_w jsr_w""".split()
 OPCODES = {name: op for op, name in enumerate(MNEMONICS)}
 TYPES = ["top", "int", "float", "double", "long", "null", "uninitializedThis"]
-CONSTANTS = ("int", "long", "float", "double", "string", "class", "handle", "type", "dynamic")
+LOOKUP = "(Ljava/lang/invoke/MethodHandles$Lookup;Ljava/lang/String;Ljava/lang/Class;)[Z"
+CONSTANTS = ("int", "long", "float", "double", "string", "class", "handle", "type", "dynamic", "text")
 
 
 def u1(value):
@@ -89,7 +95,14 @@ class Pool:
         owner, rest = text.split(".", 1)
         return self.place(u1(tag) + u2(self.of_class(owner)) + u2(self.signature(rest)))
 
+    def computed(self, tag, text):
+        """A dynamic constant or call site: the number of its bootstrap method, its name and its descriptor."""
+        number, rest = text.split(":", 1) if text.split(":")[0].isdigit() else ("0", text)
+        return self.place(u1(tag) + u2(int(number)) + u2(self.signature(rest)))
+
     def constant(self, text):
+        if text.isdigit():
+            return int(text)
         kind, value = text.split(":", 1)
         if kind == "int":
             return self.place(u1(3) + struct.pack(">i", int(value)))
@@ -108,7 +121,9 @@ class Pool:
         if kind == "type":
             return self.place(u1(16) + u2(self.utf8(value)))
         if kind == "dynamic":
-            return self.place(u1(17) + u2(0) + u2(self.signature(value)))
+            return self.computed(17, value)
+        if kind == "text":
+            return self.utf8(value)
         raise ValueError("unknown constant " + text)
 
 
@@ -124,16 +139,34 @@ class Field:
         return names + u2(len(held)) + b"".join(attribute(pool, "ConstantValue", body) for body in held)
 
 
+def pushed(count):
+    """The instruction that pushes a number of probes."""
+    if count < 6:
+        return "iconst_%d" % count
+    return "bipush %d" % count if count < 128 else "sipush %d" % count if count < 32768 else "ldc_w int:%d" % count
+
+
+def asks(name, number, count):
+    """The instructions that ask for the class's probe array: `number` is its id, and `count` says its probes."""
+    fetch = "invokestatic org/jacoco/agent/rt/internal/Offline.getProbes:(JLjava/lang/String;I)[Z"
+    return ["ldc2_w long:%s" % number, "ldc_w string:" + name, pushed(count), fetch]
+
+
 def probe_array(name, number, count):
-    """The field and the method by which the class gets its probe array: `number` is its id, and `count` says its probes."""
-    push = "iconst_%d" % count if count < 6 else ("bipush %d" if count < 128 else "sipush %d") % count
-    lines = ["getstatic %s.$jacocoData:[Z" % name, "dup", "ifnonnull 10", "pop", "ldc2_w long:%s" % number, "ldc_w string:" + name]
-    lines += [push, "invokestatic org/jacoco/agent/rt/internal/Offline.getProbes:(JLjava/lang/String;I)[Z", "dup"]
+    """The field and the method by which the class gets its probe array."""
+    lines = ["getstatic %s.$jacocoData:[Z" % name, "dup", "ifnonnull 10", "pop", *asks(name, number, count), "dup"]
     lines += ["putstatic %s.$jacocoData:[Z" % name, "areturn"]
     method = Method(["0x100A", "$jacocoInit", "()[Z", "4", "0"])
     method.insns = [line.split() for line in lines]
     method.frames = [["10", "|", "class:[Z"]]
     return Field(["0x108A", "$jacocoData", "[Z"]), method
+
+
+def probe_constant(name, number, count):
+    """The bootstrap method of the constant by which the class gets its probe array."""
+    method = Method(["0x100A", "$jacocoInit", LOOKUP, "4", "3"])
+    method.insns = [line.split() for line in [*asks(name, number, count), "areturn"]]
+    return method
 
 
 class Method:
@@ -206,7 +239,7 @@ class Method:
         if name == "invokeinterface":
             return op + u2(pool.member(11, operands[0])) + u1(int(operands[1])) + u1(0)
         if name == "invokedynamic":
-            return op + u2(pool.place(u1(18) + u2(0) + u2(pool.signature(operands[0])))) + u2(0)
+            return op + u2(pool.computed(18, operands[0])) + u2(0)
         if name in ("new", "anewarray", "checkcast", "instanceof"):
             return op + u2(pool.of_class(operands[0]))
         if name == "multianewarray":
@@ -270,9 +303,21 @@ def attribute(pool, name, body):
     return u2(pool.utf8(name)) + u4(len(body)) + body
 
 
+def class_attributes(pool, bootstraps, others):
+    """The attributes of a class: its bootstrap methods (JVM Specification 4.7.23), if there are some, and others."""
+    made = []
+    if bootstraps:
+        entries = [[pool.constant(word) for word in words] for words in bootstraps]
+        table = b"".join(u2(places[0]) + u2(len(places) - 1) + b"".join(map(u2, places[1:])) for places in entries)
+        made.append(attribute(pool, "BootstrapMethods", u2(len(entries)) + table))
+    made += [attribute(pool, words[0], bytes.fromhex("".join(words[1:]))) for words in others]
+    return u2(len(made)) + b"".join(made)
+
+
 def class_bytes(lines, pool=None):
     """The class file that lines make; `pool` has its constant pool afterwards."""
     pool, name, major, methods, fields, flags, extended, probes = pool or Pool(), "A", 52, [], [], 0x21, "java/lang/Object", None
+    bootstraps, others = [], []
     for line in lines:
         words = line.split()
         if not words or words[0].startswith("#"):
@@ -283,12 +328,18 @@ def class_bytes(lines, pool=None):
             flags = int(words[1], 0)
         elif words[0] == "extends":
             extended = words[1]
+        elif words[0] == "bootstrap":
+            bootstraps.append(words[1:])
+        elif words[0] == "attribute":
+            others.append(words[1:])
+        elif words[0] == "pool":
+            pool.constant(words[1])
         elif words[0] == "field":
             fields.append(Field(words[1:]))
         elif words[0] == "constant":
             fields[-1].constants.append(words[1])
         elif words[0] == "probes":
-            probes = probe_array(name, words[1], int(words[2]))
+            probes = words[1], int(words[2])
         elif words[0] == "method":
             methods.append(Method(words[1:]))
         elif words[0] == "pad":
@@ -297,14 +348,18 @@ def class_bytes(lines, pool=None):
             getattr(methods[-1], words[0] + "s").append(words[1:])
         else:
             methods[-1].insns.append(words)
-    if probes:
-        fields.append(probes[0])
-        methods.append(probes[1])
+    if probes and major < 55:
+        field, method = probe_array(name, *probes)
+        fields.append(field)
+        methods.append(method)
+    elif probes:
+        methods.append(probe_constant(name, *probes))
+        bootstraps.append(["handle:%s.$jacocoInit:%s" % (name, LOOKUP)])
     this, above = pool.of_class(name), pool.of_class(extended)
     members = u2(len(fields)) + b"".join(field.member(pool) for field in fields)
-    members += u2(len(methods)) + b"".join(method.member(pool) for method in methods)
+    members += u2(len(methods)) + b"".join(method.member(pool) for method in methods) + class_attributes(pool, bootstraps, others)
     head = b"\xca\xfe\xba\xbe" + u2(0) + u2(major) + u2(pool.count) + pool.text
-    return head + u2(flags) + u2(this) + u2(above) + u2(0) + members + u2(0)
+    return head + u2(flags) + u2(this) + u2(above) + u2(0) + members
 
 
 if __name__ == "__main__":

@@ -67,12 +67,25 @@ class Pool:
         name, desc = self.entries[place][1]
         return self.utf8(name), self.utf8(desc)
 
+    def signature_of(self, place):
+        """The same, or places where no NameAndType stands."""
+        return self.signature(place) if self.entries.get(place, (0,))[0] == 12 else (place, place)
+
     def member(self, place):
         owner, signature = self.entries[place][1]
         return (self.name(owner), *self.signature(signature))
 
+    def handle(self, place):
+        """The kind of a method handle, the tag of its member, and the member; or None."""
+        tag, value = self.entries.get(place, (0, None))
+        if tag != 15 or self.entries.get(value[1], (0,))[0] not in (9, 10, 11):
+            return None
+        return (value[0], self.entries[value[1]][0], *self.member(value[1]))
+
     def constant(self, place):
         tag, value = self.entries[place]
+        if tag == 17:
+            return "dynamic", (value[0], *self.signature_of(value[1]))
         kinds = {3: "int", 4: "float", 5: "long", 6: "double", 7: "class", 8: "string"}
         return kinds.get(tag, "other"), self.utf8(value[0]) if tag in (7, 8) else value[0]
 
@@ -194,6 +207,7 @@ class ClassFile:
         self.interfaces = [self.pool.name(data.u2()) for _ in range(data.u2())]
         self.fields = [Field(data, self.pool) for _ in range(data.u2())]
         self.methods = [Method(data, self.pool) for _ in range(data.u2())]
+        self.attributes = attributes(data, self.pool)
         self.id = class_id(text)
 
     def bodies(self):

@@ -1,4 +1,5 @@
 """Linked classes and run plans, for bench/random/slow_machine.py. Well formed ones are expected."""
+import struct
 from typing import NamedTuple
 
 import class_reader
@@ -6,7 +7,10 @@ import class_reader
 NATURAL = {"Z": 1, "B": 8, "S": 16, "C": 16, "I": 32, "J": 64}
 INIT, DATA = "$jacocoInit", "$jacocoData"
 FETCH = ("org/jacoco/agent/rt/internal/Offline", "getProbes", "(JLjava/lang/String;I)[Z")
+LOOKUP = "(Ljava/lang/invoke/MethodHandles$Lookup;Ljava/lang/String;Ljava/lang/Class;)[Z"
 MOST_SLOTS = 1_000
+MOST_SHORT, MOST_PROBES = 32_767, 65_535
+BY_CONSTANT = 55
 
 
 class Long(NamedTuple):
@@ -41,9 +45,9 @@ class Linked:
         self.statics = [field for field in file.fields if field.flags & 8]
         self.has_clinit = any(method.name == "<clinit>" for method in file.methods)
         self.slots = MOST_SLOTS + (4 if any(body.name == INIT for body in self.bodies) else 0)
-        self.probes = self.found_probes()
-        # The constant by which its methods get the array of probes; no class file that is read has one.
+        # The constant by which its methods get the array of probes.
         self.given = None
+        self.probes = self.found_constant() if file.major >= BY_CONSTANT else self.found_probes()
 
     def found_probes(self):
         for body in self.bodies:
@@ -51,16 +55,39 @@ class Linked:
                 return self.probes_in(body.code)
         return None
 
+    def found_constant(self):
+        """The same of a class that gets its array by the constant of its last bootstrap method."""
+        code = next((body.code for body in self.bodies if (body.name, body.desc) == (INIT, LOOKUP)), [])
+        held = [body for name, body in self.file.attributes if name == "BootstrapMethods"]
+        entries = bootstraps(held[0]) if len(held) == 1 else None
+        if len(code) != 5 or code[0][0] != "ldc2_w" or not entries or len(entries[-1]) != 1:
+            return None
+        if self.file.pool.handle(entries[-1][0]) != (6, 10, self.name, INIT, LOOKUP):
+            return None
+        count = self.count_in(code[2])
+        if count is None or code != [code[0], ["ldc", ("string", self.name)], code[2], ["invokestatic", *FETCH], ["areturn"]]:
+            return None
+        self.given = ("dynamic", (len(entries) - 1, DATA, "Ljava/lang/Object;"))
+        return code[0][1][1], count
+
+    def count_in(self, push):
+        """The number of probes that an instruction pushes the shortest way."""
+        name = push[0]
+        if name[:7] == "iconst_" and name[7:].isdigit():
+            return int(name[7:])
+        if name in ("bipush", "sipush"):
+            return push[1] if push[1] >= (6 if name == "bipush" else 128) else None
+        return push[1][1] if name == "ldc" and push[1][0] == "int" and MOST_SHORT < push[1][1] <= MOST_PROBES else None
+
     def probes_in(self, code):
         """The id and the number of probes, where the code is that by which the class asks for its probe array."""
         if len(code) != 11 or code[4][0] != "ldc2_w" or code[4][1][0] != "long":
             return None
         data, push = (self.name, DATA, "[Z"), code[6]
-        count = int(push[0][7:]) if push[0][:7] == "iconst_" and push[0][7:].isdigit() else push[-1] if push[0] in ("bipush", "sipush") else -1
         wanted = [["getstatic", *data], ["dup"], ["ifnonnull", 10], ["pop"], code[4], ["ldc", ("string", self.name)], push]
         wanted += [["invokestatic", *FETCH], ["dup"], ["putstatic", *data], ["areturn"]]
-        least = {"iconst": 0, "bipush": 6, "sipush": 128}.get(push[0][:6], -1)
-        return (code[4][1][1], count) if code == wanted and count >= least >= 0 else None
+        count = self.count_in(push)
+        return (code[4][1][1], count) if code == wanted and count is not None else None
 
     def first(self, field):
         """The value of a static field before a case begins."""
@@ -76,6 +103,18 @@ class Linked:
     def body(self, name, desc):
         """The number of the first body with this name and descriptor."""
         return next((k for k, body in enumerate(self.bodies) if (body.name, body.desc) == (name, desc)), None)
+
+
+def bootstraps(held):
+    """The bootstrap methods of an attribute: of each the places of its handle and its arguments. None where it is of no form."""
+    data, found = class_reader.Bytes(held), []
+    try:
+        for _ in range(data.u2()):
+            handle = data.u2()
+            found.append([handle, *(data.u2() for _ in range(data.u2()))])
+    except struct.error:
+        return None
+    return found if data.at == len(held) else None
 
 
 class Program:

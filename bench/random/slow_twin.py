@@ -119,7 +119,7 @@ def pushed(number):
 
 
 class Twin:
-    """The body that instrumentation makes: for each instruction whether it is an image, where it belongs, and how many
+    """The body that instrumentation makes, where all conditional jumps are wide, or those in a set: for each instruction whether it is an image, where it belongs, and how many
     values of a probe stand on the stack before it."""
 
     def __init__(self, owner, body, probes, wide, constant=None):
@@ -168,7 +168,7 @@ class Twin:
     def put_jump(self, i, name, to):
         number = self.probes.out.get((i, 1))
         asked, place, at = (name, ("land", to), to) if number is None else (INVERSE[name], ("lead", i + 1), i + 1)
-        if self.wide:
+        if self.wide is True or self.wide and i in self.wide:
             self.put([INVERSE[asked], ("place", len(self.code) + 2)], True, i, 0)
             self.put(["goto", place], False, at, 0)
         else:
@@ -207,6 +207,19 @@ class Twin:
         return any(getattr(ours, what) != getattr(found, what) for what in ("code", "handlers", "max_stack", "max_locals"))
 
 
+def twin_beside(owner, body, probes, found):
+    """The twin in which those conditional jumps are wide that are so in the body that was written: there another instruction stands.
+    slow_layout.py looks at which ones have to be."""
+    wide = set()
+    while True:
+        twin = Twin(owner, body, probes, wide)
+        others = (i for i, ours, theirs in zip(twin.at, twin.code, found.code) if ours[0] != theirs[0])
+        first = next(others, None)
+        if first is None or first in wide:
+            return twin
+        wide.add(first)
+
+
 class Pair:
     """A program and its instrumented files."""
 
@@ -219,7 +232,7 @@ class Pair:
             first = 0
             for k, body in enumerate(old.bodies):
                 self.probes[c, k] = Probes(body, first)
-                self.twins[c, k] = Twin(old.name, body, self.probes[c, k], new.bodies[k].wide)
+                self.twins[c, k] = twin_beside(old.name, body, self.probes[c, k], new.bodies[k])
                 first = self.probes[c, k].next
                 if self.twins[c, k].differs(new.bodies[k]):
                     self.faults.append("%s.%s: another body" % (old.name, body.name))

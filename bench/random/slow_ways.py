@@ -20,7 +20,6 @@ import slow_machine
 import slow_programs
 import slow_twin
 
-LOOKUP = "(Ljava/lang/invoke/MethodHandles$Lookup;Ljava/lang/String;Ljava/lang/Class;)[Z"
 CONSTANT = ("dynamic", (0, slow_programs.DATA, "Ljava/lang/Object;"))
 
 
@@ -39,7 +38,7 @@ class Made(slow_programs.Linked):
         asks = [["ldc2_w", ("long", number)], ["ldc", ("string", old.name)], push, ["invokestatic", *slow_programs.FETCH]]
         if by_constant:
             self.given = CONSTANT
-            init = added(LOOKUP, 3, asks + [["areturn"]])
+            init = added(slow_programs.LOOKUP, 3, asks + [["areturn"]])
         else:
             data = (old.name, slow_programs.DATA, "[Z")
             init = added("()[Z", 0, [["getstatic", *data], ["dup"], ["ifnonnull", 10], ["pop"], *asks, ["dup"], ["putstatic", *data], ["areturn"]])

@@ -17,6 +17,7 @@ use Rattle.jc_emit.specs.Written.{given, integer_in}
 use Rattle.jc_instrument.proofs.KeptStatesLaws.{states_grown}
 use Rattle.jc_layout.proofs.LayableLaws.{all_formed, all_within, few_in}
 use Rattle.jc_instrument.proofs.WritableLaws.{has_frames}
+use Rattle.jc_instrument.specs.declared.constants.ProbeConstants.{ProbeConstants}
 use Rattle.tests_classes.specs.Instrumented.{IsInstrumented, FitsInLayout}
 
 -- the code of an emission can be laid out
@@ -39,13 +40,17 @@ module _ (names : Names) (b : Body) (fetch : Fetch) (first : ℕ) (constants : L
   pub wide_frames_rise : IsInstrumented names b fetch first constants e → RiseFrom 0 e.wide_frames
   wide_frames_rise is = is.told.wide_frames.rising
 
+-- by the method, and without Integers
+abbrev by_method : ProbeConstants
+by_method = record { fetch = fetches.Member; giver = 0; integers = [] }
+
 module _ (names : Names) (b : Body) (first : ℕ) (states : List State) (array : ℕ) where
   abbrev by_member : Emitted
   by_member = emission b first states (given fetches.Member array [])
 
   fit : AreStates names b states → IsArrayNumber names array → IsEmitted names names states fetches.Member (integer_in []) first b by_member
       → by_member.max_locals ≤ 65535 → by_member.max_stack ≤ 65535 → FitsInLayout (length names) by_member
-  fit are array_is told few low = record { frames = λ l laid. has_frames names b first states array l are array_is laid told few low }
+  fit are array_is told few low = record { frames = λ l laid. has_frames by_method names b first states array l are array_is laid told few low }
 
 pub fits_in_layout : (names : Names) (b : Body) (first : ℕ) (e : Emitted) → IsInstrumented names b fetches.Member first [] e → e.max_locals ≤ 65535
     → e.max_stack ≤ 65535 → FitsInLayout (length names) e

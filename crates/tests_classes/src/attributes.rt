@@ -1,57 +1,71 @@
-//! Calls that take numbers alone: the added method, and frames in their order.
-ghost use Rattle.std.specs.Prelude.{◌≡◌, ◌≤◌};
-ghost use Rattle.jc_methods.specs.ProbeMembers.{most_probes};
+//! Calls that take numbers alone: the added methods, and frames in their order.
+ghost use Rattle.std.specs.Prelude.{◌≡◌};
 
 use crate::shown::put_bytes;
 use jc_bytes::List;
-use jc_instrument_code::{AddedPlaces, merged_frames, write_init};
-use jc_methods::{FrameAt, State};
+use jc_instrument_code::{AddedPlaces, merged_frames, write_added};
+use jc_methods::{Fetch, FrameAt, State};
 use std::alloc::Global;
 use tests_lines::{Answer, numbers};
-
-/// The most probes of a class.
-const MOST_PROBES: u16 = 32_767;
 
 /// Puts what a call that takes numbers alone answers.
 pub fn answer(alloc: Global, call: &str, words: &[&str], out: &mut Answer) -> Option<()> {
     let numbers = numbers::<u16>(alloc, words, out)?;
     match call {
         "init" => init(alloc, &numbers, out),
+        "bootstrap" => bootstrap(alloc, &numbers, out),
         _ => merged(alloc, &numbers, out),
     }
 }
 
-/// The places that the added method names, if there are so many numbers.
-fn places(numbers: &[u16]) -> Option<AddedPlaces> {
-    match numbers {
-        [field, id, name, fetch, array, frames, _] => Some(AddedPlaces {
-            field: *field,
-            id: *id,
-            name: *name,
-            fetch: *fetch,
-            array: *array,
-            frames: *frames,
-        }),
-        _ => None,
-    }
-}
-
-/// Puts the text of the added method's Code attribute: the places that it names, and behind them how many probes there
-/// are.
+/// Puts the text of the Code attribute of the method that keeps the array in a field: the places that it names, and behind them how
+/// many probes there are.
 fn init(alloc: Global, numbers: &[u16], out: &mut Answer) -> Option<()> {
-    match (places(numbers), numbers.last()) {
-        (Some(places), Some(probes)) if *probes <= MOST_PROBES => {
-            init_text(alloc, &places, *probes, out)
+    match numbers {
+        [field, id, name, count, fetch, array, frames, probes] => {
+            let places = AddedPlaces {
+                field: *field,
+                id: *id,
+                name: *name,
+                count: *count,
+                fetch: *fetch,
+                array: *array,
+                frames: *frames,
+            };
+            added_text(alloc, Fetch::Member, &places, *probes, out)
         }
         _ => out.unknown_word("init"),
     }
 }
 
+/// Puts that of the bootstrap method.
+fn bootstrap(alloc: Global, numbers: &[u16], out: &mut Answer) -> Option<()> {
+    match numbers {
+        [id, name, count, fetch, probes] => {
+            let places = AddedPlaces {
+                field: 0,
+                id: *id,
+                name: *name,
+                count: *count,
+                fetch: *fetch,
+                array: 0,
+                frames: 0,
+            };
+            added_text(alloc, Fetch::Constant, &places, *probes, out)
+        }
+        _ => out.unknown_word("bootstrap"),
+    }
+}
+
 /// Puts the text of the added method's Code attribute.
-fn init_text(alloc: Global, places: &AddedPlaces, probes: u16, out: &mut Answer) -> Option<()>
-    requires { probes ≤ most_probes }
-{
-    let text = out.got(write_init(alloc, places, u32::from(probes)))?;
+fn added_text(
+    alloc: Global,
+    fetch: Fetch,
+    places: &AddedPlaces,
+    probes: u16,
+    out: &mut Answer,
+) -> Option<()> {
+    let text = out.got(write_added(alloc, fetch, places, u32::from(probes)))?;
     put_bytes(&text, out);
     Some(())
 }

@@ -64,7 +64,9 @@ pub fn answer(alloc: Global, bytes: &[u8], words: &[&str], out: &mut Answer) -> 
     match words {
         ["analyse"] => put_analysed(alloc, bytes, out),
         ["instrument"] => put_instrumented(alloc, bytes, out),
-        [call @ ("init" | "merge"), numbers @ ..] => attributes::answer(alloc, call, numbers, out),
+        [call @ ("init" | "bootstrap" | "merge"), numbers @ ..] => attributes::answer(
+            alloc, call, numbers, out,
+        ),
         ["covered", _] | ["counters", _] | ["report", _, _] => {
             covering::answer(alloc, bytes, words, out)
         }

@@ -13,7 +13,7 @@ use crate::shown::put_bytes;
 use jc_bytes::Names;
 use jc_instrument_code::{CodePlaces, NamedFrames, first_text, write_code};
 use jc_layout::Laid;
-use jc_methods::{Emitted, FrameAt, Kind};
+use jc_methods::{Emitted, Fetch, FrameAt, Kind};
 use jc_pool::Pool;
 use std::alloc::Global;
 use tests_lines::Answer;
@@ -91,7 +91,8 @@ fn places_of(pool: &Pool, method: u16) -> Option<CodePlaces>
     ensures kind_vars { IfSome result (λ p. IsFirst (utf8_of pool.now) kind_vars_name p.kind_vars) }
 {
     Some(CodePlaces {
-        method,
+        giver: method,
+        array: 0,
         lines: first_text(pool, b"LineNumberTable")?,
         vars: first_text(pool, b"LocalVariableTable")?,
         kind_vars: first_text(pool, b"LocalVariableTypeTable")?,
@@ -124,7 +125,7 @@ pub fn coded(
         return out.wrong("not in the pool");
     }
     let named = NamedFrames { frames, names };
-    let text = write_code(alloc, emitted, laid, named, &places, pool);
+    let text = write_code(alloc, emitted, laid, named, Fetch::Member, &places, pool);
     let text = out.got(text)?;
     put_bytes(&text, out);
     Some(())

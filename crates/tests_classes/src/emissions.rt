@@ -1,7 +1,7 @@
 //! Instrumented code of bodies, and its layouts.
 ghost use Rattle.std.specs.Prelude.{◌≡◌, ◌≤◌, length, IfOk};
 ghost use Rattle.jc_methods.specs.FrameOrder.{RiseFrom};
-ghost use Rattle.jc_methods.specs.ProbeMembers.{most_ids};
+ghost use Rattle.jc_methods.specs.ProbeMembers.{most_probes};
 ghost use Rattle.jc_methods.specs.VerificationTypes.{AreNumberedFrames};
 ghost use Rattle.jc_methods.specs.WellMade.{IsWellMade};
 ghost use Rattle.jc_methods.specs.Widened.{listed};
@@ -35,7 +35,7 @@ fn emission(
 ) -> Result<Emitted, Fail<Refusal>>
     requires body { IsWellMade body.now }
     requires frames { AreNumberedFrames (length names.old) body.now.frames }
-    requires first { first ≤ most_ids }
+    requires first { first ≤ most_probes }
     ensures instrumented { IfOk result (IsInstrumented names.new body.now fetch first constants.now) }
     ensures locals { IfOk result (λ e. e.max_locals ≤ 65535) }
     ensures stack { IfOk result (λ e. e.max_stack ≤ 65535) }
@@ -56,7 +56,7 @@ pub fn emitted(
 ) -> Option<()>
     requires body { IsWellMade body.now }
     requires frames { AreNumberedFrames (length names.old) body.now.frames }
-    requires first { asked.now.first ≤ most_ids }
+    requires first { asked.now.first ≤ most_probes }
 {
     let emission = emission(
         alloc,
@@ -82,7 +82,7 @@ pub fn laid(
 ) -> Option<()>
     requires body { IsWellMade body.now }
     requires frames { AreNumberedFrames (length names.old) body.now.frames }
-    requires first { asked.now.first ≤ most_ids }
+    requires first { asked.now.first ≤ most_probes }
 {
     let emission = emission(
         alloc,

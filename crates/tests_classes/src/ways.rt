@@ -1,6 +1,6 @@
 //! The ways in which the code of a body is emitted, and its frames where any of its jumps are wide.
 ghost use Rattle.std.specs.Prelude.{◌≡◌, ◌≤◌, ◌+◌, length, IfOk, IfSome};
-ghost use Rattle.jc_methods.specs.ProbeMembers.{most_ids, most_short};
+ghost use Rattle.jc_methods.specs.ProbeMembers.{most_probes, most_short};
 ghost use Rattle.jc_methods.specs.VerificationTypes.{AreNumberedFrames};
 ghost use Rattle.jc_methods.specs.WellMade.{IsWellMade};
 ghost use Rattle.jc_plan.specs.Plan.{plan_of};
@@ -9,7 +9,7 @@ use crate::shown::put_frames;
 use jc_bytes::{Fail, Names, Refusal, RefusalKind};
 use jc_emit::{EmittedParts, PlacedBody, emit_code, emit_parts};
 use jc_kinds::states;
-use jc_methods::{Body, Fetch, MOST_IDS, MOST_SHORT, Plan};
+use jc_methods::{Body, Fetch, MOST_PROBES, MOST_SHORT, Plan};
 use jc_plan::plan;
 use std::alloc::Global;
 use tests_lines::{Answer, bits, number, repeated};
@@ -52,7 +52,7 @@ fn put_places(places: &mut Vec<u16>, word: &str, out: &mut Answer) -> Option<()>
 
 /// The way that words tell. Without words it is by the method, with ids from 0 on.
 pub fn asked_for(alloc: Global, words: &[&str], out: &mut Answer) -> Option<Asked>
-    ensures { IfSome result (λ asked. asked.first ≤ most_ids) }
+    ensures { IfSome result (λ asked. asked.first ≤ most_probes) }
 {
     match words {
         [] => Some(Asked {
@@ -77,14 +77,14 @@ pub fn planned(
     constants: &[u16],
 ) -> Result<Plan, Fail<Refusal>>
     requires body { IsWellMade body.now }
-    requires first { first ≤ most_ids }
+    requires first { first ≤ most_probes }
     ensures plan { IfOk result (λ p. p ≡ plan_of body.now first) }
-    ensures few { IfOk result (λ p. p.next ≤ most_ids) }
+    ensures few { IfOk result (λ p. p.next ≤ most_probes) }
     ensures enough { IfOk result (λ p. p.next ≤ most_short + 1 + length constants.now) }
 {
     let plan = plan(alloc, body, first)?;
     let integers = (plan.next as usize).saturating_sub(MOST_SHORT as usize + 1);
-    if plan.next > MOST_IDS || integers > constants.len() {
+    if plan.next > MOST_PROBES || integers > constants.len() {
         return Err(Fail::Said(Refusal {
             kind: RefusalKind::TooManyProbes,
             method: None,
@@ -104,7 +104,7 @@ fn made_parts(
 ) -> Result<EmittedParts, Fail<Refusal>>
     requires body { IsWellMade body.now }
     requires frames { AreNumberedFrames (length names.old) body.now.frames }
-    requires first { asked.now.first ≤ most_ids }
+    requires first { asked.now.first ≤ most_probes }
 {
     let states = states(alloc, body, names)?;
     let plan = planned(alloc, body, asked.first, &asked.constants)?;
