@@ -4,7 +4,9 @@
 # libjacoco-java, and a JDK) over the same files, which each reads and writes.
 # usage: bench/against-jacoco/instrument-verify.sh [JCOV]      JCOV: the built program; else the one of crates/jcov/out
 # PROGRAM names a program that is run as `PROGRAM DIR FILE..` in place of `jcov instrument --dest DIR FILE..`, as that
-# of bench/against-jacoco/instrument.txt. JARS names other jars, parted by spaces.
+# of bench/against-jacoco/instrument.txt. JARS names other jars, parted by spaces, and MODULES modules of the JDK whose
+# classes are taken too. With LEAST only classes from this major version on are instrumented, and the others are there
+# as they are. WITHOUT_TIMES=1 leaves the times out.
 set -e
 here=$(cd "$(dirname "$0")" && pwd)
 lib=$here/../lib
@@ -16,7 +18,23 @@ trap 'rm -rf "$folder"' EXIT
 cd "$folder"
 javac -encoding UTF-8 -cp "$jacoco" -d . "$here/Verify.java" "$lib/Instrument.java"
 javac -d runtime "$here/../../examples/java-machine/org/jacoco/agent/rt/internal/Offline.java"
-python3 "$lib/unpack.py" . ${JARS:-/usr/share/java/*.jar}
+for module in $MODULES; do
+    jimage extract --dir=modules --include "glob:/$module/**" \
+        "$(dirname "$(dirname "$(readlink -f "$(command -v javac)")")")/lib/modules"
+    rm -f "modules/$module/module-info.class"
+done
+python3 "$lib/unpack.py" . ${JARS:-/usr/share/java/*.jar} $(for module in $MODULES; do echo "modules/$module"; done)
+if [ -n "$LEAST" ]; then
+    mkdir made
+    cp -r c made/c
+    python3 - "$LEAST" <<'PY'
+import sys
+
+paths = [path for path in open("paths").read().split() if open(path, "rb").read(8)[6:] >= int(sys.argv[1]).to_bytes(2, "big")]
+print("%d of them from version %s on" % (len(paths), sys.argv[1]))
+open("paths", "w").write("".join(path + "\n" for path in paths))
+PY
+fi
 
 # The runtime class and its inner class stand beside those of the jars.
 find runtime -name '*.class' | while read -r path; do
@@ -63,6 +81,7 @@ for path in paths:
         print("%s: %s, and then %s" % (path, before[path], after[path]))
 PY
 python3 count.py
+[ -z "$WITHOUT_TIMES" ] || exit 0
 
 # Each run three times over, the best of the three.
 cat > measure.py <<'PY'

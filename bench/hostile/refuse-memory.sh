@@ -125,7 +125,7 @@ session = lambda name, start, dump: b"\x10\x00\x01" + name + start.to_bytes(8, "
 dumps = header + session(b"a", 1, 200) + record + header + session(b"b", 2, 100) + record
 open("dumps.exec", "wb").write(dumps)
 
-# An interface of version 52 or 62 without members, over java/lang/Object.
+# An interface of version 52 or 66 without members, over java/lang/Object.
 def made(name, major):
     utf8 = lambda text: b"\x01" + len(text).to_bytes(2, "big") + text
     pool = utf8(name) + bytes.fromhex("070001") + utf8(b"java/lang/Object") + bytes.fromhex("070003")
@@ -133,7 +133,7 @@ def made(name, major):
 
 open("A.class", "wb").write(made(b"A", 52))
 open("B.class", "wb").write(made(b"B", 52))
-open("C.class", "wb").write(made(b"C", 62))
+open("C.class", "wb").write(made(b"C", 66))
 
 # A class of version 52 with one method, whose code is `return`.
 utf8 = lambda text: b"\x01" + len(text).to_bytes(2, "big") + text
