@@ -1,5 +1,5 @@
 -- Files and texts outside, and what a call does to them.
-use Rattle.std.specs.Prelude.{◌≡◌, ◌≢◌, ◌⊎◌, ◌↔◌, ◌<◌, ◌≤◌, ◌+◌, ℕ, Bool, false, List, ◌++◌, length, take, drop, map, filter, Option, None, Some, Result, Ok, Err, String, Vec, string_bytes, ⊤}
+use Rattle.std.specs.Prelude.{◌≡◌, ◌≢◌, ◌⊎◌, ◌↔◌, ◌<◌, ◌≤◌, ◌+◌, ℕ, Bool, false, List, ◌++◌, length, take, drop, map, filter, Option, None, Some, option_map, Result, Ok, Err, String, Vec, string_bytes, ⊤}
 use Rattle.std.specs.declared.alloc.Global.{Global}
 use Rattle.std.specs.Ordering.{nat_cmp}
 use Rattle.std.specs.FinMap.{FinMap, get, insert, keys}
@@ -28,6 +28,10 @@ Begins front whole = (rest : List ℕ) × (whole ≡ front ++ rest)
 abbrev pub IsLong : Option (List ℕ) → Type 0
 IsLong None = ⊥
 IsLong (Some bytes) = most_read < length bytes
+
+-- The path of the last reading or listing that failed, where that is told: none, if none has failed yet.
+abbrev pub LastFailed : Type 0
+LastFailed = Option (Option (List ℕ))
 
 -- where contents are told
 abbrev pub WhereTold : Option FileMap → (FileMap → Type 0) → Type 0
@@ -64,6 +68,24 @@ FaultCause contents old new faults.Memory = new ≡ old
 abbrev pub ReadCause : Option FileMap → ℕ → ℕ → Result Unit FileFault → Type 0
 ReadCause contents old new (Ok _) = new ≡ old
 ReadCause contents old new (Err fault) = FaultCause contents old new fault
+
+-- ---- the path of the last read that failed
+
+-- what is told of it once the one at this path has failed
+abbrev pub failed_at : List ℕ → LastFailed → LastFailed
+failed_at path last = option_map (λ _. Some path) last
+
+-- a read that gave up for want of memory leaves what was told
+abbrev pub fault_at : List ℕ → LastFailed → FileFault → LastFailed
+fault_at path last faults.Failed = failed_at path last
+fault_at path last faults.Missing = failed_at path last
+fault_at path last faults.TooLarge = failed_at path last
+fault_at path last faults.Memory = last
+
+-- what is told behind a reading or a listing of the path
+abbrev pub last_failed : {A : Type 0} → List ℕ → LastFailed → Result A FileFault → LastFailed
+last_failed path last (Ok _) = last
+last_failed path last (Err fault) = fault_at path last fault
 
 -- ---- reading a part
 

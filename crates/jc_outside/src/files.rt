@@ -1,6 +1,6 @@
 //! The files outside, as the tool sees them.
 ghost use Rattle.std.specs.Prelude.{◌≡◌, ◌%◌, ◌<◌, ℕ, List, Option};
-ghost use Rattle.jc_outside.specs.Outside.{FileMap, ReadGives, ReadCause, PartGives, PartCause, ListGives, ListCause, WriteLeaves, WriteCause};
+ghost use Rattle.jc_outside.specs.Outside.{FileMap, LastFailed, ReadGives, ReadCause, PartGives, PartCause, ListGives, ListCause, WriteLeaves, WriteCause, last_failed};
 
 use std::alloc::{AllocError, Global};
 
@@ -45,15 +45,19 @@ pub trait Files {
     /// How often writing has failed.
     ghost write_faults: { Self → ℕ };
 
+    /// The path of the last reading or listing that answered `Failed`, `Missing` or `TooLarge`, where that is told.
+    ghost failed_path: { Self → LastFailed };
+
     /// Appends the bytes of the file at `path` to `into`, at most 67,108,864 of them.
     ///
     /// After an error `into` begins with what it held. `Failed` comes only where `read_faults`
     /// rose in this call. Where contents are told, `Missing` comes exactly where they lack the
     /// path, and `TooLarge` exactly where the file is longer; where they aren't, only where
-    /// `read_faults` rose.
+    /// `read_faults` rose. `failed_path` is then this path, but for want of memory.
     fn read(&mut self, alloc: Global, path: &str, into: &mut Vec<u8>) -> Result<(), FileFault>
         ensures gives { ReadGives (contents self.old) path.now into.old.items into.new.items result }
         ensures cause { ReadCause (contents self.old) (read_faults self.old) (read_faults self.new) result }
+        ensures failed_path { failed_path self.new ≡ last_failed path.now (failed_path self.old) result }
         ensures contents { contents self.new ≡ contents self.old }
         ensures write_faults { write_faults self.new ≡ write_faults self.old };
 
@@ -73,6 +77,7 @@ pub trait Files {
         requires within { from < 67108864 }
         ensures gives { PartGives (contents self.old) path.now from into.old.items into.new.items result }
         ensures cause { PartCause (contents self.old) (read_faults self.old) (read_faults self.new) result }
+        ensures failed_path { failed_path self.new ≡ last_failed path.now (failed_path self.old) result }
         ensures contents { contents self.new ≡ contents self.old }
         ensures write_faults { write_faults self.new ≡ write_faults self.old };
 
@@ -83,6 +88,7 @@ pub trait Files {
     fn list(&mut self, alloc: Global, folder: &str) -> Result<Vec<String>, FileFault>
         ensures gives { ListGives (contents self.old) folder.now result }
         ensures cause { ListCause (read_faults self.old) (read_faults self.new) result }
+        ensures failed_path { failed_path self.new ≡ last_failed folder.now (failed_path self.old) result }
         ensures contents { contents self.new ≡ contents self.old }
         ensures write_faults { write_faults self.new ≡ write_faults self.old };
 
@@ -93,5 +99,6 @@ pub trait Files {
     fn write(&mut self, path: &str, bytes: &[u8]) -> Result<(), FileFault>
         ensures leaves { WriteLeaves (landed path.now bytes.now) path.now (contents self.old) (contents self.new) result }
         ensures cause { WriteCause (write_faults self.old) (write_faults self.new) result }
-        ensures read_faults { read_faults self.new ≡ read_faults self.old };
+        ensures read_faults { read_faults self.new ≡ read_faults self.old }
+        ensures failed_path { failed_path self.new ≡ failed_path self.old };
 }

@@ -1,7 +1,8 @@
 //! The files of the machine, of which nothing is told.
-ghost use Rattle.std.specs.Prelude.{◌≡◌, ◌≤◌, ◌<◌, ◌+◌, ◌%◌, None, false, IfOk, OnOk, length};
-ghost use Rattle.jc_outside.specs.Outside.{Begins, FaultCause, ReadGives, PartGives};
+ghost use Rattle.std.specs.Prelude.{◌≡◌, ◌≤◌, ◌<◌, ◌+◌, ◌%◌, None, Some, false, IfOk, OnOk, length, option_map};
+ghost use Rattle.jc_outside.specs.Outside.{Begins, FaultCause, ReadGives, PartGives, fault_at};
 
+use crate::failed_path::FailedPath;
 use crate::host_folder::list_folder;
 use crate::sink::next_count;
 use crate::{FileFault, Files, MOST_PART, SinkFault};
@@ -20,6 +21,7 @@ pub struct HostFiles<'a, R> {
     rt: &'a R,
     read_faults: u64,
     write_faults: u64,
+    failed: Option<FailedPath>,
 }
 
 impl<'a, R> HostFiles<'a, R> {
@@ -29,18 +31,23 @@ impl<'a, R> HostFiles<'a, R> {
             rt,
             read_faults: 0,
             write_faults: 0,
+            failed: None,
         }
     }
 
-    /// Counts a read that failed, unless for want of memory, and answers its fault.
-    fn count(&mut self, fault: FileFault) -> FileFault
+    /// Counts a read of a path that failed, unless for want of memory, and answers its fault.
+    fn count(&mut self, fault: FileFault, path: &str) -> FileFault
         ensures same { result ≡ fault }
         ensures read_faults { FaultCause None self.old.read_faults self.new.read_faults fault }
         ensures write_faults { self.new.write_faults ≡ self.old.write_faults }
+        ensures failed { Some (option_map (λ f. f.path) self.new.failed) ≡ fault_at path.now (Some (option_map (λ f. f.path) self.old.failed)) fault }
     {
         match fault {
             FileFault::Memory => {}
-            _ => self.read_faults = next_count(self.read_faults),
+            _ => {
+                self.read_faults = next_count(self.read_faults);
+                self.failed = Some(FailedPath::of(path.as_bytes()));
+            }
         }
         fault
     }
@@ -145,10 +152,12 @@ impl<'a, R: rt::Files> Files for HostFiles<'a, R> {
 
     ghost write_faults = { λ files. files.write_faults };
 
+    ghost failed_path = { λ files. Some (option_map (λ f. f.path) files.failed) };
+
     fn read(&mut self, _alloc: Global, path: &str, into: &mut Vec<u8>) -> Result<(), FileFault> {
         match read_file(self.rt, path, into) {
             Ok(()) => Ok(()),
-            Err(fault) => Err(self.count(fault)),
+            Err(fault) => Err(self.count(fault, path)),
         }
     }
 
@@ -161,7 +170,7 @@ impl<'a, R: rt::Files> Files for HostFiles<'a, R> {
     ) -> Result<bool, FileFault> {
         match read_file_from(self.rt, path, from, into) {
             Ok(ended) => Ok(ended),
-            Err(fault) => Err(self.count(fault)),
+            Err(fault) => Err(self.count(fault, path)),
         }
     }
 
@@ -169,7 +178,7 @@ impl<'a, R: rt::Files> Files for HostFiles<'a, R> {
         match list_folder(self.rt, alloc, folder) {
             Ok(paths) => Ok(paths),
             Err(FileFault::Memory) => Err(FileFault::Memory),
-            Err(_) => Err(self.count(FileFault::Failed)),
+            Err(_) => Err(self.count(FileFault::Failed, folder)),
         }
     }
 

@@ -1,6 +1,7 @@
 //! The files and texts outside: their traits, and those of the machine and in memory.
 #![tactic(auto)]
 
+mod failed_path;
 mod files;
 mod folder;
 mod host_files;

@@ -5,10 +5,11 @@ ghost use Rattle.std.specs.FinMap.{get, insert, empty, keys};
 ghost use Rattle.std.specs.List.Sorted.{IsStrictlySortedBy};
 ghost use Rattle.std.specs.Ordering.{nat_cmp};
 ghost use Rattle.jc_outside.specs.Folder.{front_of, is_class_file};
-ghost use Rattle.jc_outside.specs.Outside.{ReadGives, ReadCause, PartGives, PartCause, ListGives, ListCause, WriteLeaves, WriteCause};
-ghost use Rattle.jc_outside.specs.InMemory.{held, emptied};
+ghost use Rattle.jc_outside.specs.Outside.{ReadGives, ReadCause, PartGives, PartCause, ListGives, ListCause, WriteLeaves, WriteCause, last_failed};
+ghost use Rattle.jc_outside.specs.InMemory.{held, emptied, WritesPlanned};
 ghost use Rattle.jc_outside.specs.Planned.{is_planned, next_call, count_after};
 
+use crate::failed_path::FailedPath;
 use crate::folder::{is_class_file, make_front, put_last};
 use crate::planned::{PlannedFaults, front};
 use crate::sink::next_count;
@@ -106,9 +107,11 @@ pub struct MemoryFiles {
     calls: PlannedFaults,
     read_faults: u64,
     write_faults: u64,
+    failed: Option<FailedPath>,
 }
 
 impl Model for MemoryFiles {
+    ghost use Rattle.std.specs.Prelude.{option_map};
     ghost use Rattle.jc_outside.specs.InMemory.{MemoryState, held, state_code};
 
     ghost Value = { MemoryState };
@@ -120,6 +123,7 @@ impl Model for MemoryFiles {
       calls = record { failing = m.calls.failing; made = m.calls.made };
       read_faults = m.read_faults;
       write_faults = m.write_faults;
+      failed_path = option_map (λ f. f.path) m.failed;
     } };
 }
 
@@ -136,6 +140,7 @@ impl MemoryFiles {
           calls = record { failing = failing.now; made = 0 };
           read_faults = 0;
           write_faults = 0;
+          failed_path = None;
         }) }
     {
         Ok(MemoryFiles {
@@ -144,6 +149,7 @@ impl MemoryFiles {
             calls: PlannedFaults::new(alloc, failing)?,
             read_faults: 0,
             write_faults: 0,
+            failed: None,
         })
     }
 
@@ -177,9 +183,12 @@ impl Files for MemoryFiles {
 
     ghost write_faults = { λ m. m.write_faults };
 
+    ghost failed_path = { λ m. Some m.failed_path };
+
     fn read(&mut self, _alloc: Global, path: &str, into: &mut Vec<u8>) -> Result<(), FileFault>
         ensures gives { ReadGives (Some self.old.files) path.now into.old.items into.new.items result }
         ensures cause { ReadCause (Some self.old.files) self.old.read_faults self.new.read_faults result }
+        ensures failed_path { Some self.new.failed_path ≡ last_failed path.now (Some self.old.failed_path) result }
         ensures contents { Some self.new.files ≡ Some self.old.files }
         ensures write_faults { self.new.write_faults ≡ self.old.write_faults }
         // Which calls fail.
@@ -189,12 +198,15 @@ impl Files for MemoryFiles {
     {
         if self.calls.next_fails() {
             self.read_faults = next_count(self.read_faults);
+            self.failed = Some(FailedPath::of(path.as_bytes()));
             return Err(FileFault::Failed);
         }
         let Some(bytes) = bytes_at(&self.files, path) else {
+            self.failed = Some(FailedPath::of(path.as_bytes()));
             return Err(FileFault::Missing);
         };
         if bytes.len() > MOST_READ {
+            self.failed = Some(FailedPath::of(path.as_bytes()));
             return Err(FileFault::TooLarge);
         }
         into.extend_from_slice(bytes)?;
@@ -212,6 +224,7 @@ impl Files for MemoryFiles {
         requires within { from < 67108864 }
         ensures gives { PartGives (Some self.old.files) path.now from into.old.items into.new.items result }
         ensures cause { PartCause (Some self.old.files) self.old.read_faults self.new.read_faults result }
+        ensures failed_path { Some self.new.failed_path ≡ last_failed path.now (Some self.old.failed_path) result }
         ensures contents { Some self.new.files ≡ Some self.old.files }
         ensures write_faults { self.new.write_faults ≡ self.old.write_faults }
         // Which calls fail.
@@ -221,13 +234,16 @@ impl Files for MemoryFiles {
     {
         if self.calls.next_fails() {
             self.read_faults = next_count(self.read_faults);
+            self.failed = Some(FailedPath::of(path.as_bytes()));
             return Err(FileFault::Failed);
         }
         let Some(bytes) = bytes_at(&self.files, path) else {
+            self.failed = Some(FailedPath::of(path.as_bytes()));
             return Err(FileFault::Missing);
         };
         let len = bytes.len() as u64;
         if len > MOST_READ as u64 {
+            self.failed = Some(FailedPath::of(path.as_bytes()));
             return Err(FileFault::TooLarge);
         }
         into.extend_from_slice(part_of(bytes, from))?;
@@ -237,6 +253,7 @@ impl Files for MemoryFiles {
     fn list(&mut self, alloc: Global, folder: &str) -> Result<Vec<String>, FileFault>
         ensures gives { ListGives (Some self.old.files) folder.now result }
         ensures cause { ListCause self.old.read_faults self.new.read_faults result }
+        ensures failed_path { Some self.new.failed_path ≡ last_failed folder.now (Some self.old.failed_path) result }
         ensures contents { Some self.new.files ≡ Some self.old.files }
         ensures write_faults { self.new.write_faults ≡ self.old.write_faults }
         // Which calls fail.
@@ -246,6 +263,7 @@ impl Files for MemoryFiles {
     {
         if self.calls.next_fails() {
             self.read_faults = next_count(self.read_faults);
+            self.failed = Some(FailedPath::of(folder.as_bytes()));
             return Err(FileFault::Failed);
         }
         let front = make_front(alloc, folder)?;
@@ -256,8 +274,10 @@ impl Files for MemoryFiles {
         ensures leaves { WriteLeaves bytes.now path.now (Some self.old.files) (Some self.new.files) result }
         ensures cause { WriteCause self.old.write_faults self.new.write_faults result }
         ensures read_faults { self.new.read_faults ≡ self.old.read_faults }
-        // Which calls fail. Any other fails for want of memory alone.
+        ensures failed_path { Some self.new.failed_path ≡ Some self.old.failed_path }
+        // Which calls fail, and what they leave. Any other fails for want of memory alone.
         ensures planned { is_planned self.old.calls ≡ true → result ≡ Err FileFault.Failed }
+        ensures half { WritesPlanned (is_planned self.old.calls) path.now bytes.now self.old.files self.new.files result }
         ensures calls { self.new.calls ≡ next_call self.old.calls }
     {
         let fails = self.calls.next_fails();

@@ -1,6 +1,7 @@
 //! A text in memory, whose calls fail where it is planned.
 ghost use Rattle.std.specs.Prelude.{◌≡◌, [], true, IfOk, Some, Result, Err};
 ghost use Rattle.jc_outside.specs.Outside.{PutLeaves, PutCause};
+ghost use Rattle.jc_outside.specs.InMemory.{PutsPlanned};
 ghost use Rattle.jc_outside.specs.Planned.{is_planned, next_call};
 
 use crate::planned::{PlannedFaults, front};
@@ -58,8 +59,9 @@ impl Sink for MemorySink {
     fn put(&mut self, piece: &[u8]) -> Result<(), SinkFault>
         ensures leaves { PutLeaves (Some self.old.text) (Some self.new.text) piece.now result }
         ensures cause { PutCause self.old.faults self.new.faults result }
-        // Which calls fail. Any other fails for want of memory alone.
+        // Which calls fail, and what they leave. Any other fails for want of memory alone.
         ensures planned { is_planned self.old.calls ≡ true → result ≡ Err SinkFault.Failed }
+        ensures half { PutsPlanned (is_planned self.old.calls) piece.now self.old.text self.new.text result }
         ensures calls { self.new.calls ≡ next_call self.old.calls }
     {
         let fails = self.calls.next_fails();

@@ -1,8 +1,8 @@
 //! The calls that are planned to fail.
 ghost use Rattle.std.specs.Prelude.{◌≡◌, [], IfOk};
-ghost use Rattle.std.specs.Bool.{OnFalse};
+ghost use Rattle.std.specs.Bool.{OnTrue, OnFalse};
 ghost use Rattle.jc_outside.specs.Outside.{Begins};
-ghost use Rattle.jc_outside.specs.Planned.{is_planned, next_call};
+ghost use Rattle.jc_outside.specs.Planned.{is_planned, next_call, first_half};
 
 use std::alloc::{AllocError, Global};
 use std::marker::Model;
@@ -49,6 +49,7 @@ impl PlannedFaults {
 /// What a call writes of its bytes: the first half where it is to fail, else all of them.
 pub fn front(bytes: &[u8], fails: bool) -> &[u8]
     ensures begins { Begins result.now bytes.now }
+    ensures half { OnTrue fails (result.now ≡ first_half bytes.now) }
     ensures all { OnFalse fails (result.now ≡ bytes.now) }
 {
     if fails {
