@@ -8,7 +8,7 @@ use Rattle.jc_exec.specs.Feeding.{Feeds}
 use Rattle.jc_exec.specs.Refusing.{FirstRefusal}
 use Rattle.jc_exec.specs.Store.{Store}
 use Rattle.jc_exec.specs.Union.{ReadsOn}
-use Rattle.jc_outside.specs.Outside.{FileMap}
+use Rattle.jc_outside.specs.Outside.{FileMap, LastFailed}
 use Rattle.jc_command_work.specs.declared.status.Fault.TheVariants as fault
 use Rattle.jc_command_work.specs.declared.stop.Stop.{Stop}
 use Rattle.jc_command_work.specs.Answered.{refusal_of}
@@ -55,9 +55,10 @@ Ends (Dropped stop) index path (Union store) = ⊥
 Ends (Dropped stop) index path (Refused same) = same ≡ stop
 
 -- the file at the path was read, and its bytes were fed
-abbrev pub FeedsFile : Landed → Word → Feeding → (old new : Option FileMap) → (reads reads' writes writes' : ℕ) → Result Feeding Stop → Type 0
-FeedsFile landed path first old new reads reads' writes writes' result =
-    (bytes : List ℕ) × DoesFiles landed (reading path) (λ _. bytes) stop_seen old new reads reads' writes writes' result
+abbrev pub FeedsFile : Landed → Word → Feeding → (old new : Option FileMap) → (failed failed' : LastFailed)
+    → (reads reads' writes writes' : ℕ) → Result Feeding Stop → Type 0
+FeedsFile landed path first old new failed failed' reads reads' writes writes' result =
+    (bytes : List ℕ) × DoesFiles landed (reading path) (λ _. bytes) stop_seen old new failed failed' reads reads' writes writes' result
     × IfOk result (λ later. FeedsOn first bytes later)
 
 -- ---- a file more
@@ -71,9 +72,10 @@ Joins (Refused stop) bytes index path (Union later) = ⊥
 Joins (Refused stop) bytes index path (Refused same) = same ≡ stop
 
 -- the file at the path was read behind others
-abbrev pub ReadsFile : Landed → Bor (List ℕ) → ℕ → Gathered → (old new : Option FileMap) → (reads reads' writes writes' : ℕ) → Result Gathered Stop → Type 0
-ReadsFile landed path index before old new reads reads' writes writes' result =
-    (bytes : List ℕ) × DoesFiles landed (reading path.now) (λ _. bytes) stop_seen old new reads reads' writes writes' result
+abbrev pub ReadsFile : Landed → Bor (List ℕ) → ℕ → Gathered → (old new : Option FileMap) → (failed failed' : LastFailed)
+    → (reads reads' writes writes' : ℕ) → Result Gathered Stop → Type 0
+ReadsFile landed path index before old new failed failed' reads reads' writes writes' result =
+    (bytes : List ℕ) × DoesFiles landed (reading path.now) (λ _. bytes) stop_seen old new failed failed' reads reads' writes writes' result
     × IfOk result (λ later. Joins before bytes index path later)
 
 -- ---- all files
@@ -86,13 +88,15 @@ IsGathered paths texts (Refused stop) =
     × (stop_seen stop ≡ Some (refusal_of path (fault.Exec index refusal)))
 
 -- the files at the paths were read, in order
-abbrev pub ReadsFiles : Landed → List Word → (old new : Option FileMap) → (reads reads' writes writes' : ℕ) → Result Gathered Stop → Type 0
-ReadsFiles landed paths old new reads reads' writes writes' result =
-    (texts : List (List ℕ)) × DoesFiles landed (reading_all paths) (λ _. texts) stop_seen old new reads reads' writes writes' result
+abbrev pub ReadsFiles : Landed → List Word → (old new : Option FileMap) → (failed failed' : LastFailed)
+    → (reads reads' writes writes' : ℕ) → Result Gathered Stop → Type 0
+ReadsFiles landed paths old new failed failed' reads reads' writes writes' result =
+    (texts : List (List ℕ)) × DoesFiles landed (reading_all paths) (λ _. texts) stop_seen old new failed failed' reads reads' writes writes' result
     × IfOk result (λ gathered. IsGathered paths texts gathered)
 
 -- the file at the path was read by itself
-abbrev pub ReadsAlone : Landed → Bor (List ℕ) → (old new : Option FileMap) → (reads reads' writes writes' : ℕ) → Result Gathered Stop → Type 0
-ReadsAlone landed path old new reads reads' writes writes' result =
-    (text : List ℕ) × DoesFiles landed (reading path.now) (λ _. text) stop_seen old new reads reads' writes writes' result
+abbrev pub ReadsAlone : Landed → Bor (List ℕ) → (old new : Option FileMap) → (failed failed' : LastFailed)
+    → (reads reads' writes writes' : ℕ) → Result Gathered Stop → Type 0
+ReadsAlone landed path old new failed failed' reads reads' writes writes' result =
+    (text : List ℕ) × DoesFiles landed (reading path.now) (λ _. text) stop_seen old new failed failed' reads reads' writes writes' result
     × IfOk result (λ gathered. IsGathered (path.now ∷ []) (text ∷ []) gathered)

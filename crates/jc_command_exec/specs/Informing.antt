@@ -6,7 +6,7 @@ use Rattle.jc_exec.specs.declared.refusal.ExecRefusal.{ExecRefusal}
 use Rattle.jc_exec.specs.Answers.{why_of}
 use Rattle.jc_exec.specs.Refusing.{FirstRefusal}
 use Rattle.jc_exec.specs.Store.{Store}
-use Rattle.jc_outside.specs.Outside.{FileMap}
+use Rattle.jc_outside.specs.Outside.{FileMap, LastFailed}
 use Rattle.jc_command_work.specs.declared.output.Write.{Write as Written}
 use Rattle.jc_command_work.specs.declared.status.Fault.TheVariants as fault
 use Rattle.jc_command_work.specs.declared.stop.Stop.{Stop}
@@ -44,9 +44,10 @@ Informs (Some stop) old bytes index path None new = ⊥
 Informs (Some stop) old bytes index path (Some same) new = same ≡ stop
 
 -- the file at the path was read behind others
-abbrev pub InformsFile : Landed → Bor (List ℕ) → ℕ → Printed → (old new : Option FileMap) → (reads reads' writes writes' : ℕ) → Result Printed Stop → Type 0
-InformsFile landed path index before old new reads reads' writes writes' result =
-    (bytes : List ℕ) × DoesFiles landed (reading path.now) (λ _. bytes) stop_seen old new reads reads' writes writes' result
+abbrev pub InformsFile : Landed → Bor (List ℕ) → ℕ → Printed → (old new : Option FileMap) → (failed failed' : LastFailed)
+    → (reads reads' writes writes' : ℕ) → Result Printed Stop → Type 0
+InformsFile landed path index before old new failed failed' reads reads' writes writes' result =
+    (bytes : List ℕ) × DoesFiles landed (reading path.now) (λ _. bytes) stop_seen old new failed failed' reads reads' writes writes' result
     × IfOk result (λ later. Informs before.refused before.lines.items bytes index path later.refused later.lines.items)
 
 -- the lines of the files, as writes, or how the first that is refused stops the command
@@ -61,7 +62,8 @@ abbrev pub IsPrinted : List Word → List (List ℕ) → Printed → Type 0
 IsPrinted paths texts printed = (length texts ≡ length paths) × PrintsAll paths texts printed.refused printed.lines.items
 
 -- the files at the paths were read, in order
-abbrev pub InformsFiles : Landed → List Word → (old new : Option FileMap) → (reads reads' writes writes' : ℕ) → Result Printed Stop → Type 0
-InformsFiles landed paths old new reads reads' writes writes' result =
-    (texts : List (List ℕ)) × DoesFiles landed (reading_all paths) (λ _. texts) stop_seen old new reads reads' writes writes' result
+abbrev pub InformsFiles : Landed → List Word → (old new : Option FileMap) → (failed failed' : LastFailed)
+    → (reads reads' writes writes' : ℕ) → Result Printed Stop → Type 0
+InformsFiles landed paths old new failed failed' reads reads' writes writes' result =
+    (texts : List (List ℕ)) × DoesFiles landed (reading_all paths) (λ _. texts) stop_seen old new failed failed' reads reads' writes writes' result
     × IfOk result (λ printed. IsPrinted paths texts printed)

@@ -17,10 +17,10 @@ module _ (n : ℕ) where
 
   pub written : (line : List ℕ) (old new : Option (List ℕ)) (outs outs' : ℕ) (r : Result (Unit {0}) Stop) → sample_line n [] (gives line)
       → DoesOut (writing (to_out line)) (λ _. tt) stop_seen old new outs outs' r → RanOut (sample_work n) old new outs outs' r
-  written line old new outs outs' r is does landed contents err reads writes errs =
-      let w = outside contents old err in
+  written line old new outs outs' r is does landed contents failed err reads writes errs =
+      let w = outside contents failed old err in
       let f = counts reads writes outs errs in
       let came : CameTo landed (sample_line n) w w (gives line) = record { steps = []; comes = is; begun = inl refl; fit = tt; stand = refl } in
       ran_last landed (sample_work n) w w f f (writing (to_out line))
       (reached_next landed (sample_work n) w f (sample_line n) (λ l. writing (to_out l) >>= (λ _. ending {X = ⊥} done)) (λ y. y) w f (reached_start landed (sample_work n) w f) line w f refl came)
-      stop_seen (outside contents new err) (counts reads writes outs' errs) r (does landed contents err reads writes errs)
+      stop_seen (outside contents failed new err) (counts reads writes outs' errs) r (does landed contents failed err reads writes errs)

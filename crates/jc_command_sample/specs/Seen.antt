@@ -1,6 +1,6 @@
 -- What functions give that decide without a step.
 use Rattle.std.specs.Prelude.{⊤, ℕ, List, [], Option, None, Some, Result, Ok, Err}
-use Rattle.jc_outside.specs.Outside.{FileMap}
+use Rattle.jc_outside.specs.Outside.{FileMap, LastFailed}
 use Rattle.jc_command_work.specs.declared.stop.Stop.{Stop}
 use Rattle.jc_command_work.specs.Step.{Landed, outside, counts}
 use Rattle.jc_command_work.specs.Part.{End, gives, stops, Part, Command}
@@ -20,5 +20,6 @@ Decides part value (Err stop) = EndsAtOnce part (stop_seen stop)
 -- what a function did that takes `out` alone and does a command but for its last message
 abbrev pub RanOut : {A : Type 0} → Command → (old new : Option (List ℕ)) → (outs outs' : ℕ) → Result A Stop → Type 0
 RanOut command old new outs outs' result =
-    (landed : Landed) (contents : Option FileMap) (err : Option (List ℕ)) (reads writes errs : ℕ) → Ran landed command stop_seen (outside contents old err) (outside contents new err)
+    (landed : Landed) (contents : Option FileMap) (failed : LastFailed) (err : Option (List ℕ)) (reads writes errs : ℕ)
+    → Ran landed command stop_seen (outside contents failed old err) (outside contents failed new err)
     (counts reads writes outs errs) (counts reads writes outs' errs) result

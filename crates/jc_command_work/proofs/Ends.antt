@@ -2,7 +2,7 @@
 use Rattle.std.proofs.Common.{◌≡◌, ℕ, List, Option, None, Some, Ok, Err, inl, inr, refl, sym, ◌∙◌, ap, subst}
 use Rattle.jc_command_work.specs.declared.status.Status.{Status}
 use Rattle.jc_command_work.specs.declared.status.Status.TheVariants as status
-use Rattle.jc_outside.specs.Outside.{FileMap, PutLeaves, PutCause}
+use Rattle.jc_outside.specs.Outside.{FileMap, LastFailed, PutLeaves, PutCause}
 use Rattle.jc_outside.specs.declared.sink.SinkFault.{SinkFault}
 use Rattle.jc_command_work.specs.Step.{Outside, outside, Counts, counts, Landed}
 use Rattle.jc_command_work.specs.Part.{End, done, message_of, stops, Command}
@@ -39,15 +39,16 @@ module _ (landed : Landed) (command : Command) (old : Outside) (f : Counts) wher
   ends_stopped (Some e) mid new g f' s (inr broke) (inr (is, says)) =
       inr (inl (record { end = e; stands = mid; at = g; broke_off = broke; is = is; says = says }))
 
-pub was_said : (k : Option FileMap) (out err err' : Option (List ℕ)) (r w o e e' : ℕ) (text : List ℕ) → PutLeaves err err' text (Ok tt) → PutCause e e' (Ok tt)
-    → Says text (outside k out err) (outside k out err') (counts r w o e) (counts r w o e')
-was_said k out None err' r w o e e' text leaves cause = record { said = inl (ap (λ (n : ℕ). counts r w o n) cause, ap (λ (t : Option (List ℕ)). outside k out t) leaves) }
-was_said k out (Some t) err' r w o e e' text leaves cause = record { said = inl (ap (λ (n : ℕ). counts r w o n) cause, ap (λ (t : Option (List ℕ)). outside k out t) leaves) }
+pub was_said : (k : Option FileMap) (p : LastFailed) (out err err' : Option (List ℕ)) (r w o e e' : ℕ) (text : List ℕ) → PutLeaves err err' text (Ok tt) → PutCause e e' (Ok tt)
+    → Says text (outside k p out err) (outside k p out err') (counts r w o e) (counts r w o e')
+was_said k p out None err' r w o e e' text leaves cause = record { said = inl (ap (λ (n : ℕ). counts r w o n) cause, ap (λ (t : Option (List ℕ)). outside k p out t) leaves) }
+was_said k p out (Some t) err' r w o e e' text leaves cause = record { said = inl (ap (λ (n : ℕ). counts r w o n) cause, ap (λ (t : Option (List ℕ)). outside k p out t) leaves) }
 
-pub wasn't_said : (k : Option FileMap) (out err err' : Option (List ℕ)) (r w o e e' : ℕ) (text : List ℕ) (fault : SinkFault) → PutLeaves err err' text (Err fault) → PutCause e e' (Err fault)
-    → Says text (outside k out err) (outside k out err') (counts r w o e) (counts r w o e')
-wasn't_said k out None err' r w o e e' text fault leaves cause = record { said = inr ((cause, refl), (leaves, refl, refl)) }
-wasn't_said k out (Some t) err' r w o e e' text fault leaves cause = record { said = inr ((cause, refl), (leaves, refl, refl)) }
+pub wasn't_said : (k : Option FileMap) (p : LastFailed) (out err err' : Option (List ℕ)) (r w o e e' : ℕ) (text : List ℕ) (fault : SinkFault) → PutLeaves err err' text (Err fault)
+    → PutCause e e' (Err fault)
+    → Says text (outside k p out err) (outside k p out err') (counts r w o e) (counts r w o e')
+wasn't_said k p out None err' r w o e e' text fault leaves cause = record { said = inr ((cause, refl), (leaves, refl)) }
+wasn't_said k p out (Some t) err' r w o e e' text fault leaves cause = record { said = inr ((cause, refl), (leaves, refl)) }
 
 pub said_last : (message : Option (List ℕ)) (text said : List ℕ) (old new : Outside) (f f' : Counts) → Some text ≡ message → said ≡ text → Says said old new f f' → SaysLast message old new f f'
 said_last message text said old new f f' is same says =

@@ -7,7 +7,7 @@ use Rattle.jc_outside.specs.declared.files.FileFault.TheVariants as faults
 use Rattle.jc_outside.specs.declared.sink.SinkFault.{SinkFault}
 use Rattle.jc_bytes.specs.ByteLists.{AreBytes}
 use Rattle.jc_bytes.specs.Reader.{most_read}
-use Rattle.jc_outside.specs.Outside.{ListGives, ListCause, FileMap, WhereTold, ReadGives, ReadCause, WriteLeaves, WriteCause, PutLeaves, PutCause}
+use Rattle.jc_outside.specs.Outside.{ListGives, ListCause, FileMap, LastFailed, last_failed, failed_at, WhereTold, ReadGives, ReadCause, WriteLeaves, WriteCause, PutLeaves, PutCause}
 use Rattle.jc_command_work.specs.Step.{Rises, Outside, outside, Counts, counts, Landed, Write, to_file, to_out, to_err, Call, to_read, to_list, to_write, has_read, has_no, has_listed, has_written, after_write, grown, Broken, FileBroken, TextBroken, CountRose, CantRead, Told}
 use Rattle.jc_command_work.specs.Part.{failure, unread, wants, gives, Part, reading, listing, writing}
 use Rattle.jc_command_work.specs.Ending.{CameTo, Stops}
@@ -57,27 +57,27 @@ text_broken : (old new : Option (List ℕ)) (piece : List ℕ) (f : SinkFault) �
 text_broken None new piece f leaves = leaves
 text_broken (Some t) new piece f leaves = leaves
 
-module _ (landed : Landed) (k k' : Option FileMap) (out err : Option (List ℕ)) (r r' w w' outs errs : ℕ) where
-  pub wrote_file : (path bytes : List ℕ) → WriteLeaves (landed path bytes) path k k' (Ok tt) → WriteCause w w' (Ok tt) → r' ≡ r
-      → (counts r' w' outs errs ≡ counts r w outs errs) × CameTo landed (writing (to_file path bytes)) (outside k out err) (outside k' out err) (gives tt)
-  wrote_file path bytes leaves cause same =
-      wrote landed (outside k out err) (outside k' out err) (counts r w outs errs) (counts r' w' outs errs) (to_file path bytes) (λ i. counts (same i) (cause i) outs errs)
-      (ap (λ (c : Option FileMap). outside c out err) (file_written (landed path bytes) path k k' leaves))
+module _ (landed : Landed) (k k' : Option FileMap) (p p' : LastFailed) (out err : Option (List ℕ)) (r r' w w' outs errs : ℕ) where
+  pub wrote_file : (path bytes : List ℕ) → WriteLeaves (landed path bytes) path k k' (Ok tt) → WriteCause w w' (Ok tt) → r' ≡ r → p' ≡ p
+      → (counts r' w' outs errs ≡ counts r w outs errs) × CameTo landed (writing (to_file path bytes)) (outside k p out err) (outside k' p' out err) (gives tt)
+  wrote_file path bytes leaves cause same failed =
+      wrote landed (outside k p out err) (outside k' p' out err) (counts r w outs errs) (counts r' w' outs errs) (to_file path bytes) (λ i. counts (same i) (cause i) outs errs)
+      (λ i. outside (file_written (landed path bytes) path k k' leaves i) (failed i) out err)
 
-  pub broke_file : (path bytes : List ℕ) (f : FileFault) → WriteLeaves (landed path bytes) path k k' (Err f) → WriteCause w w' (Err f) → r' ≡ r
-      → Stops landed (writing (to_file path bytes)) (outside k out err) (outside k' out err) (counts r w outs errs) (counts r' w' outs errs) (Some (failure (to_write (to_file path bytes))))
-  broke_file path bytes f leaves cause same =
-      failed_first landed (writing (to_file path bytes)) (outside k out err) (outside k' out err) (counts r w outs errs) (counts r' w' outs errs) (to_write (to_file path bytes)) refl
-      (file_broken (landed path bytes) path k k' f leaves, refl, refl) (write_rises w w' f cause, ap (λ (n : ℕ). counts n w' outs errs) same)
+  pub broke_file : (path bytes : List ℕ) (f : FileFault) → WriteLeaves (landed path bytes) path k k' (Err f) → WriteCause w w' (Err f) → r' ≡ r → p' ≡ p
+      → Stops landed (writing (to_file path bytes)) (outside k p out err) (outside k' p' out err) (counts r w outs errs) (counts r' w' outs errs) (Some (failure (to_write (to_file path bytes))))
+  broke_file path bytes f leaves cause same failed =
+      failed_first landed (writing (to_file path bytes)) (outside k p out err) (outside k' p' out err) (counts r w outs errs) (counts r' w' outs errs) (to_write (to_file path bytes)) refl
+      (file_broken (landed path bytes) path k k' f leaves, ap (λ (q : LastFailed). outside k' q out err) failed) (write_rises w w' f cause, ap (λ (n : ℕ). counts n w' outs errs) same)
 
   -- ---- a read
 
-  kept : k' ≡ k → outside k' out err ≡ outside k out err
-  kept is = ap (λ (c : Option FileMap). outside c out err) is
+  kept : k' ≡ k → p' ≡ p → outside k' p' out err ≡ outside k p out err
+  kept is failed i = outside (is i) (failed i) out err
 
-  was_read : (path bytes items : List ℕ) → items ≡ bytes → AreBytes items → length bytes ≤ most_read → WhereTold k (λ m. get m path ≡ Some bytes) → r' ≡ r → k' ≡ k → w' ≡ w
-      → (counts r' w' outs errs ≡ counts r w outs errs) × CameTo landed (reading path) (outside k out err) (outside k' out err) (gives items)
-  was_read path bytes items is are short there same contents writes = (
+  was_read : (path bytes items : List ℕ) → items ≡ bytes → AreBytes items → length bytes ≤ most_read → WhereTold k (λ m. get m path ≡ Some bytes) → r' ≡ r → k' ≡ k → w' ≡ w → p' ≡ p
+      → (counts r' w' outs errs ≡ counts r w outs errs) × CameTo landed (reading path) (outside k p out err) (outside k' p' out err) (gives items)
+  was_read path bytes items is are short there same contents writes failed = (
     (λ i. counts (same i) (writes i) outs errs),
     record {
       steps = has_read path items ∷ [];
@@ -90,96 +90,100 @@ module _ (landed : Landed) (k k' : Option FileMap) (out err : Option (List ℕ))
         },
         tt,
       );
-      stand = kept contents;
+      stand = kept contents failed;
     },
   )
 
-  pub read_file : (path items : List ℕ) → ReadGives k path [] items (Ok tt) → ReadCause k r r' (Ok tt) → AreBytes items → k' ≡ k → w' ≡ w
-      → (counts r' w' outs errs ≡ counts r w outs errs) × CameTo landed (reading path) (outside k out err) (outside k' out err) (gives items)
-  read_file path items (bytes, is, short, there) cause are contents writes = was_read path bytes items is are short there cause contents writes
+  pub read_file : (path items : List ℕ) → ReadGives k path [] items (Ok tt) → ReadCause k r r' (Ok tt) → AreBytes items → k' ≡ k → w' ≡ w → p' ≡ p
+      → (counts r' w' outs errs ≡ counts r w outs errs) × CameTo landed (reading path) (outside k p out err) (outside k' p' out err) (gives items)
+  read_file path items (bytes, is, short, there) cause are contents writes failed = was_read path bytes items is are short there cause contents writes failed
 
-  count_rose : (path : List ℕ) → Rises r r' → k' ≡ k → w' ≡ w
-      → Stops landed (reading path) (outside k out err) (outside k' out err) (counts r w outs errs) (counts r' w' outs errs) (Some (unread path))
-  count_rose path rose contents writes =
-      failed_first landed (reading path) (outside k out err) (outside k' out err) (counts r w outs errs) (counts r' w' outs errs) (to_read path) refl
-      (kept contents) (rose, ap (λ (n : ℕ). counts r' n outs errs) writes)
+  count_rose : (path : List ℕ) → Rises r r' → k' ≡ k → w' ≡ w → p' ≡ failed_at path p
+      → Stops landed (reading path) (outside k p out err) (outside k' p' out err) (counts r w outs errs) (counts r' w' outs errs) (Some (unread path))
+  count_rose path rose contents writes failed =
+      failed_first landed (reading path) (outside k p out err) (outside k' p' out err) (counts r w outs errs) (counts r' w' outs errs) (to_read path) refl
+      (λ i. outside (contents i) (failed i) out err) (rose, ap (λ (n : ℕ). counts r' n outs errs) writes)
 
   -- the path is missing or too large, as is told
-  can't_read : (m : FileMap) (path : List ℕ) → k ≡ Some m → CantRead m path → r' ≡ r → k' ≡ k → w' ≡ w
-      → Stops landed (reading path) (outside k out err) (outside k' out err) (counts r w outs errs) (counts r' w' outs errs) (Some (unread path))
-  can't_read m path told cant same contents writes = inl (
+  can't_read : (m : FileMap) (path : List ℕ) → k ≡ Some m → CantRead m path → r' ≡ r → k' ≡ k → w' ≡ w → p' ≡ failed_at path p
+      → Stops landed (reading path) (outside k p out err) (outside k' p' out err) (counts r w outs errs) (counts r' w' outs errs) (Some (unread path))
+  can't_read m path told cant same contents writes failed = inl (
     (λ i. counts (same i) (writes i) outs errs),
     record {
       steps = has_no path ∷ [];
       comes = (refl, refl);
       begun = inr ([], has_no path, refl, refl);
       fit = (subst (λ (c : Option FileMap). Told c (λ n. CantRead n path)) (sym told) cant, tt);
-      stand = kept contents;
+      stand = λ i. outside (contents i) (failed i) out err;
     },
   )
 
-module _ (landed : Landed) (out err : Option (List ℕ)) (r r' w w' outs errs : ℕ) where
+module _ (landed : Landed) (p p' : LastFailed) (out err : Option (List ℕ)) (r r' w w' outs errs : ℕ) where
   pub didn't_read : (k k' : Option FileMap) (path : Bor (List ℕ)) (items : List ℕ) (f : FileFault) → ReadGives k path.now [] items (Err f) → ReadCause k r r' (Err f) → k' ≡ k → w' ≡ w
-      → Stops landed (reading path.now) (outside k out err) (outside k' out err) (counts r w outs errs) (counts r' w' outs errs) (stop_seen (read_stop f path))
-  didn't_read k k' path items faults.Failed read cause contents writes = count_rose landed k k' out err r r' w w' outs errs path.now cause contents writes
-  didn't_read None k' path items faults.Missing read cause contents writes = count_rose landed None k' out err r r' w w' outs errs path.now cause contents writes
-  didn't_read (Some m) k' path items faults.Missing read cause contents writes = can't_read landed (Some m) k' out err r r' w w' outs errs m path.now refl (inl read.1) cause contents writes
-  didn't_read None k' path items faults.TooLarge read cause contents writes = count_rose landed None k' out err r r' w w' outs errs path.now cause contents writes
-  didn't_read (Some m) k' path items faults.TooLarge read cause contents writes = can't_read landed (Some m) k' out err r r' w w' outs errs m path.now refl (inr (inl read.1)) cause contents writes
-  didn't_read k k' path items faults.Memory read cause contents writes =
-      ((λ i. counts (cause i) (writes i) outs errs), record { steps = []; begun = inl refl; fit = tt; stand = ap (λ (c : Option FileMap). outside c out err) contents })
+      → p' ≡ last_failed {A = Unit {0}} path.now p (Err f)
+      → Stops landed (reading path.now) (outside k p out err) (outside k' p' out err) (counts r w outs errs) (counts r' w' outs errs) (stop_seen (read_stop f path))
+  didn't_read k k' path items faults.Failed read cause contents writes failed = count_rose landed k k' p p' out err r r' w w' outs errs path.now cause contents writes failed
+  didn't_read None k' path items faults.Missing read cause contents writes failed = count_rose landed None k' p p' out err r r' w w' outs errs path.now cause contents writes failed
+  didn't_read (Some m) k' path items faults.Missing read cause contents writes failed =
+      can't_read landed (Some m) k' p p' out err r r' w w' outs errs m path.now refl (inl read.1) cause contents writes failed
+  didn't_read None k' path items faults.TooLarge read cause contents writes failed = count_rose landed None k' p p' out err r r' w w' outs errs path.now cause contents writes failed
+  didn't_read (Some m) k' path items faults.TooLarge read cause contents writes failed =
+      can't_read landed (Some m) k' p p' out err r r' w w' outs errs m path.now refl (inr (inl read.1)) cause contents writes failed
+  didn't_read k k' path items faults.Memory read cause contents writes failed =
+      ((λ i. counts (cause i) (writes i) outs errs), record { steps = []; begun = inl refl; fit = tt; stand = λ i. outside (contents i) (failed i) out err })
 
-module _ (landed : Landed) (k : Option FileMap) (out out' err : Option (List ℕ)) (r w outs outs' errs : ℕ) (text : List ℕ) where
+module _ (landed : Landed) (k : Option FileMap) (p : LastFailed) (out out' err : Option (List ℕ)) (r w outs outs' errs : ℕ) (text : List ℕ) where
   pub put_text : PutLeaves out out' text (Ok tt) → PutCause outs outs' (Ok tt)
-      → (counts r w outs' errs ≡ counts r w outs errs) × CameTo landed (writing (to_out text)) (outside k out err) (outside k out' err) (gives tt)
+      → (counts r w outs' errs ≡ counts r w outs errs) × CameTo landed (writing (to_out text)) (outside k p out err) (outside k p out' err) (gives tt)
   put_text leaves cause =
-      wrote landed (outside k out err) (outside k out' err) (counts r w outs errs) (counts r w outs' errs) (to_out text) (ap (λ (n : ℕ). counts r w n errs) cause)
-      (ap (λ (t : Option (List ℕ)). outside k t err) (text_written out out' text leaves))
+      wrote landed (outside k p out err) (outside k p out' err) (counts r w outs errs) (counts r w outs' errs) (to_out text) (ap (λ (n : ℕ). counts r w n errs) cause)
+      (ap (λ (t : Option (List ℕ)). outside k p t err) (text_written out out' text leaves))
 
   pub broke_text : (f : SinkFault) → PutLeaves out out' text (Err f) → PutCause outs outs' (Err f)
-      → Stops landed (writing (to_out text)) (outside k out err) (outside k out' err) (counts r w outs errs) (counts r w outs' errs) (Some (failure (to_write (to_out text))))
+      → Stops landed (writing (to_out text)) (outside k p out err) (outside k p out' err) (counts r w outs errs) (counts r w outs' errs) (Some (failure (to_write (to_out text))))
   broke_text f leaves cause =
-      failed_first landed (writing (to_out text)) (outside k out err) (outside k out' err) (counts r w outs errs) (counts r w outs' errs) (to_write (to_out text)) refl
-      (text_broken out out' text f leaves, refl, refl) (cause, refl)
+      failed_first landed (writing (to_out text)) (outside k p out err) (outside k p out' err) (counts r w outs errs) (counts r w outs' errs) (to_write (to_out text)) refl
+      (text_broken out out' text f leaves, refl) (cause, refl)
 
-module _ (landed : Landed) (k : Option FileMap) (out err err' : Option (List ℕ)) (r w outs errs errs' : ℕ) (text : List ℕ) where
+module _ (landed : Landed) (k : Option FileMap) (p : LastFailed) (out err err' : Option (List ℕ)) (r w outs errs errs' : ℕ) (text : List ℕ) where
   pub put_err_text : PutLeaves err err' text (Ok tt) → PutCause errs errs' (Ok tt)
-      → (counts r w outs errs' ≡ counts r w outs errs) × CameTo landed (writing (to_err text)) (outside k out err) (outside k out err') (gives tt)
+      → (counts r w outs errs' ≡ counts r w outs errs) × CameTo landed (writing (to_err text)) (outside k p out err) (outside k p out err') (gives tt)
   put_err_text leaves cause =
-      wrote landed (outside k out err) (outside k out err') (counts r w outs errs) (counts r w outs errs') (to_err text) (ap (λ (n : ℕ). counts r w outs n) cause)
-      (ap (λ (t : Option (List ℕ)). outside k out t) (text_written err err' text leaves))
+      wrote landed (outside k p out err) (outside k p out err') (counts r w outs errs) (counts r w outs errs') (to_err text) (ap (λ (n : ℕ). counts r w outs n) cause)
+      (ap (λ (t : Option (List ℕ)). outside k p out t) (text_written err err' text leaves))
 
   pub broke_err_text : (f : SinkFault) → PutLeaves err err' text (Err f) → PutCause errs errs' (Err f)
-      → Stops landed (writing (to_err text)) (outside k out err) (outside k out err') (counts r w outs errs) (counts r w outs errs') (Some (failure (to_write (to_err text))))
+      → Stops landed (writing (to_err text)) (outside k p out err) (outside k p out err') (counts r w outs errs) (counts r w outs errs') (Some (failure (to_write (to_err text))))
   broke_err_text f leaves cause =
-      failed_first landed (writing (to_err text)) (outside k out err) (outside k out err') (counts r w outs errs) (counts r w outs errs') (to_write (to_err text)) refl
-      (text_broken err err' text f leaves, refl, refl) (cause, refl)
+      failed_first landed (writing (to_err text)) (outside k p out err) (outside k p out err') (counts r w outs errs) (counts r w outs errs') (to_write (to_err text)) refl
+      (text_broken err err' text f leaves, refl) (cause, refl)
 
 -- ---- a folder
 
-module _ (landed : Landed) (k k' : Option FileMap) (out err : Option (List ℕ)) (r r' w w' outs errs : ℕ) where
-  pub listed_folder : (folder : List ℕ) (paths : Vec (String Global) Global) → ListGives k folder (Ok paths) → ListCause r r' (Ok paths) → k' ≡ k → w' ≡ w
-      → (counts r' w' outs errs ≡ counts r w outs errs) × CameTo landed (listing folder) (outside k out err) (outside k' out err) (gives (map string_bytes paths.items))
-  listed_folder folder paths lists same contents writes = (
+module _ (landed : Landed) (k k' : Option FileMap) (p p' : LastFailed) (out err : Option (List ℕ)) (r r' w w' outs errs : ℕ) where
+  pub listed_folder : (folder : List ℕ) (paths : Vec (String Global) Global) → ListGives k folder (Ok paths) → ListCause r r' (Ok paths) → k' ≡ k → w' ≡ w → p' ≡ p
+      → (counts r' w' outs errs ≡ counts r w outs errs) × CameTo landed (listing folder) (outside k p out err) (outside k' p' out err) (gives (map string_bytes paths.items))
+  listed_folder folder paths lists same contents writes failed = (
     (λ i. counts (same i) (writes i) outs errs),
     record {
       steps = has_listed folder (map string_bytes paths.items) ∷ [];
       comes = (refl, refl);
       begun = inr ([], has_listed folder (map string_bytes paths.items), refl, refl);
       fit = (lists, tt);
-      stand = ap (λ (c : Option FileMap). outside c out err) contents;
+      stand = λ i. outside (contents i) (failed i) out err;
     },
   )
 
   pub didn't_list : (folder : Bor (List ℕ)) (f : FileFault) → ListCause r r' (Err f) → k' ≡ k → w' ≡ w
-      → Stops landed (listing folder.now) (outside k out err) (outside k' out err) (counts r w outs errs) (counts r' w' outs errs) (stop_seen (read_stop f folder))
-  didn't_list folder faults.Failed rose contents writes =
-      failed_first landed (listing folder.now) (outside k out err) (outside k' out err) (counts r w outs errs) (counts r' w' outs errs) (to_list folder.now) refl
-      (ap (λ (c : Option FileMap). outside c out err) contents) (rose, ap (λ (n : ℕ). counts r' n outs errs) writes)
-  didn't_list folder faults.Missing cause contents writes = absurd cause
-  didn't_list folder faults.TooLarge cause contents writes = absurd cause
-  didn't_list folder faults.Memory same contents writes =
-      ((λ i. counts (same i) (writes i) outs errs), record { steps = []; begun = inl refl; fit = tt; stand = ap (λ (c : Option FileMap). outside c out err) contents })
+      → p' ≡ last_failed {A = Unit {0}} folder.now p (Err f)
+      → Stops landed (listing folder.now) (outside k p out err) (outside k' p' out err) (counts r w outs errs) (counts r' w' outs errs) (stop_seen (read_stop f folder))
+  didn't_list folder faults.Failed rose contents writes failed =
+      failed_first landed (listing folder.now) (outside k p out err) (outside k' p' out err) (counts r w outs errs) (counts r' w' outs errs) (to_list folder.now) refl
+      (λ i. outside (contents i) (failed i) out err) (rose, ap (λ (n : ℕ). counts r' n outs errs) writes)
+  didn't_list folder faults.Missing cause contents writes failed = absurd cause
+  didn't_list folder faults.TooLarge cause contents writes failed = absurd cause
+  didn't_list folder faults.Memory same contents writes failed =
+      ((λ i. counts (same i) (writes i) outs errs), record { steps = []; begun = inl refl; fit = tt; stand = λ i. outside (contents i) (failed i) out err })
 
 pub read_short : (k : Option FileMap) (path items : List ℕ) → ReadGives k path [] items (Ok tt) → length items ≤ most_read
 read_short k path items (bytes, is, short, there) = subst (λ (b : List ℕ). length b ≤ most_read) (sym is) short

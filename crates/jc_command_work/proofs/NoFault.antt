@@ -3,7 +3,7 @@ use Rattle.std.proofs.Common.{◌≡◌, ◌≢◌, ◌⊎◌, ℕ, List, Option
 use Rattle.jc_command_work.specs.declared.status.Status.{Status}
 use Rattle.jc_command_work.specs.declared.status.Status.TheVariants as status
 use Rattle.jc_outside.specs.Outside.{Rose}
-use Rattle.jc_command_work.specs.Step.{Rises, Outside, outside, Counts, Landed, to_file, to_out, to_err, Call, to_read, to_list, to_write, after, grown, Broken, CountRose}
+use Rattle.jc_command_work.specs.Step.{Rises, Outside, Counts, Landed, to_file, to_out, to_err, Call, to_read, to_list, to_write, after, grown, Broken, CountRose}
 use Rattle.jc_command_work.specs.Part.{status_of, message_of, Command}
 use Rattle.jc_command_work.specs.Ending.{SaysLast, IsWhole, IsCut, Ends, NoneRose}
 use Rattle.jc_command_work.specs.OneWay.{OneWay, Work, IsWork}
@@ -21,7 +21,7 @@ module _ (old new : Outside) (f f' : Counts) where
   only_errs None (same, is) = (ap (λ (c : Counts). c.reads) same, ap (λ (c : Counts). c.writes) same, ap (λ (c : Counts). c.outs) same, inl (ap (λ (c : Counts). c.errs) same))
   only_errs (Some text) says = by says.said
     where
-      by : ((f' ≡ f) × (new ≡ outside old.contents old.out (grown old.err text))) ⊎ (CountRose (to_write (to_err text)) f f' × Broken (λ _ bytes. bytes) old (to_write (to_err text)) new)
+      by : ((f' ≡ f) × (new ≡ record old { err = grown old.err text })) ⊎ (CountRose (to_write (to_err text)) f f' × Broken (λ _ bytes. bytes) old (to_write (to_err text)) new)
           → (f'.reads ≡ f.reads) × (f'.writes ≡ f.writes) × (f'.outs ≡ f.outs) × ((f'.errs ≡ f.errs) ⊎ Rises f.errs f'.errs)
       by (inl (same, is)) = (ap (λ (c : Counts). c.reads) same, ap (λ (c : Counts). c.writes) same, ap (λ (c : Counts). c.outs) same, inl (ap (λ (c : Counts). c.errs) same))
       by (inr ((rose, others), broken)) = (ap (λ (c : Counts). c.reads) others, ap (λ (c : Counts). c.writes) others, ap (λ (c : Counts). c.outs) others, inr rose)

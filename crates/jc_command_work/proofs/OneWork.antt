@@ -6,7 +6,7 @@ use Rattle.std.proofs.lemmas.Option.{none-some, same_Some}
 use Rattle.jc_bytes.specs.ByteLists.{AreBytes}
 use Rattle.jc_bytes.specs.Reader.{most_read}
 use Rattle.jc_outside.specs.Outside.{IsListing, FileMap, IsLong}
-use Rattle.jc_command_work.specs.Step.{Word, Outside, Landed, Write, to_file, to_out, to_err, Call, to_read, to_list, to_write, Step, has_read, has_no, has_listed, has_written, call_of, after, after_write, Fit, Gave, IsRead, CantRead, IsNoFile, Told}
+use Rattle.jc_command_work.specs.Step.{Word, Outside, Landed, Write, to_file, to_out, to_err, Call, to_read, to_list, to_write, Step, has_read, has_no, has_listed, has_written, call_of, after, after_write, after_failed, Fit, Gave, IsRead, CantRead, IsNoFile, Told}
 use Rattle.jc_command_work.specs.Part.{End, Outcome, wants, gives, stops, Part, Hands, ◌>>=◌, giving, ending, deciding, reading, listing, writing, reading_all, writing_all, unread}
 use Rattle.jc_command_work.specs.OneWay.{IsOver, IsTold, GoesOn, OneWay, OneDecision, HasOne}
 use Rattle.jc_command_work.proofs.ListedLaws.{listed, is_listing}
@@ -422,7 +422,7 @@ told_after_write landed w (to_err text) told = told
 pub told_after : (landed : Landed) (w : Outside) (steps : List Step) → IsTold w → IsTold (after landed w steps)
 told_after landed w [] told = told
 told_after landed w (has_read p b ∷ steps) told = told_after landed w steps told
-told_after landed w (has_no p ∷ steps) told = told_after landed w steps told
+told_after landed w (has_no p ∷ steps) told = told_after landed (after_failed w p) steps told
 told_after landed w (has_listed f ps ∷ steps) told = told_after landed w steps told
 told_after landed w (has_written write ∷ steps) told = told_after landed (after_write landed w write) steps (told_after_write landed w write told)
 

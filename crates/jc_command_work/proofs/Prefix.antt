@@ -1,13 +1,14 @@
 -- What a run left, by the work of the command where contents are told.
-use Rattle.std.proofs.Common.{◌≡◌, ◌⊎◌, ℕ, List, [], ◌∷◌, ◌++◌, Option, None, Some, inl, inr, refl, sym, ◌∙◌, ap, subst, append_assoc}
+use Rattle.std.proofs.Common.{◌≡◌, ◌⊎◌, ℕ, List, [], ◌∷◌, ◌++◌, Option, None, Some, inl, inr, refl, sym, ◌∙◌, ap, subst, append_assoc, append-nil}
 use Rattle.jc_command_work.specs.declared.status.Fault.{Fault}
 use Rattle.jc_command_work.specs.declared.status.Status.{Status}
 use Rattle.jc_command_work.specs.declared.status.Status.TheVariants as status
-use Rattle.jc_command_work.specs.Step.{Word, Rises, Outside, outside, Counts, Landed, Write, to_file, to_out, to_err, Call, to_read, to_list, to_write, Step, has_read, has_no, has_listed, has_written, call_of, after, after_write, Fit, Broken, CountRose, grown}
+use Rattle.jc_outside.specs.Outside.{LastFailed, failed_at}
+use Rattle.jc_command_work.specs.Step.{Word, Rises, Outside, Counts, Landed, Write, to_file, to_out, to_err, Call, to_read, to_list, to_write, Step, has_read, has_no, has_listed, has_written, call_of, after, after_write, after_failed, Fit, Broken, TextBroken, CountRose, grown}
 use Rattle.jc_command_work.specs.Part.{End, done, refused, misused, unread, unwritten, unprinted, status_of, message_of, failure, Outcome, wants, gives, stops, Command, Begun}
 use Rattle.jc_command_work.specs.Ending.{CameTo, Began, BrokeOff, SaysLast, IsWhole, IsCut, IsOutOfMemory, Ends}
 use Rattle.jc_command_work.specs.OneWay.{IsOver, IsTold, GoesOn, OneWay, Work, IsWork, writes_of}
-use Rattle.jc_command_work.specs.Prefix.{after_writes, IsFront, LeavesFront}
+use Rattle.jc_command_work.specs.Prefix.{after_writes, with_failed, IsFront, Took, LeavesFront}
 use Rattle.jc_command_work.proofs.Behind.{fit_front, fit_behind}
 use Rattle.jc_command_work.proofs.OneWork.{same_gave, same_end, other}
 
@@ -20,12 +21,53 @@ writes-append (has_read p b ∷ xs) ys = writes-append xs ys
 writes-append (has_no p ∷ xs) ys = writes-append xs ys
 writes-append (has_listed f ps ∷ xs) ys = writes-append xs ys
 
-pub after-writes : (landed : Landed) (w : Outside) (steps : List Step) → after landed w steps ≡ after_writes landed w (writes_of steps)
+-- a path of a failed read that is told has no part in what writes leave
+with_failed-write : (landed : Landed) (w : Outside) (failed : LastFailed) (v : Write) → after_write landed (with_failed w failed) v ≡ with_failed (after_write landed w v) failed
+with_failed-write landed w failed (to_file path bytes) = refl
+with_failed-write landed w failed (to_out text) = refl
+with_failed-write landed w failed (to_err text) = refl
+
+with_failed-writes : (landed : Landed) (w : Outside) (failed again : LastFailed) (vs : List Write)
+    → with_failed (after_writes landed (with_failed w failed) vs) again ≡ with_failed (after_writes landed w vs) again
+with_failed-writes landed w failed again [] = refl
+with_failed-writes landed w failed again (v ∷ vs) =
+    ap (λ (u : Outside). with_failed (after_writes landed u vs) again) (with_failed-write landed w failed v)
+    ∙ with_failed-writes landed (after_write landed w v) failed again vs
+
+pub after-writes : (landed : Landed) (w : Outside) (steps : List Step)
+    → after landed w steps ≡ with_failed (after_writes landed w (writes_of steps)) (after landed w steps).failed
 after-writes landed w [] = refl
 after-writes landed w (has_written v ∷ xs) = after-writes landed (after_write landed w v) xs
 after-writes landed w (has_read p b ∷ xs) = after-writes landed w xs
-after-writes landed w (has_no p ∷ xs) = after-writes landed w xs
+after-writes landed w (has_no p ∷ xs) =
+    let w' = after_failed w p in
+    after-writes landed w' xs ∙ with_failed-writes landed w (failed_at p w.failed) (after landed w' xs).failed (writes_of xs)
 after-writes landed w (has_listed f ps ∷ xs) = after-writes landed w xs
+
+-- what stands, but for that path, was made by the writes among the steps
+pub stands_so : (landed : Landed) (old stands : Outside) (steps : List Step) → stands ≡ after landed old steps → stands ≡ with_failed (after_writes landed old (writes_of steps)) stands.failed
+stands_so landed old stands steps is =
+    is ∙ after-writes landed old steps ∙ ap (λ (u : Outside). with_failed (after_writes landed old (writes_of steps)) u.failed) (sym is)
+
+-- so too where the read of a path failed behind them
+pub unread_so : (landed : Landed) (old stands new : Outside) (steps : List Step) (path : Word) → stands ≡ after landed old steps → new ≡ after_failed stands path
+    → new ≡ with_failed (after_writes landed old (writes_of steps)) new.failed
+unread_so landed old stands new steps path is broken =
+    broken ∙ ap (λ (u : Outside). with_failed u (failed_at path stands.failed)) (stands_so landed old stands steps is)
+    ∙ ap (λ (u : Outside). with_failed (after_writes landed old (writes_of steps)) u.failed) (sym broken)
+
+-- a write that failed leaves the path of the last read that failed
+kept_failed : (landed : Landed) (old new : Outside) (write : Write) → Broken landed old (to_write write) new → old.failed ≡ new.failed
+kept_failed landed old new (to_file path bytes) broken = sym (ap (λ (u : Outside). u.failed) broken.1)
+kept_failed landed old new (to_out text) broken = sym (ap (λ (u : Outside). u.failed) broken.1)
+kept_failed landed old new (to_err text) broken = sym (ap (λ (u : Outside). u.failed) broken.1)
+
+pub broken_so : (landed : Landed) (old stands new : Outside) (steps : List Step) (v : Write) → stands ≡ after landed old steps → Broken landed stands (to_write v) new
+    → Broken landed (with_failed (after_writes landed old (writes_of steps)) new.failed) (to_write v) new
+broken_so landed old stands new steps v is broken =
+    let made = after_writes landed old (writes_of steps) in
+    subst (λ (w : Outside). Broken landed w (to_write v) new)
+    (stands_so landed old stands steps is ∙ ap (λ (p : LastFailed). with_failed made p) (kept_failed landed stands new v broken)) broken
 
 -- ---- the one work
 
@@ -79,56 +121,64 @@ list_or_write path write is = other (to_list path) (to_write write) is tt
 
 module _ (landed : Landed) (command : Command) (old : Outside) (told : IsTold old) (way : OneWay landed command old) (work : Work) (is : IsWork landed command old work) where
   -- first steps leave what first writes leave
-  pub began_front : (stands : Outside) → Began landed command old stands → IsFront landed old (writes_of work.steps) stands
+  began_front : (stands : Outside) (b : Began landed command old stands) → (i : IsFront landed old (writes_of work.steps) stands) × (i.front ≡ writes_of b.steps)
   began_front stands b =
-      let (rest, whole) = began_work landed command old way work is told b.steps b.begun b.fit in
-      record {
-        front = writes_of b.steps;
-        behind = writes_of rest;
-        parts = ap writes_of whole ∙ writes-append b.steps rest;
-        stand = inl (b.stand ∙ after-writes landed old b.steps);
-      }
+      let (rest, whole) = began_work landed command old way work is told b.steps b.begun b.fit in (
+        record {
+          front = writes_of b.steps;
+          behind = writes_of rest;
+          parts = ap writes_of whole ∙ writes-append b.steps rest;
+          stand = inl (stands_so landed old stands b.steps b.stand);
+        },
+        refl,
+      )
 
   -- and a call that failed leaves a part of the next write, or nothing
-  pub broke_front : (new : Outside) (f f' : Counts) (end : End) → BrokeOff landed command old new f f' end → IsFront landed old (writes_of work.steps) new
+  broke_front : (new : Outside) (f f' : Counts) (end : End) (b : BrokeOff landed command old new f f' end)
+      → (i : IsFront landed old (writes_of work.steps) new) × (i.front ≡ writes_of b.came.steps)
   broke_front new f f' end b =
       let (step, rest, whole, called) = on_work landed command old way work is b.came.steps b.call b.came.comes b.came.fit in
       let parts = ap writes_of whole ∙ writes-append b.came.steps (step ∷ rest) in
       by step rest parts b.call called b.broken
     where
-      stands : b.stands ≡ after_writes landed old (writes_of b.came.steps)
-      stands = b.came.stand ∙ after-writes landed old b.came.steps
-
       front : List Write
       front = writes_of b.came.steps
 
       by : (step : Step) (rest : List Step) → writes_of work.steps ≡ front ++ writes_of (step ∷ rest) → (call : Call) → call_of step ≡ call → Broken landed b.stands call new
-          → IsFront landed old (writes_of work.steps) new
-      by step rest parts (to_read path) called broken = record { front = front; behind = writes_of (step ∷ rest); parts = parts; stand = inl (broken ∙ stands) }
-      by step rest parts (to_list folder) called broken = record { front = front; behind = writes_of (step ∷ rest); parts = parts; stand = inl (broken ∙ stands) }
-      by (has_written v) rest parts (to_write write) called broken = record {
-        front = front;
-        behind = v ∷ writes_of rest;
-        parts = parts;
-        stand = inr (v, writes_of rest, refl, subst (λ (s : Outside). Broken landed s (to_write v) new) stands (subst (λ (c : Call). Broken landed b.stands c new) (sym called) broken));
-      }
+          → (i : IsFront landed old (writes_of work.steps) new) × (i.front ≡ front)
+      by step rest parts (to_read path) called broken =
+          (record { front = front; behind = writes_of (step ∷ rest); parts = parts; stand = inl (unread_so landed old b.stands new b.came.steps path b.came.stand broken) }, refl)
+      by step rest parts (to_list folder) called broken =
+          (record { front = front; behind = writes_of (step ∷ rest); parts = parts; stand = inl (unread_so landed old b.stands new b.came.steps folder b.came.stand broken) }, refl)
+      by (has_written v) rest parts (to_write write) called broken =
+          let broke : Broken landed b.stands (to_write v) new = subst (λ (c : Call). Broken landed b.stands c new) (sym called) broken in (
+            record {
+              front = front;
+              behind = v ∷ writes_of rest;
+              parts = parts;
+              stand = inr (v, writes_of rest, refl, broken_so landed old b.stands new b.came.steps v b.came.stand broke);
+            },
+            refl,
+          )
       by (has_read p c) rest parts (to_write write) called broken = absurd (read_or_write p write called)
       by (has_no p) rest parts (to_write write) called broken = absurd (read_or_write p write called)
       by (has_listed p c) rest parts (to_write write) called broken = absurd (list_or_write p write called)
 
   -- PREFIX: before its last message each run leaves what first writes of the work leave, the last perhaps in part.
-  pub whole_front : (new : Outside) (f f' : Counts) (s : Status) (e : IsWhole landed command old new f f' s) → IsFront landed old (writes_of work.steps) e.stands
+  whole_front : (new : Outside) (f f' : Counts) (s : Status) (e : IsWhole landed command old new f f' s)
+      → (i : IsFront landed old (writes_of work.steps) e.stands) × (i.front ≡ writes_of e.came.steps)
   whole_front new f f' s e = began_front e.stands (record { steps = e.came.steps; begun = e.came.begun; fit = e.came.fit; stand = e.came.stand })
 
-  pub cut_front : (new : Outside) (f f' : Counts) (s : Status) (e : IsCut landed command old new f f' s) → IsFront landed old (writes_of work.steps) e.stands
+  cut_front : (new : Outside) (f f' : Counts) (s : Status) (e : IsCut landed command old new f f' s)
+      → (i : IsFront landed old (writes_of work.steps) e.stands) × (i.front ≡ writes_of e.broke_off.came.steps)
   cut_front new f f' s e = broke_front e.stands f e.at e.end e.broke_off
 
-  pub memory_front : (new : Outside) (f f' : Counts) (s : Status) → IsOutOfMemory landed command old new f f' s → IsFront landed old (writes_of work.steps) new
+  memory_front : (new : Outside) (f f' : Counts) (s : Status) → IsOutOfMemory landed command old new f f' s → IsFront landed old (writes_of work.steps) new
   memory_front new f f' s e = by e.far
     where
       by : ((f' ≡ f) × Began landed command old new) ⊎ ((end : End) × BrokeOff landed command old new f f' end) → IsFront landed old (writes_of work.steps) new
-      by (inl (same, began)) = began_front new began
-      by (inr (end, broke)) = broke_front new f f' end broke
+      by (inl (same, began)) = (began_front new began).0
+      by (inr (end, broke)) = (broke_front new f f' end broke).0
 
 -- ---- the causes of the statuses
 
@@ -185,7 +235,7 @@ kept_reads : (old new : Outside) (f f' : Counts) (message : Option (List ℕ)) �
 kept_reads old new f f' None (same, is) = ap (λ (c : Counts). c.reads) same
 kept_reads old new f f' (Some text) says = by says.said
   where
-    by : ((f' ≡ f) × (new ≡ outside old.contents old.out (grown old.err text)))
+    by : ((f' ≡ f) × (new ≡ record old { err = grown old.err text }))
         ⊎ (CountRose (to_write (to_err text)) f f' × Broken (λ _ bytes. bytes) old (to_write (to_err text)) new) → f'.reads ≡ f.reads
     by (inl (same, is)) = ap (λ (c : Counts). c.reads) same
     by (inr (rose, broken)) = ap (λ (c : Counts). c.reads) rose.1
@@ -255,22 +305,74 @@ module _ (landed : Landed) (command : Command) (old new : Outside) (f f' : Count
 
 -- ---- PREFIX, for every end
 
-kept_outside : (old new : Outside) (f f' : Counts) (message : Option (List ℕ)) → SaysLast message old new f f' → (new.contents ≡ old.contents) × (new.out ≡ old.out)
-kept_outside old new f f' None (same, is) = (ap (λ (w : Outside). w.contents) is, ap (λ (w : Outside). w.out) is)
+-- the last message leaves all but `err`, which takes it as far as it was taken
+kept_outside : (old new : Outside) (f f' : Counts) (message : Option (List ℕ)) → SaysLast message old new f f'
+    → (new.contents ≡ old.contents) × (new.out ≡ old.out) × Took message old.err new.err
+kept_outside old new f f' None (same, is) = (ap (λ (w : Outside). w.contents) is, ap (λ (w : Outside). w.out) is, ap (λ (w : Outside). w.err) is)
 kept_outside old new f f' (Some text) says = by says.said
   where
-    by : ((f' ≡ f) × (new ≡ outside old.contents old.out (grown old.err text)))
-        ⊎ (CountRose (to_write (to_err text)) f f' × Broken (λ _ bytes. bytes) old (to_write (to_err text)) new) → (new.contents ≡ old.contents) × (new.out ≡ old.out)
-    by (inl (same, is)) = (ap (λ (w : Outside). w.contents) is, ap (λ (w : Outside). w.out) is)
-    by (inr (rose, (part, contents, out))) = (contents, out)
+    whole : (told : Option (List ℕ)) → TextBroken text told (grown told text)
+    whole None = refl
+    whole (Some t) = (text, ([], sym (append-nil text)), refl)
+
+    by : ((f' ≡ f) × (new ≡ record old { err = grown old.err text }))
+        ⊎ (CountRose (to_write (to_err text)) f f' × Broken (λ _ bytes. bytes) old (to_write (to_err text)) new)
+        → (new.contents ≡ old.contents) × (new.out ≡ old.out) × TextBroken text old.err new.err
+    by (inl (same, is)) = (
+      ap (λ (w : Outside). w.contents) is,
+      ap (λ (w : Outside). w.out) is,
+      subst (λ (t : Option (List ℕ)). TextBroken text old.err t) (sym (ap (λ (w : Outside). w.err) is)) (whole old.err),
+    )
+    by (inr (rose, (part, rest))) = (ap (λ (w : Outside). w.contents) rest, ap (λ (w : Outside). w.out) rest, part)
 
 pub ends_front : (landed : Landed) (command : Command) (old new : Outside) (f f' : Counts) (s : Status) → IsTold old → OneWay landed command old → (work : Work) → IsWork landed command old work
-    → Ends landed command old new f f' s → LeavesFront landed old (writes_of work.steps) new
+    → Ends landed command old new f f' s → LeavesFront landed old work s new
 ends_front landed command old new f f' s told way work is (inl e) =
     let kept = kept_outside e.stands new f f' (message_of e.end) e.says in
-    record { stands = e.stands; front = whole_front landed command old told way work is new f f' s e; contents = kept.0; out = kept.1 }
+    let mine : Work = record { steps = e.came.steps; end = e.end } in
+    let same = one_work landed command old way mine work (e.came.comes, e.came.fit) is in
+    let front = whole_front landed command old told way work is new f f' s e in
+    record {
+      stands = e.stands;
+      front = front.0;
+      message = message_of e.end;
+      is_message = inr (e.end, inl (front.1 ∙ ap (λ (v : Work). writes_of v.steps) same, ap (λ (v : Work). v.end) same), e.is, refl);
+      contents = kept.0;
+      out = kept.1;
+      err = kept.2;
+    }
 ends_front landed command old new f f' s told way work is (inr (inl e)) =
     let kept = kept_outside e.stands new e.at f' (message_of e.end) e.says in
-    record { stands = e.stands; front = cut_front landed command old told way work is new f f' s e; contents = kept.0; out = kept.1 }
-ends_front landed command old new f f' s told way work is (inr (inr e)) =
-    record { stands = new; front = memory_front landed command old told way work is new f f' s e; contents = refl; out = refl }
+    let b = e.broke_off in
+    let (step, rest, whole, called) = on_work landed command old way work is b.came.steps b.call b.came.comes b.came.fit in
+    let front = cut_front landed command old told way work is new f f' s e in
+    record {
+      stands = e.stands;
+      front = front.0;
+      message = message_of e.end;
+      is_message = inr (
+        e.end,
+        inr (record {
+          front = b.came.steps;
+          step = step;
+          behind = rest;
+          parts = whole;
+          writes = front.1;
+          is = b.is ∙ ap failure (sym called);
+        }),
+        e.is,
+        refl,
+      );
+      contents = kept.0;
+      out = kept.1;
+      err = kept.2;
+    }
+ends_front landed command old new f f' s told way work is (inr (inr e)) = record {
+  stands = new;
+  front = memory_front landed command old told way work is new f f' s e;
+  message = None;
+  is_message = inl (e.is, refl);
+  contents = refl;
+  out = refl;
+  err = refl;
+}

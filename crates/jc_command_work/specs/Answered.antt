@@ -5,7 +5,7 @@ use Rattle.jc_command_work.specs.declared.output.Write.{Write as Written}
 use Rattle.jc_command_work.specs.declared.status.Fault.{Fault}
 use Rattle.jc_command_work.specs.declared.stop.Stop.{Stop}
 use Rattle.jc_command_work.specs.Texts.{fault_text}
-use Rattle.jc_outside.specs.Outside.{FileMap}
+use Rattle.jc_outside.specs.Outside.{FileMap, LastFailed}
 use Rattle.jc_command_work.specs.Step.{Word, Write, AreTexts, Landed}
 use Rattle.jc_command_work.specs.Part.{End, done, refused, Outcome, gives, stops, Part, Command, ending, deciding, reading_all, writing_all, ◌>>=◌, ◌>>◌}
 use Rattle.jc_command_work.specs.Ending.{DoesFiles}
@@ -71,7 +71,8 @@ AnswersWith Is (Ok writes) = Is (gives (map write_seen writes.items))
 AnswersWith Is (Err stop) = EndsSo Is (stop_seen stop)
 
 -- what a function did that reads the inputs and decides what to write
-abbrev pub Prepares : Landed → List Word → (List (List ℕ) → Answer → Type 0) → (old new : Option FileMap) → (reads reads' writes writes' : ℕ)
+abbrev pub Prepares : Landed → List Word → (List (List ℕ) → Answer → Type 0) → (old new : Option FileMap) → (failed failed' : LastFailed)
+    → (reads reads' writes writes' : ℕ)
     → Result (Vec Written Global) Stop → Type 0
-Prepares landed inputs Answers old new reads reads' writes writes' result =
-    DoesFiles landed (preparing inputs Answers) (λ made. map write_seen made.items) stop_seen old new reads reads' writes writes' result
+Prepares landed inputs Answers old new failed failed' reads reads' writes writes' result =
+    DoesFiles landed (preparing inputs Answers) (λ made. map write_seen made.items) stop_seen old new failed failed' reads reads' writes writes' result

@@ -60,7 +60,8 @@ IsWriteCall (to_read path) = ⊥
 IsWriteCall (to_list folder) = ⊥
 IsWriteCall (to_write write) = ⊤
 
--- First steps were made, and the call that the command then wanted failed, as the message says: a write was made in part.
+-- First steps were made, and the call that the command then wanted failed, as the message says: a read's path is told as that of the last read
+-- that failed, and a write was made in part.
 pub record CallFailed (landed : Landed) (command : Command) (old new : Outside) (f f' : Counts) (Is : Call → Type 0) : Type 0 where
   pub call : Call
   pub is : Is call

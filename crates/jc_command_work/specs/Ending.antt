@@ -2,7 +2,7 @@
 use Rattle.std.specs.Prelude.{◌≡◌, ◌⊎◌, ℕ, List, Option, None, Some, Result, Ok, Err}
 use Rattle.jc_command_work.specs.declared.status.Status.{Status}
 use Rattle.jc_command_work.specs.declared.status.Status.TheVariants as status
-use Rattle.jc_outside.specs.Outside.{FileMap, Rose}
+use Rattle.jc_outside.specs.Outside.{FileMap, LastFailed, Rose}
 use Rattle.jc_command_work.specs.Step.{Outside, outside, Counts, counts, Landed, Call, to_write, to_err, Step, grown, after, Fit, Broken, CountRose}
 use Rattle.jc_command_work.specs.Part.{End, done, status_of, message_of, failure, Outcome, wants, gives, stops, Part, Command, Begun}
 
@@ -23,7 +23,7 @@ pub record Began {X : Type 0} (landed : Landed) (part : Part X) (old stands : Ou
   pub fit : Fit landed old steps
   pub stand : stands ≡ after landed old steps
 
--- Some first steps were made, and the call behind them failed: its count rose, and a write was made in part.
+-- Some first steps were made, and the call behind them failed: its count rose, a read's path is told, and a write was made in part.
 pub record BrokeOff {X : Type 0} (landed : Landed) (part : Part X) (old new : Outside) (f f' : Counts) (end : End) : Type 0 where
   pub call : Call
   pub stands : Outside
@@ -36,7 +36,7 @@ pub record BrokeOff {X : Type 0} (landed : Landed) (part : Part X) (old new : Ou
 
 -- the outside but for `err`, and the counts but for that of `err`, stay; on `err` the text was appended, or a part of it and the count rose
 pub record Says (text : List ℕ) (old new : Outside) (f f' : Counts) : Type 0 where
-  pub said : ((f' ≡ f) × (new ≡ outside old.contents old.out (grown old.err text)))
+  pub said : ((f' ≡ f) × (new ≡ record old { err = grown old.err text }))
       ⊎ (CountRose (to_write (to_err text)) f f' × Broken (λ _ bytes. bytes) old (to_write (to_err text)) new)
 
 abbrev pub SaysLast : Option (List ℕ) → Outside → Outside → Counts → Counts → Type 0
@@ -53,7 +53,8 @@ pub record IsWhole (landed : Landed) (command : Command) (old new : Outside) (f 
   pub is : s ≡ status_of end
   pub says : SaysLast (message_of end) stands new f f'
 
--- Some first steps were made, and the call behind them failed. The status tells a read from a write, and the message names the path.
+-- Some first steps were made, and the call behind them failed. The status tells a read from a write, and the message names the path: of a read
+-- the one that the files tell as that of the last read that failed.
 pub record IsCut (landed : Landed) (command : Command) (old new : Outside) (f f' : Counts) (s : Status) : Type 0 where
   pub end : End
   pub stands : Outside
@@ -106,30 +107,35 @@ pub record NoneRose (old new : Counts) : Type 0 where
 -- ---- the files, or a text, alone
 
 -- what a function that takes the files alone did, whatever stands on `out` and `err`
-abbrev pub DoesFiles : {X A E : Type 0} → Landed → Part X → (A → X) → (E → Option End) → (old new : Option FileMap) → (reads reads' writes writes' : ℕ) → Result A E → Type 0
-DoesFiles landed part value stop old new reads reads' writes writes' result =
-    (out err : Option (List ℕ)) (outs errs : ℕ) → Does landed part value stop (outside old out err) (outside new out err)
+abbrev pub DoesFiles : {X A E : Type 0} → Landed → Part X → (A → X) → (E → Option End) → (old new : Option FileMap) → (failed failed' : LastFailed)
+    → (reads reads' writes writes' : ℕ) → Result A E → Type 0
+DoesFiles landed part value stop old new failed failed' reads reads' writes writes' result =
+    (out err : Option (List ℕ)) (outs errs : ℕ) → Does landed part value stop (outside old failed out err) (outside new failed' out err)
     (counts reads writes outs errs) (counts reads' writes' outs errs) result
 
 -- what a function that takes `out` alone did
 abbrev pub DoesOut : {X A E : Type 0} → Part X → (A → X) → (E → Option End) → (old new : Option (List ℕ)) → (outs outs' : ℕ) → Result A E → Type 0
 DoesOut part value stop old new outs outs' result =
-    (landed : Landed) (contents : Option FileMap) (err : Option (List ℕ)) (reads writes errs : ℕ) → Does landed part value stop (outside contents old err) (outside contents new err)
+    (landed : Landed) (contents : Option FileMap) (failed : LastFailed) (err : Option (List ℕ)) (reads writes errs : ℕ)
+    → Does landed part value stop (outside contents failed old err) (outside contents failed new err)
     (counts reads writes outs errs) (counts reads writes outs' errs) result
 
 -- what a function that takes `err` alone did
 abbrev pub DoesErr : {X A E : Type 0} → Part X → (A → X) → (E → Option End) → (old new : Option (List ℕ)) → (errs errs' : ℕ) → Result A E → Type 0
 DoesErr part value stop old new errs errs' result =
-    (landed : Landed) (contents : Option FileMap) (out : Option (List ℕ)) (reads writes outs : ℕ) → Does landed part value stop (outside contents out old) (outside contents out new)
+    (landed : Landed) (contents : Option FileMap) (failed : LastFailed) (out : Option (List ℕ)) (reads writes outs : ℕ)
+    → Does landed part value stop (outside contents failed out old) (outside contents failed out new)
     (counts reads writes outs errs) (counts reads writes outs errs') result
 
 -- what was said on `err` last, and the status, whatever stands elsewhere
 abbrev pub ReportsErr : Option End → (old new : Option (List ℕ)) → (errs errs' : ℕ) → Status → Type 0
 ReportsErr stop old new errs errs' s =
-    (contents : Option FileMap) (out : Option (List ℕ)) (reads writes outs : ℕ) → Reports stop (outside contents out old) (outside contents out new)
+    (contents : Option FileMap) (failed : LastFailed) (out : Option (List ℕ)) (reads writes outs : ℕ)
+    → Reports stop (outside contents failed out old) (outside contents failed out new)
     (counts reads writes outs errs) (counts reads writes outs errs') s
 
 abbrev pub SaysErr : List ℕ → (old new : Option (List ℕ)) → (errs errs' : ℕ) → Type 0
 SaysErr text old new errs errs' =
-    (contents : Option FileMap) (out : Option (List ℕ)) (reads writes outs : ℕ) → Says text (outside contents out old) (outside contents out new)
+    (contents : Option FileMap) (failed : LastFailed) (out : Option (List ℕ)) (reads writes outs : ℕ)
+    → Says text (outside contents failed out old) (outside contents failed out new)
     (counts reads writes outs errs) (counts reads writes outs errs')

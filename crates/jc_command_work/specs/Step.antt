@@ -4,7 +4,7 @@ use Rattle.std.specs.Prelude.{◌≡◌, ◌⊎◌, ◌≤◌, ⊤, ℕ, List, [
 use Rattle.std.specs.FinMap.{get, insert}
 use Rattle.jc_bytes.specs.ByteLists.{AreBytes}
 use Rattle.jc_bytes.specs.Reader.{most_read}
-use Rattle.jc_outside.specs.Outside.{FileMap, IsLong, WhereTold, Rose, Begins, LeavesPart, IsListing}
+use Rattle.jc_outside.specs.Outside.{FileMap, LastFailed, failed_at, IsLong, WhereTold, Rose, Begins, LeavesPart, IsListing}
 
 -- a path, a word, or a text, by its bytes
 abbrev pub Word : Type 0
@@ -36,9 +36,10 @@ pub record FilesTargeted : Type 0 where
 
 -- ---- the outside
 
--- what is told of the files and of the texts on `out` and `err`
+-- what is told of the files, of the path of the last read of them that failed, and of the texts on `out` and `err`
 pub record Outside : Type 0 where
   pub contents : Option FileMap
+  pub failed : LastFailed
   pub out : Option (List ℕ)
   pub err : Option (List ℕ)
 
@@ -49,8 +50,8 @@ pub record Counts : Type 0 where
   pub outs : ℕ
   pub errs : ℕ
 
-abbrev pub outside : Option FileMap → (out err : Option (List ℕ)) → Outside
-outside contents out err = record { contents = contents; out = out; err = err }
+abbrev pub outside : Option FileMap → LastFailed → (out err : Option (List ℕ)) → Outside
+outside contents failed out err = record { contents = contents; failed = failed; out = out; err = err }
 
 abbrev pub counts : (reads writes outs errs : ℕ) → Counts
 counts reads writes outs errs = record { reads = reads; writes = writes; outs = outs; errs = errs }
@@ -96,13 +97,17 @@ grown text more = option_map (λ t. t ++ more) text
 
 abbrev pub after_write : Landed → Outside → Write → Outside
 after_write landed w (to_file path bytes) =
-    outside (option_map (λ (m : FileMap). insert m path (landed path bytes)) w.contents) w.out w.err
-after_write landed w (to_out text) = outside w.contents (grown w.out text) w.err
-after_write landed w (to_err text) = outside w.contents w.out (grown w.err text)
+    record w { contents = option_map (λ (m : FileMap). insert m path (landed path bytes)) w.contents }
+after_write landed w (to_out text) = record w { out = grown w.out text }
+after_write landed w (to_err text) = record w { err = grown w.err text }
+
+-- the read of a path failed
+abbrev pub after_failed : Outside → Word → Outside
+after_failed w path = record w { failed = failed_at path w.failed }
 
 abbrev pub after_step : Landed → Outside → Step → Outside
 after_step landed w (has_read path bytes) = w
-after_step landed w (has_no path) = w
+after_step landed w (has_no path) = after_failed w path
 after_step landed w (has_listed folder paths) = w
 after_step landed w (has_written write) = after_write landed w write
 
@@ -160,13 +165,13 @@ abbrev pub TextBroken : List ℕ → Option (List ℕ) → Option (List ℕ) →
 TextBroken text None new = new ≡ None
 TextBroken text (Some t) new = (part : List ℕ) × Begins part text × (new ≡ Some (t ++ part))
 
--- what a call that failed left: a write was made in part
+-- what a call that failed left: a path that couldn't be read is told, and a write was made in part
 abbrev pub Broken : Landed → Outside → Call → Outside → Type 0
-Broken landed w (to_read path) w' = w' ≡ w
-Broken landed w (to_list folder) w' = w' ≡ w
-Broken landed w (to_write (to_file path bytes)) w' = FileBroken (landed path bytes) path w.contents w'.contents × (w'.out ≡ w.out) × (w'.err ≡ w.err)
-Broken landed w (to_write (to_out text)) w' = TextBroken text w.out w'.out × (w'.contents ≡ w.contents) × (w'.err ≡ w.err)
-Broken landed w (to_write (to_err text)) w' = TextBroken text w.err w'.err × (w'.contents ≡ w.contents) × (w'.out ≡ w.out)
+Broken landed w (to_read path) w' = w' ≡ after_failed w path
+Broken landed w (to_list folder) w' = w' ≡ after_failed w folder
+Broken landed w (to_write (to_file path bytes)) w' = FileBroken (landed path bytes) path w.contents w'.contents × (w' ≡ record w { contents = w'.contents })
+Broken landed w (to_write (to_out text)) w' = TextBroken text w.out w'.out × (w' ≡ record w { out = w'.out })
+Broken landed w (to_write (to_err text)) w' = TextBroken text w.err w'.err × (w' ≡ record w { err = w'.err })
 
 -- the count rose of what the call goes to, and the others stay
 abbrev pub CountRose : Call → Counts → Counts → Type 0

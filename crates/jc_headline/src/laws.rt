@@ -4,7 +4,7 @@ ghost use Rattle.jc_command_work.specs.Step.{Outside, Counts, Landed};
 ghost use Rattle.jc_command_work.specs.Ending.{Ends, NoneRose};
 ghost use Rattle.jc_command_work.specs.Prefix.{LeavesFront};
 ghost use Rattle.jc_command_work.specs.Causes.{HasOwnEnds};
-ghost use Rattle.jc_command_work.specs.OneWay.{IsTold, Work, IsWork, writes_of};
+ghost use Rattle.jc_command_work.specs.OneWay.{IsTold, Work, IsWork};
 ghost use Rattle.jc_command_work.specs.declared.status.Status.TheVariants as status;
 ghost use Rattle.jc_headline.specs.CoverWork.{Cover, cover_work};
 ghost use Rattle.jc_headline.specs.CoverRun.{CoverRun};
@@ -28,13 +28,13 @@ pub fn cover_has_one_work()
 }
 
 /// Where contents are told, no count rose and memory wasn't refused, all steps of the work were made, and the message of its end
-/// was said [`makes`]. Else what stands is, but for the last message, what first writes of the work leave, the last of them
-/// perhaps in part [`leaves`].
+/// was said [`makes`]. Else what stands is what first writes of the work leave, the last of them perhaps in part, and behind them
+/// on `err` the last message, as far as it was taken [`leaves`].
 pub fn each_cover_ends_as_its_work()
     ensures makes { (landed : Landed) (c : Cover) (run : ToldRun landed (cover_work c)) → NoneRose run.old_counts run.new_counts
         → run.ended ≢ status.Memory → MakesItsWork run }
     ensures leaves { (landed : Landed) (c : Cover) (run : ToldRun landed (cover_work c))
-        → LeavesFront landed run.old (writes_of run.work.steps) run.new }
+        → LeavesFront landed run.old run.work run.ended run.new }
 {
     each_text_is_a_plan_or_has_a_first_unfit_line();
 }

@@ -7,13 +7,13 @@ use Rattle.jc_command_work.specs.Step.{Word, Outside, Counts, Landed, Write, Cal
 use Rattle.jc_command_work.specs.Part.{End, done, unread, Outcome, wants, gives, stops, Part, Command, giving, ending, deciding, reading, listing, writing, reading_all, writing_all, ◌>>=◌}
 use Rattle.jc_command_work.specs.Ending.{Began, BrokeOff, Ends}
 use Rattle.jc_command_work.specs.OneWay.{writes_of}
-use Rattle.jc_command_work.specs.Prefix.{after_writes, IsFront}
+use Rattle.jc_command_work.specs.Prefix.{after_writes, with_failed, IsFront}
 use Rattle.jc_command_work.specs.Folders.{paths_of, all_paths, files_of, once}
 use Rattle.jc_command_work.specs.Answered.{Answer, answering, preparing, making_all, answered}
 use Rattle.jc_command_work.specs.Causes.{IsReadCall, HasOwnEnds}
 use Rattle.jc_command_work.proofs.Behind.{over_then, fit_front}
 use Rattle.jc_command_work.proofs.OneWork.{not_over}
-use Rattle.jc_command_work.proofs.Prefix.{writes-append, after-writes}
+use Rattle.jc_command_work.proofs.Prefix.{writes-append, stands_so, unread_so, broken_so}
 use Rattle.jc_command_work.proofs.NoWrites.{WritesNone, none_preparing}
 use Rattle.jc_command_work.proofs.CauseLaws.{cause}
 use Rattle.jc_top.specs.FirstWrite.{as_steps, WritesBegun}
@@ -266,8 +266,8 @@ written_steps (write ∷ writes) = ap (λ (ws : List Write). write ∷ ws) (writ
 
 module _ (landed : Landed) (command : Command) (last : WritesLast command) (old : Outside) where
   -- nothing was written
-  nothing : (steps : List Step) → writes_of steps ≡ [] → after landed old steps ≡ old
-  nothing steps none = after-writes landed old steps ∙ ap (after_writes landed old) none
+  nothing : (new : Outside) (steps : List Step) → writes_of steps ≡ [] → new ≡ with_failed (after_writes landed old (writes_of steps)) new.failed → new ≡ with_failed old new.failed
+  nothing new steps none is = is ∙ ap (λ (ws : List Write). with_failed (after_writes landed old ws) new.failed) none
 
   module _ (steps : List Step) (call : Call) (fits : Fit landed old steps) (at : AtWrite command steps call) where
     wrote : writes_of steps ≡ at.before
@@ -289,54 +289,61 @@ module _ (landed : Landed) (command : Command) (last : WritesLast command) (old 
       front = at.before ++ at.write ∷ [];
       behind = at.behind;
       parts = sym (append_assoc at.before (at.write ∷ []) at.behind);
-      stand = inl (stand ∙ after-writes landed old (steps ++ has_written at.write ∷ [])
-          ∙ ap (after_writes landed old) (writes-append steps (has_written at.write ∷ []) ∙ ap (λ (ws : List Write). ws ++ at.write ∷ []) wrote));
+      stand = inl (stands_so landed old new (steps ++ has_written at.write ∷ []) stand
+          ∙ ap (λ (ws : List Write). with_failed (after_writes landed old ws) new.failed) (writes-append steps (has_written at.write ∷ []) ∙ ap (λ (ws : List Write). ws ++ at.write ∷ []) wrote));
     })
 
     -- the write was made in part
     begun_broken : (stands new : Outside) → stands ≡ after landed old steps → Broken landed stands (to_write at.write) new → WritesBegun landed command old new
     begun_broken stands new stand broken =
-        let there = stand ∙ after-writes landed old steps ∙ ap (after_writes landed old) wrote in
         begun new (record {
           front = at.before;
           behind = at.write ∷ at.behind;
           parts = refl;
-          stand = inr (at.write, at.behind, refl, subst (λ (w : Outside). Broken landed w (to_write at.write) new) there broken);
+          stand = inr (
+            at.write,
+            at.behind,
+            refl,
+            subst (λ (ws : List Write). Broken landed (with_failed (after_writes landed old ws) new.failed) (to_write at.write) new) wrote
+                (broken_so landed old stands new steps at.write stand broken),
+          );
         })
 
-  began_left : (new : Outside) → Began landed command old new → (new ≡ old) ⊎ WritesBegun landed command old new
+  began_left : (new : Outside) → Began landed command old new → (new ≡ with_failed old new.failed) ⊎ WritesBegun landed command old new
   began_left new began = by began.begun
     where
       on : (front : List Step) (step : Step) → began.steps ≡ front ++ step ∷ []
-          → ((writes_of front ≡ []) × IsReadCall (call_of step)) ⊎ AtWrite command front (call_of step) → (new ≡ old) ⊎ WritesBegun landed command old new
+          → ((writes_of front ≡ []) × IsReadCall (call_of step)) ⊎ AtWrite command front (call_of step) → (new ≡ with_failed old new.failed) ⊎ WritesBegun landed command old new
       on front step parts (inl (none, read)) =
-          inl (began.stand ∙ nothing began.steps (ap writes_of parts ∙ writes-append front (step ∷ []) ∙ ap (λ (ws : List Write). ws ++ writes_of (step ∷ [])) none ∙ reads_none step read))
+          let nothing_yet = ap writes_of parts ∙ writes-append front (step ∷ []) ∙ ap (λ (ws : List Write). ws ++ writes_of (step ∷ [])) none ∙ reads_none step read in
+          inl (nothing new began.steps nothing_yet (stands_so landed old new began.steps began.stand))
       on front step parts (inr at) =
           let fits = fit_front landed old front (step ∷ []) (subst (Fit landed old) parts began.fit) in
           inr (begun_on front (call_of step) fits at new
           (began.stand ∙ ap (after landed old) parts ∙ ap (λ (s : Step). after landed old (front ++ s ∷ [])) (written step at.write at.is)))
 
-      by : (began.steps ≡ []) ⊎ ((front : List Step) × (step : Step) × (began.steps ≡ front ++ step ∷ []) × command front (wants (call_of step))) → (new ≡ old) ⊎ WritesBegun landed command old new
-      by (inl none) = inl (began.stand ∙ ap (after landed old) none)
+      by : (began.steps ≡ []) ⊎ ((front : List Step) × (step : Step) × (began.steps ≡ front ++ step ∷ []) × command front (wants (call_of step)))
+          → (new ≡ with_failed old new.failed) ⊎ WritesBegun landed command old new
+      by (inl none) = inl (nothing new began.steps (ap writes_of none) (stands_so landed old new began.steps began.stand))
       by (inr (front, step, parts, wanted)) = on front step parts (last front (call_of step) wanted)
 
-  broke_left : (new : Outside) (f f' : Counts) (end : End) → BrokeOff landed command old new f f' end → (new ≡ old) ⊎ WritesBegun landed command old new
+  broke_left : (new : Outside) (f f' : Counts) (end : End) → BrokeOff landed command old new f f' end → (new ≡ with_failed old new.failed) ⊎ WritesBegun landed command old new
   broke_left new f f' end b = by (last b.came.steps b.call b.came.comes)
     where
-      same : (call : Call) → IsReadCall call → Broken landed b.stands call new → new ≡ b.stands
-      same (to_read path) read broken = broken
-      same (to_list dir) read broken = broken
+      same : (call : Call) → IsReadCall call → Broken landed b.stands call new → new ≡ with_failed (after_writes landed old (writes_of b.came.steps)) new.failed
+      same (to_read path) read broken = unread_so landed old b.stands new b.came.steps path b.came.stand broken
+      same (to_list dir) read broken = unread_so landed old b.stands new b.came.steps dir b.came.stand broken
       same (to_write write) read broken = absurd read
 
-      by : ((writes_of b.came.steps ≡ []) × IsReadCall b.call) ⊎ AtWrite command b.came.steps b.call → (new ≡ old) ⊎ WritesBegun landed command old new
-      by (inl (none, read)) = inl (same b.call read b.broken ∙ b.came.stand ∙ nothing b.came.steps none)
+      by : ((writes_of b.came.steps ≡ []) × IsReadCall b.call) ⊎ AtWrite command b.came.steps b.call → (new ≡ with_failed old new.failed) ⊎ WritesBegun landed command old new
+      by (inl (none, read)) = inl (nothing new b.came.steps none (same b.call read b.broken))
       by (inr at) =
           inr (begun_broken b.came.steps b.call b.came.fit at b.stands new b.came.stand
           (subst (λ (c : Call). Broken landed b.stands c new) at.is b.broken))
 
-  pub memory_left : HasOwnEnds command → (new : Outside) (f f' : Counts) → Ends landed command old new f f' status.Memory → (new ≡ old) ⊎ WritesBegun landed command old new
+  pub memory_left : HasOwnEnds command → (new : Outside) (f f' : Counts) → Ends landed command old new f f' status.Memory → (new ≡ with_failed old new.failed) ⊎ WritesBegun landed command old new
   memory_left own new f f' ends = by (cause landed command old new f f' status.Memory own ends).far
     where
-      by : ((f' ≡ f) × Began landed command old new) ⊎ ((end : End) × BrokeOff landed command old new f f' end) → (new ≡ old) ⊎ WritesBegun landed command old new
+      by : ((f' ≡ f) × Began landed command old new) ⊎ ((end : End) × BrokeOff landed command old new f f' end) → (new ≡ with_failed old new.failed) ⊎ WritesBegun landed command old new
       by (inl (same, began)) = began_left new began
       by (inr (end, broke)) = broke_left new f f' end broke

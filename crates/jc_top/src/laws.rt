@@ -6,7 +6,7 @@ ghost use Rattle.jc_command_work.specs.Step.{Word, Outside, Counts, Landed, Step
 ghost use Rattle.jc_command_work.specs.Part.{End, done, status_of, stops};
 ghost use Rattle.jc_command_work.specs.Ending.{NoneRose, Ends};
 ghost use Rattle.jc_command_work.specs.OneWay.{IsTold, Work, IsWork, writes_of};
-ghost use Rattle.jc_command_work.specs.Prefix.{LeavesFront};
+ghost use Rattle.jc_command_work.specs.Prefix.{LeavesFront, with_failed};
 ghost use Rattle.jc_command_work.specs.Causes.{Cause, WorkFailed};
 ghost use Rattle.jc_command_words.specs.Commands.{NoForm};
 ghost use Rattle.jc_headline.specs.Runs.{ToldRun, MakesItsWork};
@@ -56,11 +56,13 @@ pub fn each_run_ends_as_its_work()
     each_text_is_a_plan_or_has_a_first_unfit_line();
 }
 
-/// But for its last message a run leaves what first writes of its work leave, the last of them perhaps in part: also where a
-/// count rose or memory was refused.
+/// Whatever stops a run, it has made first writes of the one work of its words, the last of them perhaps in part: what stands was
+/// made by them alone, and on `err` the message of the run comes behind them, as far as it was taken. It is the message of the end
+/// of the work where all its writes were made, or names what the call behind them couldn't read or write. A run that is done, or
+/// ends for want of memory, has none.
 pub fn each_run_leaves_a_front_of_its_work()
     ensures { (landed : Landed) (words : List Word) (run : ToldRun landed (the_work words))
-        → LeavesFront landed run.old (writes_of run.work.steps) run.new }
+        → LeavesFront landed run.old run.work run.ended run.new }
 {
     a_run_has_an_answer();
     each_text_is_a_plan_or_has_a_first_unfit_line();
@@ -81,9 +83,9 @@ pub fn a_command_but_cover_that_refuses_has_written_nothing()
         → (end ≡ done) ⊎ (writes_of steps ≡ []) }
 {}
 
-/// Where a command other than `cover` ends for want of memory, files and texts are as they were, or all inputs were read and what to
-/// write was decided: what stands then was made by first ones of these writes, the last of them perhaps in part.
+/// Where a command other than `cover` ends for want of memory, files and texts are as they were, whichever read of them failed last,
+/// or all inputs were read and what to write was decided: what stands then was made by first ones of these writes, the last of them perhaps in part.
 pub fn want_of_memory_leaves_what_was_or_first_writes()
     ensures { (landed : Landed) (words : List Word) (old new : Outside) (f g : Counts) → DecideFirst words
-        → Ends landed (the_work words) old new f g status.Memory → (new ≡ old) ⊎ WritesBegun landed (the_work words) old new }
+        → Ends landed (the_work words) old new f g status.Memory → (new ≡ with_failed old new.failed) ⊎ WritesBegun landed (the_work words) old new }
 {}

@@ -57,8 +57,9 @@ fn read_command<'a>(alloc: Global, words: &'a [String]) -> Result<Command<'a>, F
 /// All of this is the work of the words, which the contract names: the calls that they ask for, one after the other, and the
 /// end. A run makes all of them, and says the message of the end; or first ones of them up to one that fails, whose count rose,
 /// and says that the file at its path couldn't be read or written, or, of `out` and `err`, that output couldn't be; or first
-/// ones of them until memory is refused, and then says nothing [`work`]. What each status says, and what stands then, is in the
-/// laws of this crate.
+/// ones of them until memory is refused, and then says nothing [`work`]. Where a file couldn't be read or a folder listed, the
+/// files tell that its path is the one which failed last. What each status says, and what stands then, is in the laws of this
+/// crate.
 ///
 /// Of `cover` the headline holds, where it is done and contents are told and read back as they were written [`headline`]: each
 /// case of the instrumented files prints and leaves what the originals give under its schedule without the turns of probes, the
@@ -77,8 +78,8 @@ pub fn run_tool<R: Threads + Sync, F: Files, O: Sink, E: Sink, G: Gate + Sync>(
     ensures work { Between F.Files O.Sink E.Sink (files.old, out.old, err.old) (files.new, out.new, err.new)
         (Ends F.landed (the_work (words_of words.now))) result }
     ensures headline { KeepsHeadline F.landed (words_of words.now)
-        (outside (F.contents files.old) (O.told out.old) (E.told err.old))
-        (outside (F.contents files.new) (O.told out.new) (E.told err.new)) result }
+        (outside (F.contents files.old) (F.failed_path files.old) (O.told out.old) (E.told err.old))
+        (outside (F.contents files.new) (F.failed_path files.new) (O.told out.new) (E.told err.new)) result }
 {
     match read_command(alloc, words) {
         Ok(command) => {

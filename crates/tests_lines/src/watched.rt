@@ -54,6 +54,8 @@ impl<W: Writes> Files for WatchedFiles<W> {
 
     ghost write_faults = { λ f. f.inner.write_faults };
 
+    ghost failed_path = { λ f. Some f.inner.failed_path };
+
     fn read(&mut self, alloc: Global, path: &str, into: &mut Vec<u8>) -> Result<(), FileFault> {
         self.inner.read(alloc, path, into)
     }

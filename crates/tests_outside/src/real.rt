@@ -1,10 +1,14 @@
 //! Files and texts of the machine, in the folder that the tests run in.
 ghost use Rattle.std.specs.Prelude.{◌≡◌, ◌<◌, ◌%◌};
 
-use jc_base::{FileFault, Files, HostFiles, HostSink, MOST_READ, Sink, SinkFault};
+use crate::fakes::words;
+use jc_base::{FileFault, Files, HostFiles, HostSink, MOST_READ, MemorySink, Sink, SinkFault};
+use jc_top::{OpenGate, Status, run_tool};
 use std::alloc::Global;
+use std::marker::Sync;
 use std::os::unix::fs::symlink;
 use std::test::Fail;
+use std::thread::Threads;
 use std::{fs, io};
 
 /// The folder of the files that are written and read.
@@ -113,6 +117,42 @@ fn files_are_written_and_read(rt: HostRuntime) -> Result<(), Fail> {
     assert_eq!(rt; answers, [failed, Ok(()), Ok(()), Ok(()), failed, failed]);
     assert_eq!(rt; into.as_slice(), b"de".as_slice());
     fs::remove_dir_all(&rt, FILES)?;
+    Ok(())
+}
+
+/// The folder of the files of which one is missing.
+const NAMED: &str = "jc_rows_named";
+
+/// Whether a run over these files ends with this message, as one that couldn't read.
+fn cant_read<R: Threads + Sync, F: Files>(
+    rt: &R,
+    alloc: Global,
+    files: &mut F,
+    line: &str,
+    message: &[u8],
+) -> Result<bool, Fail> {
+    let mut out = MemorySink::new(alloc, &[])?;
+    let mut err = MemorySink::new(alloc, &[])?;
+    let words = words(alloc, line)?;
+    let status = run_tool(rt, alloc, &words, files, &mut out, &mut err, &OpenGate);
+    Ok(matches!(status, Status::ReadFault) && err.bytes() == message)
+}
+
+#[test]
+fn a_message_names_the_path_whose_read_failed(rt: HostRuntime) -> Result<(), Fail> {
+    let alloc = rt.alloc();
+    let mut files = HostFiles::new(&rt);
+    let _ = fs::remove_dir_all(&rt, NAMED);
+    let written = files.write("jc_rows_named/a", b"\x01\xc0\xc0\x10\x07");
+    assert!(rt; written.is_ok());
+    // The second of two files, and a folder behind one that is listed.
+    let second = "merge --destfile jc_rows_named/o jc_rows_named/a jc_rows_named/b";
+    let message = b"cannot read jc_rows_named/b\n";
+    assert!(rt; cant_read(&rt, alloc, &mut files, second, message)?);
+    let folder = "classinfo jc_rows_named/ jc_rows_named/none/";
+    let message = b"cannot read jc_rows_named/none\n";
+    assert!(rt; cant_read(&rt, alloc, &mut files, folder, message)?);
+    fs::remove_dir_all(&rt, NAMED)?;
     Ok(())
 }
 

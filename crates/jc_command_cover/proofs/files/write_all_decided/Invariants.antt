@@ -16,7 +16,7 @@ invariant-writing g l =
     SameReferences l.fn.outside l.outside
     × ((dest : Word) (looked : List LookedFile) → AreOf dest looked l.targeted.targets l.targeted.inputs.paths l.targeted.inputs.texts (map decision_seen l.fn.all.items)
     → WroteFirst F.landed dest looked (length l.yielded)
-    (outside (F.contents l.fn.outside.files.now) (O.told l.fn.outside.out.now) (E.told l.fn.outside.err.now))
-    (outside (F.contents l.outside.files.now) (O.told l.outside.out.now) (E.told l.outside.err.now))
+    (outside (F.contents l.fn.outside.files.now) (F.failed_path l.fn.outside.files.now) (O.told l.fn.outside.out.now) (E.told l.fn.outside.err.now))
+    (outside (F.contents l.outside.files.now) (F.failed_path l.outside.files.now) (O.told l.outside.out.now) (E.told l.outside.err.now))
     (counts (F.read_faults l.fn.outside.files.now) (F.write_faults l.fn.outside.files.now) (O.faults l.fn.outside.out.now) (E.faults l.fn.outside.err.now))
     (counts (F.read_faults l.outside.files.now) (F.write_faults l.outside.files.now) (O.faults l.outside.out.now) (E.faults l.outside.err.now)) l.places.items)

@@ -31,7 +31,7 @@ returns-in-Accepted g c =
       two_written F.landed _ _ stop_seen _ _ _ _ _ _ _ _ (ap (to_file c.args.target.now) c.deref.ensures) (ap to_out line_is) c.put_out.result
           (c.in_ok-write_file-in-Accepted.ensures.does (O.told c.args.outside.now.out.now) (E.told c.args.outside.now.err.now)
           (O.faults c.args.outside.now.out.now) (E.faults c.args.outside.now.err.now))
-          (c.put_out.ensures.does F.landed (F.contents c.write_file.new.files) (E.told c.args.outside.now.err.now)
+          (c.put_out.ensures.does F.landed (F.contents c.write_file.new.files) (F.failed_path c.write_file.new.files) (E.told c.args.outside.now.err.now)
           (F.read_faults c.write_file.new.files) (F.write_faults c.write_file.new.files) (E.faults c.args.outside.now.err.now)),
     )
 
@@ -59,6 +59,6 @@ returns g c =
       two_written F.landed _ _ stop_seen _ _ _ _ _ _ _ _ refl (ap to_err line_is) c.put_err.result
           (c.in_ok-write_file-in-Refused.ensures.does (O.told c.args.outside.now.out.now) (E.told c.args.outside.now.err.now)
           (O.faults c.args.outside.now.out.now) (E.faults c.args.outside.now.err.now))
-          (c.put_err.ensures.does F.landed (F.contents c.write_file-in-Refused.new.files) (O.told c.args.outside.now.out.now) (F.read_faults c.write_file-in-Refused.new.files)
-          (F.write_faults c.write_file-in-Refused.new.files) (O.faults c.args.outside.now.out.now)),
+          (c.put_err.ensures.does F.landed (F.contents c.write_file-in-Refused.new.files) (F.failed_path c.write_file-in-Refused.new.files)
+          (O.told c.args.outside.now.out.now) (F.read_faults c.write_file-in-Refused.new.files) (F.write_faults c.write_file-in-Refused.new.files) (O.faults c.args.outside.now.out.now)),
     )

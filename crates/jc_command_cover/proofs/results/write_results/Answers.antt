@@ -69,6 +69,6 @@ returns g c named =
           (c.deref-3.ensures.value ∙ run.text_is)
           (c.in_ok-write_file-2.ensures.does (O.told c.args.outside.now.out.now) (E.told c.args.outside.now.err.now)
           (O.faults c.args.outside.now.out.now) (E.faults c.args.outside.now.err.now))
-          (c.put_out.ensures.does F.landed (F.contents c.write_file-2.new.files) (E.told c.args.outside.now.err.now)
+          (c.put_out.ensures.does F.landed (F.contents c.write_file-2.new.files) (F.failed_path c.write_file-2.new.files) (E.told c.args.outside.now.err.now)
           (F.read_faults c.write_file-2.new.files) (F.write_faults c.write_file-2.new.files) (E.faults c.args.outside.now.err.now)),
     )

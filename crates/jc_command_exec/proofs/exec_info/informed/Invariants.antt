@@ -11,5 +11,5 @@ invariant-informing g l =
     let F = g.F.Files in
     (texts : List (List ℕ)) × (length texts ≡ l.index) × PrintsAll (texts_of l.fn.paths) texts l.printed.refused l.printed.lines.items
     × ((out err : Option (List ℕ)) (outs errs : ℕ) → Reads F.landed (λ (t : Bor (List ℕ)). t.now) l.fn.paths l.index
-    (outside (F.contents l.fn.files) out err) (outside (F.contents l.files) out err)
+    (outside (F.contents l.fn.files) (F.failed_path l.fn.files) out err) (outside (F.contents l.files) (F.failed_path l.files) out err)
     (counts (F.read_faults l.fn.files) (F.write_faults l.fn.files) outs errs) (counts (F.read_faults l.files) (F.write_faults l.files) outs errs) texts)

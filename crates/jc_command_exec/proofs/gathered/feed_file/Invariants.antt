@@ -10,6 +10,7 @@ invariant-reading g l =
     record {
       parts : PartsRead (F.contents l.fn.files) l.fn.path l.fn.first l.from l.ended l.feeding;
       contents : F.contents l.files ≡ F.contents l.fn.files;
+      failed : F.failed_path l.files ≡ F.failed_path l.fn.files;
       reads : F.read_faults l.files ≡ F.read_faults l.fn.files;
       writes : F.write_faults l.files ≡ F.write_faults l.fn.files;
     }

@@ -8,7 +8,7 @@ use Rattle.jc_command_sample.proofs.OutLaws.{stopped, written}
 use Rattle.jc_command_sample.proofs.work.sample.Goals as goal
 
 pub returns-in_err-line : goal.returns-in_err-line
-returns-in_err-line g c landed contents err reads writes errs =
+returns-in_err-line g c landed contents failed err reads writes errs =
     let p = err_from_is_err_and c.from_residual.result c.from_residual.ensures.1 in
     rw (p.1, p.2) (stopped c.args.methods landed _ _ (stop_seen c.in_err-line.field-0.0) c.in_err-line.ensures)
 

@@ -12,7 +12,7 @@ invariant-writing g l =
     let E = g.E.Sink in
     SameReferences l.fn.outside l.outside
     × Writes F.landed write_seen l.writes l.write-index
-    (outside (F.contents l.fn.outside.files.now) (O.told l.fn.outside.out.now) (E.told l.fn.outside.err.now))
-    (outside (F.contents l.outside.files.now) (O.told l.outside.out.now) (E.told l.outside.err.now))
+    (outside (F.contents l.fn.outside.files.now) (F.failed_path l.fn.outside.files.now) (O.told l.fn.outside.out.now) (E.told l.fn.outside.err.now))
+    (outside (F.contents l.outside.files.now) (F.failed_path l.outside.files.now) (O.told l.outside.out.now) (E.told l.outside.err.now))
     (counts (F.read_faults l.fn.outside.files.now) (F.write_faults l.fn.outside.files.now) (O.faults l.fn.outside.out.now) (E.faults l.fn.outside.err.now))
     (counts (F.read_faults l.outside.files.now) (F.write_faults l.outside.files.now) (O.faults l.outside.out.now) (E.faults l.outside.err.now))

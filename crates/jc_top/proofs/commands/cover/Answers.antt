@@ -24,7 +24,7 @@ returns-in-Err g c =
       (refl, refl, refl),
       ends_before F.landed (reading k.plan) listing _ _ _ _ _ _ (stop_seen c.in-Err.stop) c.report.result
           (c.in-Err.ensures.does (O.told c.args.outside.now.out.now) (E.told c.args.outside.now.err.now) (O.faults c.args.outside.now.out.now) (E.faults c.args.outside.now.err.now))
-          (c.report.ensures (F.contents c.read_one.new.files) (O.told c.args.outside.now.out.now) (F.read_faults c.read_one.new.files)
+          (c.report.ensures (F.contents c.read_one.new.files) (F.failed_path c.read_one.new.files) (O.told c.args.outside.now.out.now) (F.read_faults c.read_one.new.files)
           (F.write_faults c.read_one.new.files) (O.faults c.args.outside.now.out.now)),
     )
 
@@ -43,7 +43,7 @@ returns-in-Err-list_files g c =
           (c.in-Ok.ensures.does (O.told c.args.outside.now.out.now) (E.told c.args.outside.now.err.now) (O.faults c.args.outside.now.out.now) (E.faults c.args.outside.now.err.now))
           (ends_before F.landed (files_of k.files) (λ paths. covering k c.in-Ok.text paths) _ _ _ _ _ _ (stop_seen c.in-Err-list_files.stop) c.report-in-Err-list_files.result
           (c.in-Err-list_files.ensures.does (O.told c.args.outside.now.out.now) (E.told c.args.outside.now.err.now) (O.faults c.args.outside.now.out.now) (E.faults c.args.outside.now.err.now))
-          (c.report-in-Err-list_files.ensures (F.contents c.list_files.new.files) (O.told c.args.outside.now.out.now)
+          (c.report-in-Err-list_files.ensures (F.contents c.list_files.new.files) (F.failed_path c.list_files.new.files) (O.told c.args.outside.now.out.now)
           (F.read_faults c.list_files.new.files) (F.write_faults c.list_files.new.files) (O.faults c.args.outside.now.out.now)))),
     )
 
@@ -109,6 +109,6 @@ returns g c =
           (c.in-Ok-list_files.ensures.does (O.told c.args.outside.now.out.now) (E.told c.args.outside.now.err.now) (O.faults c.args.outside.now.out.now) (E.faults c.args.outside.now.err.now))
           (ends_on F.landed (λ ps. covering k text ps) listed paths (ap words_of c.deref-3.ensures.value) _ _ _ _ c.report-in-Err-cover.result
           (ran_stopped F.landed (covering k text listed) _ _ _ _ _ _ (stop_seen c.in-Err-cover.stop) c.report-in-Err-cover.result (c.in-Err-cover.ensures words).1
-          (c.report-in-Err-cover.ensures (F.contents c.cover.new.outside.files.now) (O.told c.cover.new.outside.out.now)
+          (c.report-in-Err-cover.ensures (F.contents c.cover.new.outside.files.now) (F.failed_path c.cover.new.outside.files.now) (O.told c.cover.new.outside.out.now)
           (F.read_faults c.cover.new.outside.files.now) (F.write_faults c.cover.new.outside.files.now) (O.faults c.cover.new.outside.out.now)))))),
     )

@@ -37,6 +37,6 @@ returns-in-Err g c =
           (λ text. reporting c.args.words.now.csv.now c.args.words.now.name.now (Some path) (text ∷ [])
           (map file_view c.args.words.now.files.items)) _ _ _ _ _ _ (stop_seen c.in-Err.stop) c.report.result
           (c.in-Err.ensures.1 (O.told c.args.outside.now.out.now) (E.told c.args.outside.now.err.now) (O.faults c.args.outside.now.out.now) (E.faults c.args.outside.now.err.now))
-          (c.report.ensures (F.contents c.read_alone.new.files) (O.told c.args.outside.now.out.now) (F.read_faults c.read_alone.new.files)
+          (c.report.ensures (F.contents c.read_alone.new.files) (F.failed_path c.read_alone.new.files) (O.told c.args.outside.now.out.now) (F.read_faults c.read_alone.new.files)
           (F.write_faults c.read_alone.new.files) (O.faults c.args.outside.now.out.now)),
     )

@@ -20,7 +20,7 @@ returns-in-Err g c known is =
           (λ paths read. ReportAnswers c.args.words.now.csv.now c.args.words.now.name.now (exec_path c.args.exec) paths
           (known ++ read)) _ _ _ _ _ _ (stop_seen c.in-Err.stop) c.report.result
           (c.in-Err.ensures.does (O.told c.args.outside.now.out.now) (E.told c.args.outside.now.err.now) (O.faults c.args.outside.now.out.now) (E.faults c.args.outside.now.err.now))
-          (c.report.ensures (F.contents c.list_files.new.files) (O.told c.args.outside.now.out.now) (F.read_faults c.list_files.new.files)
+          (c.report.ensures (F.contents c.list_files.new.files) (F.failed_path c.list_files.new.files) (O.told c.args.outside.now.out.now) (F.read_faults c.list_files.new.files)
           (F.write_faults c.list_files.new.files) (O.faults c.args.outside.now.out.now))),
     )
 

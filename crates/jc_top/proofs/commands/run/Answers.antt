@@ -17,7 +17,7 @@ returns-in-Err g c =
       (refl, refl, refl),
       ends_before F.landed (reading plan) rest _ _ _ _ _ _ (stop_seen c.in-Err.stop) c.report.result
           (c.in-Err.ensures.does (O.told c.args.outside.now.out.now) (E.told c.args.outside.now.err.now) (O.faults c.args.outside.now.out.now) (E.faults c.args.outside.now.err.now))
-          (c.report.ensures (F.contents c.read_one.new.files) (O.told c.args.outside.now.out.now) (F.read_faults c.read_one.new.files)
+          (c.report.ensures (F.contents c.read_one.new.files) (F.failed_path c.read_one.new.files) (O.told c.args.outside.now.out.now) (F.read_faults c.read_one.new.files)
           (F.write_faults c.read_one.new.files) (O.faults c.args.outside.now.out.now)),
     )
 
@@ -39,7 +39,7 @@ returns-in-Err-list_files g c =
           (λ paths read. RunAnswers plan c.args.words.now.destfile.now paths (c.in-Ok.text ∷ read)) _ _ _ _ _ _ (stop_seen
           c.in-Err-list_files.stop) c.report-in-Err-list_files.result
           (c.in-Err-list_files.ensures.does (O.told c.args.outside.now.out.now) (E.told c.args.outside.now.err.now) (O.faults c.args.outside.now.out.now) (E.faults c.args.outside.now.err.now))
-          (c.report-in-Err-list_files.ensures (F.contents c.list_files.new.files) (O.told c.args.outside.now.out.now)
+          (c.report-in-Err-list_files.ensures (F.contents c.list_files.new.files) (F.failed_path c.list_files.new.files) (O.told c.args.outside.now.out.now)
           (F.read_faults c.list_files.new.files) (F.write_faults c.list_files.new.files) (O.faults c.args.outside.now.out.now)))),
     )
 

@@ -14,6 +14,6 @@ returns g c =
       c.in-Err-write_all.ensures.does.0,
       wrote_some F.landed c.deref.result.now c.in-Ok.writes.items c.deref.ensures.value _ _ _ _ _ _ (stop_seen c.in-Err-write_all.stop)
           c.report-in-Err-write_all.result c.in-Err-write_all.ensures.does.1
-          (c.report-in-Err-write_all.ensures (F.contents c.write_all.new.outside.files.now) (O.told c.write_all.new.outside.out.now)
+          (c.report-in-Err-write_all.ensures (F.contents c.write_all.new.outside.files.now) (F.failed_path c.write_all.new.outside.files.now) (O.told c.write_all.new.outside.out.now)
           (F.read_faults c.write_all.new.outside.files.now) (F.write_faults c.write_all.new.outside.files.now) (O.faults c.write_all.new.outside.out.now)),
     )

@@ -27,5 +27,6 @@ returns-in-Err-Said g c =
     let words = words_of c.args.words.now in
     let none = rw c.in-Err-Said.field-0-is at c.in-Err-Said.ensures.read in
     let ends = usage_ends F.landed words _ _ _ _ c.report_usage.result none
-    (c.report_usage.ensures.does (F.contents c.args.files.now) (O.told c.args.out.now) (F.read_faults c.args.files.now) (F.write_faults c.args.files.now) (O.faults c.args.out.now)) in
+    (c.report_usage.ensures.does (F.contents c.args.files.now) (F.failed_path c.args.files.now) (O.told c.args.out.now) (F.read_faults c.args.files.now)
+    (F.write_faults c.args.files.now) (O.faults c.args.out.now)) in
     record { work = ends; headline = keeps_headline F.landed words _ _ _ _ c.report_usage.result ends }
