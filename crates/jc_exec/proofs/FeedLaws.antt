@@ -146,33 +146,33 @@ none_in_nothing = record { none = λ b front more parts block. no_block b [] fro
 regrouped : (a b c d : List ℕ) → ((a ++ b) ++ c) ++ d ≡ a ++ ((b ++ c) ++ d)
 regrouped a b c d = simp append_assoc
 
-module _ (start : Added) (offset : ℕ) (rest piece : List ℕ) (keyed : Keyed start.records.entries) (before : Store) (bytes : List ℕ)
-    (w : Waits before bytes (store_of start.sessions.items start.records.entries) rest) (size : offset + length rest ≡ length bytes) where
+module _ (start : Added) (offset : ℕ) (rest piece : List ℕ) (keyed : Keyed start.records) (before : Store) (bytes : List ℕ)
+    (w : Waits before bytes (store_of start.sessions.items start.records) rest) (size : offset + length rest ≡ length bytes) where
   taken_size : length w.taken ≡ offset
   taken_size = omega (arith, size, ap length w.parts, length-append w.taken rest)
 
   start_union : IsUnion (blocks_of before ++ w.read) (with_added [] [] start)
-  start_union = subst (IsUnion (blocks_of before ++ w.read)) (sym (nothing_known start.sessions.items start.records.entries keyed)) w.union
+  start_union = subst (IsUnion (blocks_of before ++ w.read)) (sym (nothing_known start.sessions.items start.records keyed)) w.union
 
   more_parts : (more : List ℕ) → (bytes ++ piece) ++ more ≡ w.taken ++ ((rest ++ piece) ++ more)
   more_parts more = ap (λ (l : List ℕ). (l ++ piece) ++ more) w.parts ∙ regrouped w.taken rest piece more
 
   -- the blocks that were read, and what stands behind them
   pub waits_on : (taken left : List ℕ) (new : Added) → rest ++ piece ≡ taken ++ left → Adds [] offset taken start new → NoneInFront left
-      → Waits before (bytes ++ piece) (store_of new.sessions.items new.records.entries) left
+      → Waits before (bytes ++ piece) (store_of new.sessions.items new.records) left
   waits_on taken left new parts a none = record {
     read = w.read ++ a.read;
     taken = w.taken ++ taken;
     parts = ap (λ (l : List ℕ). l ++ piece) w.parts ∙ append_assoc w.taken rest piece ∙ ap (λ (l : List ℕ). w.taken ++ l) parts ∙ sym (append_assoc w.taken taken left);
     blocks = added_blocks [] offset start [] before w.taken w.read w.blocks taken_size start_union taken new a;
-    union = subst (IsUnion (blocks_of before ++ (w.read ++ a.read))) (nothing_known new.sessions.items new.records.entries a.keyed)
+    union = subst (IsUnion (blocks_of before ++ (w.read ++ a.read))) (nothing_known new.sessions.items new.records a.keyed)
         (added_union [] offset start [] before w.taken w.read w.blocks taken_size start_union taken new a);
     unfinished = none;
   }
 
   -- all of the bytes are blocks
   pub waits_for_none : (new : Added) → Adds [] offset (rest ++ piece) start new
-      → Waits before (bytes ++ piece) (store_of new.sessions.items new.records.entries) []
+      → Waits before (bytes ++ piece) (store_of new.sessions.items new.records) []
   waits_for_none new a = waits_on (rest ++ piece) [] new (sym (append-nil (rest ++ piece))) a none_in_nothing
 
   refused_on : (more : List ℕ) (why : ExecRefusal) → FirstRefusal before (w.taken ++ ((rest ++ piece) ++ more)) (why_of why)

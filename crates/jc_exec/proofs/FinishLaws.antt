@@ -85,7 +85,7 @@ refused_not_taken why before bytes more lasts taken = not_both before (bytes ++ 
 
 -- ---- whether bytes are kept
 
-pub none_left : (b : Bool) (n : ℕ) (rest : List ℕ) → n ≡ length rest → b ≡ (n == 0) → b ≡ true → rest ≡ []
+pub none_left : {X : Type 0} (b : Bool) (n : ℕ) (rest : List X) → n ≡ length rest → b ≡ (n == 0) → b ≡ true → rest ≡ []
 none_left b n rest size is empty = nil_from_length rest (sym size ∙ eqb-true n 0 (sym is ∙ empty))
 
 pub some_left : (b : Bool) (n : ℕ) (rest : List ℕ) → n ≡ length rest → b ≡ (n == 0) → b ≡ false → rest ≢ []

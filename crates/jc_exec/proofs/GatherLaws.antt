@@ -52,7 +52,7 @@ pub record Progress (known : Entries) (offset : ℕ) (bytes : List ℕ) (old : A
   pub place : reader.place ≡ length taken
   pub adds : Adds known offset taken old new
 
-pub begins_here : (known : Entries) (offset : ℕ) (bytes : List ℕ) (old : Added) (reader : Reading) → Keyed old.records.entries
+pub begins_here : (known : Entries) (offset : ℕ) (bytes : List ℕ) (old : Added) (reader : Reading) → Keyed old.records
     → reader.left ≡ bytes → reader.place ≡ 0 → Progress known offset bytes old reader old
 begins_here known offset bytes old reader keyed left place = record {
   taken = [];
@@ -116,7 +116,7 @@ module _ (known : Entries) (offset : ℕ) (bytes : List ℕ) (old : Reading) (st
   memory e after is = subst (IsStop known offset bytes start after) (sym is) tt
 
   clashes : (new : Reading) (c : ClassHits) (e : Fail ExecRefusal) (after : Added) → Took (moved offset old) (moved offset new) (class c)
-      → RefusesRecord e (over known at.records.entries) c → IsStop known offset bytes start after e
+      → RefusesRecord e (over known at.records) c → IsStop known offset bytes start after e
   clashes new c fails.Memory after t why = tt
   clashes new c (fails.Said refusal) after t why = inr (record {
     taken = p.taken;
@@ -133,7 +133,7 @@ module _ (known : Entries) (offset : ℕ) (bytes : List ℕ) (old : Reading) (st
 
   -- the block in front was read, and not kept
   pub stops_unkept : (new : Reading) (b : Block) (e : Fail ExecRefusal) (after : Added) → Took (moved offset old) (moved offset new) b
-      → RefusesBlock e known at.records.entries b → IsStop known offset bytes start after e
+      → RefusesBlock e known at.records b → IsStop known offset bytes start after e
   stops_unkept new header e after t why = memory e after why
   stops_unkept new (session s) e after t why = memory e after why
   stops_unkept new (class c) e after t why = clashes new c e after t why
@@ -238,12 +238,12 @@ module _ (known : Entries) (offset : ℕ) (start : Added) (sessions : List Sessi
 -- ---- a whole file
 
 -- nothing was gathered yet
-pub nothing : (sessions : List Session) (known : Entries) (start : Added) → start.sessions.items ≡ [] → start.records.entries ≡ []
+pub nothing : (sessions : List Session) (known : Entries) (start : Added) → start.sessions.items ≡ [] → start.records ≡ []
     → store_of sessions known ≡ with_added sessions known start
 nothing sessions known start none empty = ap (λ (ss : List Session). store_of ss known) (sym (append-nil sessions)) ∙ (λ i. store_with sessions known (sym none i) (sym empty i))
 
-pub adds_gathers : (known : Entries) (bytes : List ℕ) (start new : Added) → start.sessions.items ≡ [] → start.records.entries ≡ []
-    → Adds known 0 bytes start new → Gathers known bytes new.sessions.items new.records.entries
+pub adds_gathers : (known : Entries) (bytes : List ℕ) (start new : Added) → start.sessions.items ≡ [] → start.records ≡ []
+    → Adds known 0 bytes start new → Gathers known bytes new.sessions.items new.records
 adds_gathers known bytes start new none empty a = record {
   read = a.read;
   blocks = record { begins = a.begins refl; whole = a.whole };
@@ -253,7 +253,7 @@ adds_gathers known bytes start new none empty a = record {
 }
 
 pub stops_file : (known : Entries) (bytes : List ℕ) (start new : Added) (e : Fail ExecRefusal) → Keyed known → start.sessions.items ≡ []
-    → start.records.entries ≡ [] → IsStop known 0 bytes start new e → RefusesAll known bytes e
+    → start.records ≡ [] → IsStop known 0 bytes start new e → RefusesAll known bytes e
 stops_file known bytes start new e keyed none empty stop = λ sessions.
     let before = store_of sessions known in
     let same : before ≡ with_added sessions known start = nothing sessions known start none empty in

@@ -69,8 +69,8 @@ pub unfit_stop : (start : Added) (offset : ℕ) (whole : List ℕ) (new : Added)
 unfit_stop start offset whole new why place bad stop =
     bad_is_unfit [] offset whole start new place (subst (λ (r : ExecRefusal). IsStop [] offset whole start new (fails.Said r)) bad stop)
 
-module _ (start : Added) (offset : ℕ) (rest piece : List ℕ) (keyed : Keyed start.records.entries) (before : Store) (bytes : List ℕ)
-    (w : Waits before bytes (store_of start.sessions.items start.records.entries) rest) (size : offset + length rest ≡ length bytes) (new : Added) where
+module _ (start : Added) (offset : ℕ) (rest piece : List ℕ) (keyed : Keyed start.records) (before : Store) (bytes : List ℕ)
+    (w : Waits before bytes (store_of start.sessions.items start.records) rest) (size : offset + length rest ≡ length bytes) (new : Added) where
   -- a refusal that isn't of bytes that are no block lasts
   pub other_refusal_lasts : (why : ExecRefusal) → ((p : ℕ) → why ≡ BadExec p → ⊥) → IsStop [] offset (rest ++ piece) start new (fails.Said why)
       → (more : List ℕ) → FirstRefusal before ((bytes ++ piece) ++ more) (why_of why)
@@ -96,10 +96,10 @@ module _ (start : Added) (offset : ℕ) (rest piece : List ℕ) (keyed : Keyed s
 
     -- bytes that may be the front of a block are kept
     pub front_waits : (IsUnfit (reading_at place tried) (bad_exec place) → NoneInFront tried)
-        → Waits before (bytes ++ piece) (store_of new.sessions.items new.records.entries) (drop (place - offset) got)
+        → Waits before (bytes ++ piece) (store_of new.sessions.items new.records) (drop (place - offset) got)
     front_waits waits =
         let s = unfit_stop start offset (rest ++ piece) new why place bad stop in
         let left = left_is offset place got (rest ++ piece) s.taken s.left is s.parts s.unfit.0 in
-        subst (Waits before (bytes ++ piece) (store_of new.sessions.items new.records.entries)) (sym left)
+        subst (Waits before (bytes ++ piece) (store_of new.sessions.items new.records)) (sym left)
         (waits_on start offset rest piece keyed before bytes w size s.taken s.left new s.parts s.adds
         (left_waits offset place got (rest ++ piece) s.taken s.left is s.parts s.unfit.0 waits s.unfit))

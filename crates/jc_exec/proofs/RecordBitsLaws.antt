@@ -1,29 +1,10 @@
 -- The bits of two records of one id.
-use Rattle.std.proofs.Common.{◌≡◌, ℕ, zero, suc, ◌+◌, ◌<◌, Bool, true, false, ◌||◌, List, [], ◌∷◌, length, take, get_or, refl, sym, ◌∙◌, ap, arith}
-use Rattle.std.proofs.Math.ListN.{set}
+use Rattle.std.proofs.Common.{◌≡◌, Bool, true, false, ◌||◌, List, [], ◌∷◌, length, refl, sym, ◌∙◌, arith}
 use Rattle.std.proofs.lemmas.Bool.{false≢true}
 use Rattle.jc_exec.specs.declared.hits.ClassHits.{ClassHits}
 use Rattle.jc_exec.specs.Store.{IsSmall}
 use Rattle.jc_exec.specs.Union.{Agrees, agree, either_bits, either_hits}
 use Rattle.jc_exec.proofs.MergingLaws.{length_either, agree_agrees, agrees_agree}
-
-pub either_none : (xs : List Bool) → xs ≡ either_bits xs []
-either_none [] = refl
-either_none (x ∷ xs) = refl
-
-more : (xs ys : List Bool) (k : ℕ) → k < length xs → length xs ≡ length ys
-    → set (either_bits xs (take k ys)) k (get_or (either_bits xs (take k ys)) k false || get_or ys k false) ≡ either_bits xs (take (suc k) ys)
-more [] ys k lt long = absurd (omega (arith, lt))
-more (x ∷ xs) [] k lt long = absurd (omega (arith, long))
-more (x ∷ xs) (y ∷ ys) zero lt long = ap (λ (l : List Bool). (x || y) ∷ l) (either_none xs)
-more (x ∷ xs) (y ∷ ys) (suc k) lt long = ap (λ (l : List Bool). (x || y) ∷ l) (more xs ys k (omega (arith, lt)) (omega (arith, long)))
-
--- a bit more
-pub either_more : (xs ys zs : List Bool) (k : ℕ) → zs ≡ either_bits xs (take k ys) → k < length xs → length xs ≡ length ys
-    → set zs k (get_or zs k false || get_or ys k false) ≡ either_bits xs (take (k + 1) ys)
-either_more xs ys zs k is lt long =
-    let one : suc k ≡ k + 1 = omega arith in
-    ap (λ (l : List Bool). set l k (get_or l k false || get_or ys k false)) is ∙ more xs ys k lt long ∙ ap (λ (j : ℕ). either_bits xs (take j ys)) one
 
 or_swap : (a b : Bool) → (a || b) ≡ (b || a)
 or_swap true true = refl

@@ -37,7 +37,7 @@ found k (e ∷ es) c keyed is = by (nat_eq k e.0) refl is (λ later. found k es 
     by false same is rest = let r = rest is in record { there = (suc r.there.0, omega (arith, r.there.1), r.there.2); id = r.id; small = r.small; text = r.text }
 
 -- nothing was found at the first, nor behind it
-none_first : (k : ℕ) (e : ℕ × ClassHits) (es : Entries) → lookup (nat_eq k) (e ∷ es) ≡ None → (nat_eq k e.0 ≡ false) × (lookup (nat_eq k) es ≡ None)
+pub none_first : (k : ℕ) (e : ℕ × ClassHits) (es : Entries) → lookup (nat_eq k) (e ∷ es) ≡ None → (nat_eq k e.0 ≡ false) × (lookup (nat_eq k) es ≡ None)
 none_first k e es none = by (nat_eq k e.0) refl none
   where
     by : (b : Bool) → nat_eq k e.0 ≡ b → cond b (Some e.1) (lookup (nat_eq k) es) ≡ None → (nat_eq k e.0 ≡ false) × (lookup (nat_eq k) es ≡ None)

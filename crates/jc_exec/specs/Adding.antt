@@ -69,10 +69,10 @@ pub record Gathers (known : Entries) (text : List ℕ) (more : List Session) (fr
 -- a block more was put with what was gathered: the union goes on with it
 pub record Keeps (known : Entries) (old new : Added) (b : Block) : Type 0 where
   pub union : (sessions : List Session)
-      → with_block (store_with sessions known old.sessions.items old.records.entries) b
-      ≡ Some (store_with sessions known new.sessions.items new.records.entries)
+      → with_block (store_with sessions known old.sessions.items old.records) b
+      ≡ Some (store_with sessions known new.sessions.items new.records)
   pub writable : AllByRecursion IsWritable old.sessions.items → AllByRecursion IsWritable new.sessions.items
-  pub keyed : Keyed new.records.entries
+  pub keyed : Keyed new.records
 
 -- why a block is not put with what was gathered; want of memory may come at any time
 abbrev pub RefusesBlock : Fail ExecRefusal → Entries → Entries → Block → Type 0
@@ -88,7 +88,7 @@ RefusesAll known text e = (sessions : List Session) → Refuses e (store_of sess
 
 -- a store with what was gathered
 abbrev pub with_added : List Session → Entries → Added → Store
-with_added sessions known added = store_with sessions known added.sessions.items added.records.entries
+with_added sessions known added = store_with sessions known added.sessions.items added.records
 
 -- bytes that begin at the offset of a file are a list of blocks, which may stand there, and these were put with what was gathered
 pub record Adds (known : Entries) (offset : ℕ) (bytes : List ℕ) (old new : Added) : Type 0 where
@@ -97,7 +97,7 @@ pub record Adds (known : Entries) (offset : ℕ) (bytes : List ℕ) (old new : A
   pub begins : offset ≡ 0 → BeginsWithHeader read
   pub union : (sessions : List Session) → union_of (with_added sessions known old) read ≡ Some (with_added sessions known new)
   pub writable : AllByRecursion IsWritable old.sessions.items → AllByRecursion IsWritable new.sessions.items
-  pub keyed : Keyed new.records.entries
+  pub keyed : Keyed new.records
 
 -- the blocks in front were put, and no block that may stand behind them is next
 pub record StopsUnfit (known : Entries) (offset : ℕ) (bytes : List ℕ) (old new : Added) (why : ExecRefusal) : Type 0 where
@@ -119,7 +119,7 @@ pub record StopsClash (known : Entries) (offset : ℕ) (bytes : List ℕ) (old :
   pub hits : ClassHits
   pub block : IsClassBlock front hits
   pub follows : MayStandAt (offset + length taken) (class hits)
-  pub refused : RefusesRecord (fails.Said why) (over known reached.records.entries) hits
+  pub refused : RefusesRecord (fails.Said why) (over known reached.records) hits
 
 -- why not all of the bytes were put; want of memory may come at any time
 abbrev pub IsStop : Entries → ℕ → List ℕ → Added → Added → Fail ExecRefusal → Type 0

@@ -77,17 +77,17 @@ IsSaid (fails.Said why) = ⊤
 -- ---- the values of the fields
 
 abbrev pub kept_of : State → Kept
-kept_of (states.Waiting o) = waiting (store_of o.added.sessions.items o.added.records.entries) o.rest.items
+kept_of (states.Waiting o) = waiting (store_of o.added.sessions.items o.added.records) o.rest.items
 kept_of (states.Refused why) = refused why
 
 -- what is kept fits the format, and no more than the bytes that were fed and less than the longest block
 abbrev pub IsSound : State → ℕ → Type 0
-IsSound (states.Waiting o) fed = AllByRecursion IsWritable o.added.sessions.items × Keyed o.added.records.entries
+IsSound (states.Waiting o) fed = AllByRecursion IsWritable o.added.sessions.items × Keyed o.added.records
     × (length o.rest.items ≤ fed) × (length o.rest.items < most_block)
 IsSound (states.Refused why) fed = ⊤
 
 -- what was kept of some bytes, the last of which begin at the offset, became what is kept of these and the piece
 abbrev pub GoesOn : Waiting → ℕ → List ℕ → State → Type 0
 GoesOn o offset piece later = (before : Store) (bytes : List ℕ)
-    → Waits before bytes (store_of o.added.sessions.items o.added.records.entries) o.rest.items
+    → Waits before bytes (store_of o.added.sessions.items o.added.records) o.rest.items
     → offset + length o.rest.items ≡ length bytes → StandsTo (kept_of later) before (bytes ++ piece)

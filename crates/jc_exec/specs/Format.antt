@@ -1,13 +1,14 @@
 -- The format of execution data, version 1007 of JaCoCo's documentation: a list of blocks, each of
 -- which begins with a byte that says its kind. Numbers are big-endian.
-use Rattle.std.specs.Prelude.{◌≡◌, ℕ, ◌+◌, ◌*◌, ◌/◌, ◌%◌, ◌^◌, ◌<◌, ◌≤◌, ◌==◌, Bool, List, [], ◌∷◌, ◌++◌, length, map, slice_index, ℤ, ⊤}
-use Rattle.std.specs.List.{range_with_len}
+use Rattle.std.specs.Prelude.{◌≡◌, ℕ, ◌+◌, ◌*◌, ◌/◌, ◌<◌, ◌≤◌, Bool, List, [], ◌∷◌, ◌++◌, length, ℤ, ⊤}
 use Rattle.std.specs.Int.{w64, cast_signed}
 use Rattle.byteorder.specs.Endian.{big_number}
 use Rattle.jc_bytes.specs.Decoder.{IsBig}
 use Rattle.jc_bytes.specs.Modified.{IsModified}
 use Rattle.jc_exec.specs.declared.hits.ClassHits.{ClassHits}
 use Rattle.jc_exec.specs.declared.session.Session.{Session}
+pub use Rattle.jc_exec.specs.Packed.{bit}
+unfoldable pub use Rattle.jc_exec.specs.Packed.{unpack}
 
 -- what a block says
 pub data Block : Type 0 where
@@ -48,14 +49,6 @@ abbrev pub IsSessionBlock : List ℕ → Session → Type 0
 IsSessionBlock text s = (p : SessionParts) × (text ≡ session_joined p) × SpellsSession p s
 
 -- ---- a class: its id, its name, how many probes it has, and which of them were hit
-
--- bit k of the bytes, the lowest bit of each byte first
-abbrev pub bit : List ℕ → ℕ → Bool
-bit bytes k = (slice_index bytes (k / 8) / 2 ^ (k % 8)) % 2 == 1
-
--- the first n bits
-unfoldable pub unpack : ℕ → List ℕ → List Bool
-unpack n bytes = map (bit bytes) (range_with_len 0 n)
 
 -- the bytes have the bits, eight a byte. What pads the last byte may be anything
 pub record IsPacked (bytes : List ℕ) (bits : List Bool) : Type 0 where

@@ -1,3 +1,5 @@
+pub mod Packed
+pub mod Places
 pub mod Format
 pub mod Reading
 pub mod Store

@@ -37,6 +37,10 @@ IsNew id (c ∷ cs) = (id ≢ c.id) × IsNew id cs
 abbrev pub classes_of : List (ℕ × ClassHits) → List ClassHits
 classes_of entries = map (λ e. e.1) entries
 
+-- records, each under its id
+abbrev pub entries_of : List ClassHits → List (ℕ × ClassHits)
+entries_of classes = map (λ c. (c.id, c)) classes
+
 abbrev pub Keyed : List (ℕ × ClassHits) → Type 0
 Keyed [] = ⊤
 Keyed (e ∷ es) = (e.0 ≡ e.1.id) × IsSmall e.1 × IsModified e.1.name × IsNew e.1.id (classes_of es) × Keyed es

@@ -1,27 +1,14 @@
 -- The one text that is written for a store.
-use Rattle.std.specs.Prelude.{⊤, ◌≡◌, ◌&&◌, ℕ, zero, suc, ◌+◌, ◌*◌, ◌/◌, ◌%◌, ℤ, int_le, nat_lt, Bool}
-use Rattle.std.specs.Prelude.{true, List, [], ◌∷◌, ◌++◌, length, take, drop, filter, if◌then◌else◌}
+use Rattle.std.specs.Prelude.{⊤, ◌≡◌, ◌&&◌, ℕ, zero, suc, ◌+◌, ◌/◌, ◌%◌, ℤ, int_le, nat_lt, Bool}
+use Rattle.std.specs.Prelude.{true, List, [], ◌∷◌, ◌++◌, length, filter, if◌then◌else◌}
 use Rattle.std.specs.List.{AllByRecursion, flat_map, list_any}
 use Rattle.std.specs.Int.{w64, cast_unsigned}
 use Rattle.byteorder.specs.Endian.{big_bytes}
 use Rattle.jc_exec.specs.declared.hits.ClassHits.{ClassHits}
 use Rattle.jc_exec.specs.declared.session.Session.{Session}
 use Rattle.jc_exec.specs.Format.{header_text}
+pub use Rattle.jc_exec.specs.Packed.{low_first, pack, packed}
 use Rattle.jc_exec.specs.Store.{Store, IsWritable, IsWritableClass}
-
--- the number whose bits these are, the lowest first
-abbrev pub low_first : List Bool → ℕ
-low_first [] = 0
-low_first (b ∷ bs) = (if b then 1 else 0) + 2 * low_first bs
-
--- n bytes, of eight bits each
-abbrev pub pack : ℕ → List Bool → List ℕ
-pack zero bits = []
-pack (suc n) bits = low_first (take 8 bits) ∷ pack n (drop 8 bits)
-
--- as many bytes as the bits fill, the last one padded with 0
-abbrev pub packed : List Bool → List ℕ
-packed bits = pack ((length bits + 7) / 8) bits
 
 -- numbers of eight and of two bytes
 unfoldable pub id_text : ℕ → List ℕ

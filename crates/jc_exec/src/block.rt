@@ -8,9 +8,9 @@ ghost use Rattle.jc_exec.specs.Reading.{text_at, count_in, count_at, bits_at, cl
 ghost use Rattle.jc_bytes.specs.Reader.{most_read};
 ghost use Rattle.jc_exec.specs.Front.{ReadsFront, IsUnread, moved};
 
-use crate::{ClassHits, ExecRefusal, Session};
-use jc_bytes::{Bytes, Fail, List, Reader, Unfit, is_modified};
-use std::alloc::{AllocError, Global};
+use crate::{Bits, ClassHits, ExecRefusal, Session};
+use jc_bytes::{Bytes, Fail, Reader, Unfit, is_modified};
+use std::alloc::Global;
 
 pub const HEADER: [u8; 5] = [0x01, 0xc0, 0xc0, 0x10, 0x07];
 
@@ -80,48 +80,16 @@ fn count(reader: &mut Reader<'_>) -> Result<u32, Fail<Unfit>>
     Ok(count as u32)
 }
 
-/// The bits of a byte, the lowest first.
-#[tactic(auto, unfolding(crate::specs::Format::unpack))]
-fn eight_bits(byte: u8) -> [bool; 8]
-    ensures { result ≡ unpack 8 (byte ∷ []) }
-{
-    [
-        byte % 2 == 1,
-        byte / 2 % 2 == 1,
-        byte / 4 % 2 == 1,
-        byte / 8 % 2 == 1,
-        byte / 16 % 2 == 1,
-        byte / 32 % 2 == 1,
-        byte / 64 % 2 == 1,
-        byte / 128 % 2 == 1,
-    ]
-}
-
-/// The first bits of the bytes, the lowest of each byte first.
-fn first_bits(alloc: Global, bytes: &[u8], count: u32) -> Result<List<bool>, AllocError>
-    requires enough { count ≤ 8 * length bytes.now }
-    requires small { length bytes.now ≤ 8192 }
-    ensures bits { IfOk result (λ bits. bits ≡ unpack count bytes.now) }
-    ensures length { IfOk result (λ bits. length bits ≡ count) }
-{
-    let mut bits = Vec::with_capacity(alloc, 8 * bytes.len())?;
-    'unpacking: for byte in bytes {
-        bits.extend_from_slice(&eight_bits(*byte))?;
-    }
-    bits.truncate(count as usize);
-    Ok(List::from_vec(bits))
-}
-
 /// As many bits as the count says.
 #[tactic(auto, unfolding(crate::specs::Reading::bits_at))]
-fn bits(alloc: Global, reader: &mut Reader<'_>, count: u32) -> Result<List<bool>, Fail<Unfit>>
+fn bits(alloc: Global, reader: &mut Reader<'_>, count: u32) -> Result<Bits, Fail<Unfit>>
     requires { count < 65536 }
     ensures gives { Gives (λ bits. bits) result reader.new.left (bits_at count reader.old.left) }
     ensures length { IfOk result (λ bits. length bits ≡ count) }
     ensures end { SameEnd reader.old reader.new }
 {
     let piece = reader.take(count.div_ceil(8))?;
-    Ok(first_bits(alloc, piece, count)?)
+    Ok(Bits::of_bytes(alloc, piece, count)?)
 }
 
 /// The record of a class.

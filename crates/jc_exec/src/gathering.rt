@@ -6,15 +6,11 @@ ghost use Rattle.jc_exec.specs.Front.{Fits, block_of};
 ghost use Rattle.jc_exec.specs.Store.{Keyed};
 
 use crate::block::{Front, next_block};
-use crate::id_hash::IdHash;
 use crate::merge::gather;
-use crate::{ClassHits, ExecRefusal, Session};
-use indexmap::IndexMap;
+use crate::records::Records;
+use crate::{ExecRefusal, Session};
 use jc_bytes::{Fail, Reader};
 use std::alloc::Global;
-
-/// Records by class id, in the order in which the ids were first seen.
-pub type Records = IndexMap<u64, ClassHits, IdHash>;
 
 /// Sessions, and records of classes.
 #[derive(Drop)]
@@ -30,11 +26,11 @@ fn keep(
     added: &mut Added,
     block: Front,
 ) -> Result<(), Fail<ExecRefusal>>
-    requires known { Keyed known.now.entries }
-    requires keyed { Keyed added.old.records.entries }
+    requires known { Keyed known.now }
+    requires keyed { Keyed added.old.records }
     requires block { Fits block }
-    ensures keeps { OnOk result (Keeps known.now.entries added.old added.new (block_of block)) }
-    ensures refused { IfErr result (λ e. RefusesBlock e known.now.entries added.old.records.entries (block_of block)) }
+    ensures keeps { OnOk result (Keeps known.now added.old added.new (block_of block)) }
+    ensures refused { IfErr result (λ e. RefusesBlock e known.now added.old.records (block_of block)) }
 {
     match block {
         Front::Header => {}
@@ -54,10 +50,10 @@ pub fn take_blocks(
     offset: u32,
 ) -> Result<(), Fail<ExecRefusal>>
     requires short { offset + length bytes.now ≤ most_read }
-    requires known { Keyed known.now.entries }
-    requires keyed { Keyed added.old.records.entries }
-    ensures adds { OnOk result (Adds known.now.entries offset bytes.now added.old added.new) }
-    ensures stops { IfErr result (IsStop known.now.entries offset bytes.now added.old added.new) }
+    requires known { Keyed known.now }
+    requires keyed { Keyed added.old.records }
+    ensures adds { OnOk result (Adds known.now offset bytes.now added.old added.new) }
+    ensures stops { IfErr result (IsStop known.now offset bytes.now added.old added.new) }
 {
     let mut reader = Reader::new(bytes);
     'reading: while (reader.place() as usize) < bytes.len() {
@@ -68,28 +64,16 @@ pub fn take_blocks(
     Ok(())
 }
 
-/// No records yet of a file over some records. Their ids are hashed as those of the others, or, where there are none,
-/// under the file's digest.
-fn no_records(alloc: Global, known: &Records, bytes: &[u8]) -> Records
-    ensures { result.entries ≡ [] }
-{
-    if known.is_empty() {
-        return IndexMap::with_hasher(alloc, IdHash::under_digest(bytes));
-    }
-    IndexMap::with_hasher(alloc, *known.hasher())
-}
-
 /// The blocks of a file over some records.
 pub fn read_blocks(alloc: Global, known: &Records, bytes: &[u8]) -> Result<Added, Fail<ExecRefusal>>
     requires short { length bytes.now ≤ most_read }
-    requires keyed { Keyed known.now.entries }
-    ensures gathers { IfOk result (λ added. Gathers known.now.entries bytes.now added.sessions.items added.records.entries) }
-    ensures refused { IfErr result (RefusesAll known.now.entries bytes.now) }
+    requires keyed { Keyed known.now }
+    ensures gathers { IfOk result (λ added. Gathers known.now bytes.now added.sessions.items added.records) }
+    ensures refused { IfErr result (RefusesAll known.now bytes.now) }
 {
-    let mut added = Added {
-        sessions: Vec::new(alloc),
-        records: no_records(alloc, known, bytes),
-    };
+    let sessions = Vec::new(alloc);
+    let records = Records::new(alloc);
+    let mut added = Added { sessions, records };
     take_blocks(alloc, known, &mut added, bytes, 0)?;
     Ok(added)
 }

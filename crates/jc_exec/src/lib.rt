@@ -3,19 +3,22 @@
 //! Data is read into a store, whole or in pieces. The store holds the union of all that was read, and is written as data.
 #![tactic(auto)]
 
+mod bits;
 mod block;
 mod feed;
 mod gathering;
 mod hits;
-mod id_hash;
+mod ids;
 mod laws;
 mod merge;
+mod records;
 mod refusal;
 mod session;
 mod store;
 mod waiting;
 mod write;
 
+pub use bits::Bits;
 pub use feed::ExecFeed;
 pub use hits::ClassHits;
 pub use laws::{

@@ -7,21 +7,10 @@ ghost use Rattle.jc_exec.specs.Answers.{RefusesClass, conflict_with, RefusesReco
 ghost use Rattle.jc_exec.specs.Store.{IsSmall, Keyed, classes_of};
 ghost use Rattle.jc_exec.specs.Union.{fits, agree, either_bits, either_hits};
 
-use crate::gathering::Records;
-use crate::{ClassHits, ExecRefusal};
-use jc_bytes::{Bytes, Fail, List};
+use crate::records::Records;
+use crate::{Bits, ClassHits, ExecRefusal};
+use jc_bytes::{Bytes, Fail};
 use std::alloc::{AllocError, Global};
-use std::mem;
-
-/// Sets the bits that are set in the others.
-fn or_bits(bits: &mut [bool], others: &[bool])
-    requires { length bits.old ≡ length others.now }
-    ensures { bits.new ≡ either_bits bits.old others.now }
-{
-    'merging: for k in 0..bits.len() {
-        bits[k] = bits[k] | others[k];
-    }
-}
 
 /// Whether a record has this name, and so many probes.
 fn fits(there: &ClassHits, name: &[u8], count: u32) -> bool
@@ -84,17 +73,15 @@ fn check_agree(alloc: Global, there: &ClassHits, hits: &ClassHits) -> Result<(),
 }
 
 /// Sets the bits of the record that are set in the other.
-fn join(alloc: Global, there: &mut ClassHits, hits: &ClassHits)
+fn join(there: &mut ClassHits, hits: &ClassHits)
     requires { length there.old.bits ≡ length hits.now.bits }
     ensures { there.new ≡ either_hits there.old hits.now }
 {
-    let mut bits = mem::replace(&mut there.bits, List::new(alloc)).into_vec();
-    or_bits(&mut bits, &hits.bits);
-    there.bits = List::from_vec(bits);
+    there.bits.join(&hits.bits);
 }
 
 /// Merges a record into the one of its id that is there, if they agree.
-fn merge_into(
+pub fn merge_into(
     alloc: Global,
     there: &mut ClassHits,
     hits: &ClassHits,
@@ -104,7 +91,7 @@ fn merge_into(
     ensures { MergesInto result there.old there.new hits.now }
 {
     check_agree(alloc, there, hits)?;
-    join(alloc, there, hits);
+    join(there, hits);
     Ok(())
 }
 
@@ -115,7 +102,7 @@ fn copy_of(alloc: Global, hits: &ClassHits) -> Result<ClassHits, AllocError>
     Ok(ClassHits {
         id: hits.id,
         name: Bytes::copy_of(alloc, &hits.name)?,
-        bits: List::from_vec(Vec::from_slice(alloc, &hits.bits)?),
+        bits: Bits::copy_of(alloc, &hits.bits)?,
     })
 }
 
@@ -131,16 +118,8 @@ fn merged(
     ensures { MatchResult result (GivesMerged there.now hits) (RefusesMerging there.now hits) }
 {
     check_agree(alloc, there, &hits)?;
-    join(alloc, &mut hits, there);
+    join(&mut hits, there);
     Ok(hits)
-}
-
-/// Puts a new record under its id.
-fn keep(fresh: &mut Records, hits: ClassHits) -> Result<(), AllocError>
-    ensures { OnOk result (fresh.new.entries ≡ insert_entry nat_eq fresh.old.entries hits.id hits) }
-{
-    fresh.insert(hits.id, hits)?;
-    Ok(())
 }
 
 /// Puts a record with the gathered ones: merged into the one of its id among them, else with the
@@ -151,53 +130,39 @@ pub fn gather(
     fresh: &mut Records,
     hits: ClassHits,
 ) -> Result<(), Fail<ExecRefusal>>
-    requires known { Keyed known.now.entries }
-    requires fresh { Keyed fresh.old.entries }
+    requires known { Keyed known.now }
+    requires fresh { Keyed fresh.old }
     requires hits { IsSmall hits }
     requires text { IsModified hits.name }
-    ensures merges { OnOk result (Merges known.now.entries fresh.old.entries fresh.new.entries hits) }
-    ensures refused { IfErr result (λ e. RefusesRecord e (over known.now.entries fresh.old.entries) hits) }
+    ensures merges { OnOk result (Merges known.now fresh.old fresh.new hits) }
+    ensures refused { IfErr result (λ e. RefusesRecord e (over known.now fresh.old) hits) }
 {
-    if let Some(there) = fresh.get_mut(&hits.id) {
-        return merge_into(alloc, there, &hits);
+    if let Some(merged) = fresh.merge(alloc, &hits) {
+        return merged;
     }
-    match known.get(&hits.id) {
-        None => keep(fresh, hits)?,
-        Some(there) => keep(fresh, merged(alloc, there, hits)?)?,
+    match known.get(hits.id) {
+        None => fresh.push(alloc, hits)?,
+        Some(there) => fresh.push(alloc, merged(alloc, there, hits)?)?,
     }
     Ok(())
-}
-
-/// Puts the gathered records with the others: each in the place of the one of its id, else last. Where there are no others,
-/// those that were gathered are taken as they are. After an error the others are as before.
-pub fn put_all(records: &mut Records, gathered: &mut Records) -> Result<(), AllocError>
-    requires { Keyed gathered.old.entries }
-    ensures all { OnOk result (records.new.entries ≡ insert_all nat_eq records.old.entries gathered.old.entries) }
-    ensures unchanged { OnErr result (records.new.entries ≡ records.old.entries) }
-{
-    if records.is_empty() {
-        mem::swap(records, gathered);
-        return Ok(());
-    }
-    records.append(gathered)
 }
 
 /// Puts a record with the others: merged into the one of its id, else last. After an error the
 /// others are as before.
 pub fn put(alloc: Global, records: &mut Records, hits: &ClassHits) -> Result<(), Fail<ExecRefusal>>
-    requires keyed { Keyed records.old.entries }
+    requires keyed { Keyed records.old }
     requires few { length hits.now.bits ≤ 65535 }
     requires short { length hits.now.name ≤ 65535 }
     requires text { IsModified hits.now.name }
-    ensures puts { OnOk result (Puts records.old.entries records.new.entries hits.now) }
-    ensures refused { IfErr result (λ e. RefusesRecord e (classes_of records.old.entries) hits.now) }
-    ensures unchanged { OnErr result (records.new.entries ≡ records.old.entries) }
+    ensures puts { OnOk result (Puts records.old records.new hits.now) }
+    ensures refused { IfErr result (λ e. RefusesRecord e (classes_of records.old) hits.now) }
+    ensures unchanged { OnErr result (records.new ≡ records.old) }
 {
-    let id = hits.id;
-    if let Some(there) = records.get_mut(&id) {
-        return merge_into(alloc, there, hits);
+    let _id = hits.id;
+    if let Some(merged) = records.merge(alloc, hits) {
+        return merged;
     }
     let copy = copy_of(alloc, hits)?;
-    records.insert(id, copy)?;
+    records.push(alloc, copy)?;
     Ok(())
 }

@@ -14,12 +14,11 @@ ghost use Rattle.jc_exec.specs.Store.{Store, IsWritable, IsWritableClass, Keyed}
 ghost use Rattle.jc_exec.specs.Union.{IsUnion, ReadsOn};
 ghost use Rattle.jc_exec.specs.Writing.{exec_text};
 
-use crate::gathering::{Added, Records, read_blocks};
-use crate::id_hash::IdHash;
-use crate::merge::{put, put_all};
+use crate::gathering::{Added, read_blocks};
+use crate::merge::put;
+use crate::records::Records;
 use crate::write::exec_data;
 use crate::{ClassHits, ExecRefusal, Session};
-use indexmap::IndexMap;
 use jc_bytes::{Fail, Memory};
 use std::alloc::{AllocError, Global};
 use std::marker::Model;
@@ -40,9 +39,9 @@ impl Model for ExecStore {
 
     ghost Value = { Store };
 
-    ghost view = { λ a. record { sessions = a.sessions.items; classes = classes_of a.records.entries } };
+    ghost view = { λ a. record { sessions = a.sessions.items; classes = classes_of a.records } };
 
-    ghost invariant = { λ a. AllByRecursion IsWritable a.sessions.items × Keyed a.records.entries };
+    ghost invariant = { λ a. AllByRecursion IsWritable a.sessions.items × Keyed a.records };
 }
 
 impl ExecStore {
@@ -57,7 +56,7 @@ impl ExecStore {
     {
         Ok(ExecStore {
             sessions: Vec::new(alloc),
-            records: IndexMap::with_hasher(alloc, IdHash::under_digest(b"")),
+            records: Records::new(alloc),
         })
     }
 
@@ -88,7 +87,7 @@ impl ExecStore {
     {
         let mut added = read_blocks(alloc, &self.records, bytes)?;
         self.sessions.reserve(added.sessions.len())?;
-        put_all(&mut self.records, &mut added.records)?;
+        self.records.put_all(alloc, added.records)?;
         self.sessions.append(&mut added.sessions).unwrap();
         Ok(())
     }
@@ -125,7 +124,7 @@ impl ExecStore {
         // It has at most 65,535 probes and a name in modified UTF-8, so that it may be handed to `add`.
         ensures fits { IfSome result (λ c. IsWritableClass c.now) }
     {
-        self.records.get(&id)
+        self.records.get(id)
     }
 
     /// The sessions, in the order in which they were read.
@@ -142,7 +141,7 @@ impl ExecStore {
         // Each has at most 65,535 probes and a name in modified UTF-8, so that it may be handed to `add`.
         ensures fits { All IsWritableClass result.now }
     {
-        self.records.values().as_slice()
+        self.records.classes()
     }
 
     /// The store as execution data: one header, the sessions by the time of their dump, and then
@@ -154,14 +153,14 @@ impl ExecStore {
     pub fn write(&self, alloc: Global) -> Result<Vec<u8>, Memory>
         ensures text { IfOk result (λ text. text.items ≡ exec_text self.now) }
     {
-        exec_data(alloc, &self.sessions, self.records.values().as_slice())
+        exec_data(alloc, &self.sessions, self.records.classes())
     }
 
     /// The sessions and the records.
     pub(crate) fn into_added(self) -> Added
-        ensures store { store_of result.sessions.items result.records.entries ≡ self }
+        ensures store { store_of result.sessions.items result.records ≡ self }
         ensures writable { AllByRecursion IsWritable result.sessions.items }
-        ensures keyed { Keyed result.records.entries }
+        ensures keyed { Keyed result.records }
     {
         let ExecStore { sessions, records } = self;
         Added { sessions, records }
@@ -170,8 +169,8 @@ impl ExecStore {
     /// The store of these sessions and records.
     pub(crate) fn of_added(added: Added) -> ExecStore
         requires writable { AllByRecursion IsWritable added.sessions.items }
-        requires keyed { Keyed added.records.entries }
-        ensures { result ≡ store_of added.sessions.items added.records.entries }
+        requires keyed { Keyed added.records }
+        ensures { result ≡ store_of added.sessions.items added.records }
     {
         let Added { sessions, records } = added;
         ExecStore { sessions, records }

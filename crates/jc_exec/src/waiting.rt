@@ -11,8 +11,7 @@ ghost use Rattle.jc_exec.specs.Store.{IsWritable, Keyed};
 use crate::ExecRefusal;
 use crate::block::{CLASS, HEADER_KIND, SESSION};
 use crate::gathering::{Added, take_blocks};
-use crate::id_hash::IdHash;
-use indexmap::IndexMap;
+use crate::records::Records;
 use jc_bytes::{Fail, Memory};
 use std::alloc::Global;
 
@@ -76,11 +75,11 @@ fn drop_first(bytes: &mut Vec<u8>, count: usize)
     }
 }
 
-/// What is kept once a piece more was fed, over records that have their key. The bytes behind the whole blocks begin at
+/// What is kept once a piece more was fed. The bytes behind the whole blocks begin at
 /// the offset.
-fn fed_on(alloc: Global, waiting: Waiting, offset: u32, piece: &[u8]) -> Result<State, Memory>
+pub fn fed(alloc: Global, waiting: Waiting, offset: u32, piece: &[u8]) -> Result<State, Memory>
     requires writable { AllByRecursion IsWritable waiting.added.sessions.items }
-    requires keyed { Keyed waiting.added.records.entries }
+    requires keyed { Keyed waiting.added.records }
     requires short { offset + (length waiting.rest.items + length piece.now) ≤ most_read }
     ensures stands { IfOk result (GoesOn waiting offset piece.now) }
     ensures sound { IfOk result (λ later. IsSound later (offset + (length waiting.rest.items + length piece.now))) }
@@ -90,7 +89,7 @@ fn fed_on(alloc: Global, waiting: Waiting, offset: u32, piece: &[u8]) -> Result<
         mut rest,
     } = waiting;
     rest.extend_from_slice(piece)?;
-    let none = IndexMap::with_hasher(alloc, IdHash::under_digest(b""));
+    let none = Records::new(alloc);
     match take_blocks(alloc, &none, &mut added, &rest, offset) {
         Ok(()) => {
             rest.clear();
@@ -109,35 +108,4 @@ fn fed_on(alloc: Global, waiting: Waiting, offset: u32, piece: &[u8]) -> Result<
             }
         },
     }
-}
-
-/// The same, where there are no records yet, with a key for them: their ids are hashed under a digest of the piece, since
-/// whoever makes a file picks its ids.
-fn keyed(alloc: Global, waiting: Waiting, piece: &[u8]) -> Waiting
-    ensures sessions { result.added.sessions.items ≡ waiting.added.sessions.items }
-    ensures records { result.added.records.entries ≡ waiting.added.records.entries }
-    ensures rest { result.rest.items ≡ waiting.rest.items }
-{
-    let Waiting { added, rest } = waiting;
-    let Added { sessions, records } = added;
-    let records = if records.is_empty() {
-        IndexMap::with_hasher(alloc, IdHash::under_digest(piece))
-    } else {
-        records
-    };
-    Waiting {
-        added: Added { sessions, records },
-        rest,
-    }
-}
-
-/// What is kept once a piece more was fed. The bytes behind the whole blocks begin at the offset.
-pub fn fed(alloc: Global, waiting: Waiting, offset: u32, piece: &[u8]) -> Result<State, Memory>
-    requires writable { AllByRecursion IsWritable waiting.added.sessions.items }
-    requires keyed { Keyed waiting.added.records.entries }
-    requires short { offset + (length waiting.rest.items + length piece.now) ≤ most_read }
-    ensures stands { IfOk result (GoesOn waiting offset piece.now) }
-    ensures sound { IfOk result (λ later. IsSound later (offset + (length waiting.rest.items + length piece.now))) }
-{
-    fed_on(alloc, keyed(alloc, waiting, piece), offset, piece)
 }

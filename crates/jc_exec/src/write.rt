@@ -10,45 +10,6 @@ use crate::{ClassHits, Session};
 use jc_bytes::Memory;
 use std::alloc::{AllocError, Global};
 
-/// The number whose bits these are, the lowest first.
-fn number_of(bits: &[bool]) -> u8
-    requires { length bits.now ≤ 8 }
-    ensures value { result ≡ low_first bits.now }
-    ensures bound { result < 2 ^ length bits.now }
-{
-    match bits {
-        [] => 0,
-        [first, rest @ ..] => u8::from(*first) + 2 * number_of(rest),
-    }
-}
-
-/// The byte that has the bits, the lowest first.
-fn byte_of(bits: &[bool]) -> u8
-    requires { length bits.now ≤ 8 }
-    ensures { result ≡ low_first bits.now }
-{
-    match bits {
-        [a, b, c, d, e, f, g, h] => {
-            let high = u8::from(*e) + 2 * (u8::from(*f) + 2 * (u8::from(*g) + 2 * u8::from(*h)));
-            u8::from(*a) + 2 * (u8::from(*b) + 2 * (u8::from(*c) + 2 * (u8::from(*d) + 2 * high)))
-        }
-        _ => number_of(bits),
-    }
-}
-
-/// Eight bits a byte, the last byte padded with 0.
-fn put_bits(out: &mut Vec<u8>, bits: &[bool]) -> Result<(), AllocError>
-    ensures { OnOk result (out.new.items ≡ out.old.items ++ packed bits.now) }
-{
-    let mut rest = bits;
-    'packing: while !rest.is_empty() {
-        let (eight, after) = rest.split_at(rest.len().min(8));
-        out.push(byte_of(eight))?;
-        rest = after;
-    }
-    Ok(())
-}
-
 #[tactic(auto, unfolding(crate::specs::Writing::id_text))]
 fn put_id(out: &mut Vec<u8>, id: u64) -> Result<(), AllocError>
     ensures { OnOk result (out.new.items ≡ out.old.items ++ id_text id) }
@@ -113,7 +74,7 @@ fn put_class(out: &mut Vec<u8>, hits: &ClassHits) -> Result<(), AllocError>
     put_size(out, hits.name.len() as u16)?;
     out.extend_from_slice(&hits.name)?;
     put_count(out, hits.bits.len() as u32)?;
-    put_bits(out, &hits.bits)?;
+    out.extend_from_slice(hits.bits.bytes())?;
     Ok(())
 }
 
@@ -143,7 +104,7 @@ fn put_classes(out: &mut Vec<u8>, classes: &[ClassHits]) -> Result<(), AllocErro
     ensures { OnOk result (out.new.items ≡ out.old.items ++ flat_map class_text (filter is_hit classes.now)) }
 {
     'writing: for hits in classes {
-        if has_hit(&hits.bits) {
+        if hits.bits.has_true() {
             put_class(out, hits)?;
         }
     }
@@ -165,11 +126,4 @@ pub fn exec_data(
     put_sessions(&mut out, &order)?;
     put_classes(&mut out, classes)?;
     Ok(out)
-}
-
-/// Whether a probe was hit.
-fn has_hit(bits: &[bool]) -> bool
-    ensures { result ≡ list_any (λ b. b) bits.now }
-{
-    bits.iter().any(|bit| *bit)
 }

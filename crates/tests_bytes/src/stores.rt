@@ -1,7 +1,7 @@
 //! Execution data.
 
-use jc_base::{Bytes, Fail, List, is_modified};
-use jc_exec::{ClassHits, ExecRefusal, ExecStore};
+use jc_base::{Bytes, Fail, is_modified};
+use jc_exec::{Bits, ClassHits, ExecRefusal, ExecStore};
 use std::alloc::Global;
 use tests_lines::{Answer, bits, bytes};
 
@@ -82,9 +82,17 @@ fn add_record(
     out: &mut Answer,
 ) -> Option<()> {
     let id = id(class, out)?;
-    let bits = List::from_vec(bits(alloc, hits, out)?);
+    let bits = bits(alloc, hits, out)?;
+    let bits = out.got(Bits::new(alloc, &bits))?;
     let name = out.got(Bytes::copy_of(alloc, name.as_bytes()))?;
     add(alloc, store, &ClassHits { id, name, bits }, out)
+}
+
+/// Puts a digit for each probe.
+fn put_bits(bits: &Bits, out: &mut Answer) {
+    for k in 0..bits.len() {
+        out.put(if bits.get(k) { "1" } else { "0" });
+    }
 }
 
 /// Puts a record: its class id, its name and a digit for each probe.
@@ -93,7 +101,7 @@ fn put_record(hits: &ClassHits, out: &mut Answer) {
     out.put(" ");
     out.quoted(&hits.name);
     out.put(" [");
-    out.bits(hits.bits.as_slice());
+    put_bits(&hits.bits, out);
     out.put("]");
 }
 

@@ -7,6 +7,6 @@ use Rattle.jc_exec.proofs.feed.ExecFeed.begin.Goals as goal
 pub returns : goal.returns
 returns c =
     let sessions = c.into_added-added.result.sessions.items in
-    let entries = c.into_added-added.result.records.entries in
+    let entries = c.into_added-added.result.records in
     subst (λ (l : List ℕ). Feeds (record { length = 0; kept = waiting (store_of sessions entries) l }) c.args.store []) (sym c.new.ensures.items)
     (begins c.args.store sessions entries c.into_added-added.ensures.keyed c.into_added-added.ensures.store)

@@ -15,7 +15,7 @@ returns-then-not-is_empty-clause-taken c = λ before bytes f read s blocks u.
     let w = c.in-Waiting.waiting in
     let g = seen c.args.self c.self.inside.fed c.self.inside.state (states.Waiting w) c.self.view_is c.in-Waiting.is before bytes f in
     not_both before bytes _ (read, s, blocks, u) (rest_refused c.self.inside.fed (c.self.inside.fed - length w.rest.items) before bytes
-    (store_of w.added.sessions.items w.added.records.entries) w.rest.items (some_left c.is_empty.result (vec_len w.rest) w.rest.items (omega arith) c.is_empty.ensures c.if-not-is_empty.true)
+    (store_of w.added.sessions.items w.added.records) w.rest.items (some_left c.is_empty.result (vec_len w.rest) w.rest.items (omega arith) c.is_empty.ensures c.if-not-is_empty.true)
     (omega (arith, subst (λ (s : State). IsSound s c.self.inside.fed) c.in-Waiting.is c.self.invariant.1)) g)
 
 pub returns-then-not-is_empty-clause-refuses : goal.returns-then-not-is_empty-clause-refuses
@@ -23,7 +23,7 @@ returns-then-not-is_empty-clause-refuses c = λ before bytes f why first.
     let w = c.in-Waiting.waiting in
     let g = seen c.args.self c.self.inside.fed c.self.inside.state (states.Waiting w) c.self.view_is c.in-Waiting.is before bytes f in
     one_reason before bytes _ why (rest_refused c.self.inside.fed (c.self.inside.fed - c.len.result) before bytes
-    (store_of w.added.sessions.items w.added.records.entries) w.rest.items (some_left c.is_empty.result (vec_len w.rest) w.rest.items (omega arith) c.is_empty.ensures c.if-not-is_empty.true)
+    (store_of w.added.sessions.items w.added.records) w.rest.items (some_left c.is_empty.result (vec_len w.rest) w.rest.items (omega arith) c.is_empty.ensures c.if-not-is_empty.true)
     (omega (arith, subst (λ (s : State). IsSound s c.self.inside.fed) c.in-Waiting.is c.self.invariant.1)) g) first
 
 -- ---- whole blocks
@@ -31,7 +31,7 @@ returns-then-not-is_empty-clause-refuses c = λ before bytes f why first.
 pub returns-else-not-is_empty-clause-union : goal.returns-else-not-is_empty-clause-union
 returns-else-not-is_empty-clause-union c = λ before bytes f.
     let w = c.in-Waiting.waiting in
-    let store = store_of w.added.sessions.items w.added.records.entries in
+    let store = store_of w.added.sessions.items w.added.records in
     let g = seen c.args.self c.self.inside.fed c.self.inside.state (states.Waiting w) c.self.view_is c.in-Waiting.is before bytes f in
     let none = none_left c.is_empty.result (vec_len w.rest) w.rest.items (omega arith) c.is_empty.ensures c.if-not-is_empty.false in
     subst (ReadsOn bytes before) (sym c.of_added.ensures) (finished_reads before bytes store (finishes before bytes store w.rest.items none g.stands))
@@ -39,7 +39,7 @@ returns-else-not-is_empty-clause-union c = λ before bytes f.
 pub returns-else-not-is_empty-clause-taken : goal.returns-else-not-is_empty-clause-taken
 returns-else-not-is_empty-clause-taken c = λ before bytes f read s blocks u.
     let w = c.in-Waiting.waiting in
-    let store = store_of w.added.sessions.items w.added.records.entries in
+    let store = store_of w.added.sessions.items w.added.records in
     let g = seen c.args.self c.self.inside.fed c.self.inside.state (states.Waiting w) c.self.view_is c.in-Waiting.is before bytes f in
     let none = none_left c.is_empty.result (vec_len w.rest) w.rest.items (omega arith) c.is_empty.ensures c.if-not-is_empty.false in
     c.of_added.ensures ∙ finished_only before bytes store (finishes before bytes store w.rest.items none g.stands) read s blocks u
@@ -47,7 +47,7 @@ returns-else-not-is_empty-clause-taken c = λ before bytes f read s blocks u.
 pub returns-else-not-is_empty-clause-refuses : goal.returns-else-not-is_empty-clause-refuses
 returns-else-not-is_empty-clause-refuses c = λ before bytes f why first.
     let w = c.in-Waiting.waiting in
-    let store = store_of w.added.sessions.items w.added.records.entries in
+    let store = store_of w.added.sessions.items w.added.records in
     let g = seen c.args.self c.self.inside.fed c.self.inside.state (states.Waiting w) c.self.view_is c.in-Waiting.is before bytes f in
     let none = none_left c.is_empty.result (vec_len w.rest) w.rest.items (omega arith) c.is_empty.ensures c.if-not-is_empty.false in
     finished_not_refused before bytes store (finishes before bytes store w.rest.items none g.stands) why first

@@ -7,12 +7,12 @@ use Rattle.jc_exec.proofs.store.ExecStore.get.Goals as goal
 pub returns-clause-found : goal.returns-clause-found
 returns-clause-found c =
     subst (λ (s : Store). IfSome c.get.result (λ x. Contains s.classes x.now × (x.now.id ≡ c.args.id))) c.self.view_is
-    (got c.get.result c.args.id c.self.inside.records.entries c.self.invariant.1 c.get.ensures.value)
+    (got c.get.result c.args.id c.self.inside.records c.self.invariant.1 c.get.ensures)
 
 pub returns-clause-only : goal.returns-clause-only
 returns-clause-only c =
     subst (λ (s : Store). (x : ClassHits) → Contains s.classes x → x.id ≡ c.args.id → IsSomeAnd c.get.result (λ d. d.now ≡ x)) c.self.view_is
-    (got_only c.get.result c.args.id c.self.inside.records.entries c.self.invariant.1 c.get.ensures.value)
+    (got_only c.get.result c.args.id c.self.inside.records c.self.invariant.1 c.get.ensures)
 
 pub returns-clause-fits : goal.returns-clause-fits
-returns-clause-fits c = got_fits c.get.result c.args.id c.self.inside.records.entries c.self.invariant.1 c.get.ensures.value
+returns-clause-fits c = got_fits c.get.result c.args.id c.self.inside.records c.self.invariant.1 c.get.ensures
