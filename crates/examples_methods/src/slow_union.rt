@@ -9,8 +9,8 @@ ghost use Rattle.jc_exec.specs.Store.{Store, IsSmall};
 ghost use Rattle.jc_exec.specs.Union.{IsUnion};
 ghost use Rattle.jc_exec.specs.Writing.{low_first, packed, id_text, size_text, count_text, class_text, exec_text};
 
-use jc_bytes::{Bytes, List};
-use jc_exec::ClassHits;
+use jc_bytes::{Bytes, Memory};
+use jc_exec::{Bits, ClassHits};
 use std::alloc::{AllocError, Global};
 
 /// Whether some record of the id has the probe hit.
@@ -19,25 +19,18 @@ fn is_hit_in(records: &[ClassHits], id: u64, index: usize) -> bool
 {
     records
         .iter()
-        .any(|hits| hits.id == id && bit_at(&hits.bits, index))
-}
-
-/// The bit of this index, false behind the last.
-fn bit_at(bits: &[bool], index: usize) -> bool
-    ensures { result ≡ slice_index_or bits.now index false }
-{
-    index < bits.len() && bits[index]
+        .any(|hits| hits.id == id && hits.bits.get(index))
 }
 
 /// The byte of the eight bits from this index on.
-fn byte_at(bits: &[bool], index: usize) -> u8
+fn byte_at(bits: &Bits, index: usize) -> u8
     requires { index < 2 ^ 32 }
     ensures { result ≡ low_first (take 8 (drop index bits.now)) }
 {
-    let low = u8::from(bit_at(bits, index)) + 2 * u8::from(bit_at(bits, index + 1));
-    let mid = u8::from(bit_at(bits, index + 2)) + 2 * u8::from(bit_at(bits, index + 3));
-    let high = u8::from(bit_at(bits, index + 4)) + 2 * u8::from(bit_at(bits, index + 5));
-    let top = u8::from(bit_at(bits, index + 6)) + 2 * u8::from(bit_at(bits, index + 7));
+    let low = u8::from(bits.get(index)) + 2 * u8::from(bits.get(index + 1));
+    let mid = u8::from(bits.get(index + 2)) + 2 * u8::from(bits.get(index + 3));
+    let high = u8::from(bits.get(index + 4)) + 2 * u8::from(bits.get(index + 5));
+    let top = u8::from(bits.get(index + 6)) + 2 * u8::from(bits.get(index + 7));
     low + 4 * mid + 16 * high + 64 * top
 }
 
@@ -58,7 +51,7 @@ fn put_count(out: &mut Vec<u8>, count: u32) -> Result<(), AllocError>
 }
 
 /// The bits, eight a byte.
-fn put_bits(out: &mut Vec<u8>, bits: &[bool]) -> Result<(), AllocError>
+fn put_bits(out: &mut Vec<u8>, bits: &Bits) -> Result<(), AllocError>
     requires { length bits.now < 65536 }
     ensures { OnOk result (out.new.items ≡ out.old.items ++ packed bits.now) }
 {
@@ -96,10 +89,15 @@ fn is_small(hits: &ClassHits) -> bool
 }
 
 /// Whether some bit is set.
-fn is_hit(bits: &[bool]) -> bool
+fn is_hit(bits: &Bits) -> bool
     ensures { result ≡ list_any (λ b. b) bits.now }
 {
-    bits.iter().any(|bit| *bit)
+    'looking: for index in 0..bits.len() {
+        if bits.get(index) {
+            return true;
+        }
+    }
+    false
 }
 
 /// The text of the records that have a hit, where each can be written.
@@ -126,23 +124,18 @@ fn has_id(records: &[ClassHits], id: u64) -> bool
 }
 
 /// The bits that some record of the id has, looked for one by one.
-fn union_bits(
-    alloc: Global,
-    records: &[ClassHits],
-    id: u64,
-    count: usize,
-) -> Result<List<bool>, AllocError>
+fn union_bits(alloc: Global, records: &[ClassHits], id: u64, count: usize) -> Result<Bits, Memory>
     ensures { IfOk result (λ bits. bits ≡ all_hits records.now id count) }
 {
     let mut bits = Vec::new(alloc);
     'looking: for index in 0..count {
         bits.push(is_hit_in(records, id, index))?;
     }
-    Ok(List::from_vec(bits))
+    Bits::new(alloc, &bits)
 }
 
 /// A record with the bits of all records of its id.
-fn merged(alloc: Global, records: &[ClassHits], hits: &ClassHits) -> Result<ClassHits, AllocError>
+fn merged(alloc: Global, records: &[ClassHits], hits: &ClassHits) -> Result<ClassHits, Memory>
     ensures { IfOk result (λ c. c ≡ merged_record records.now hits.now) }
 {
     let id = hits.id;
@@ -152,7 +145,7 @@ fn merged(alloc: Global, records: &[ClassHits], hits: &ClassHits) -> Result<Clas
 }
 
 /// The union of the records, where they have one.
-pub fn union(alloc: Global, records: &[ClassHits]) -> Result<Vec<ClassHits>, AllocError>
+pub fn union(alloc: Global, records: &[ClassHits]) -> Result<Vec<ClassHits>, Memory>
     ensures { IfOk result (λ v. (s : Store) → IsUnion (map class records.now) s → v.items ≡ s.classes) }
 {
     let mut out = Vec::new(alloc);

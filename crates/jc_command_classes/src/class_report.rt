@@ -13,7 +13,7 @@ ghost use Rattle.jc_command_work.specs.Step.{Word};
 use crate::each::each_answer;
 use crate::lines::refused_line;
 use indexmap::IndexSet;
-use jc_bytes::{Bytes, Fail, Memory, Refusal};
+use jc_bytes::{Bytes, Fail, List, Memory, Refusal};
 use jc_command_work::{InputFiles, Stop, Write, exec_stop};
 use jc_cover::{counters, covered};
 use jc_exec::{ClassHits, ExecStore, check_fits};
@@ -117,12 +117,22 @@ fn counted(alloc: Global, class: Analysed, hits: Option<&[bool]>) -> Result<Coun
     })
 }
 
-/// The hits of a record.
-fn bits_of<'d>(class_hits: Option<&'d ClassHits>) -> Option<&'d [bool]>
-    ensures { option_map (λ bits. bits.now) result ≡ option_map (λ r. r.now.bits) class_hits.entry }
+/// The hits of a record, each in a place of its own.
+pub fn bits_of(alloc: Global, class_hits: Option<&ClassHits>) -> Result<Option<List<bool>>, Memory>
+    ensures { IfOk result (λ bits. bits ≡ option_map (λ r. r.now.bits) class_hits.entry) }
 {
     match class_hits {
-        Some(class_hits) => Some(&class_hits.bits),
+        Some(class_hits) => Ok(Some(class_hits.bits.unpacked(alloc)?)),
+        None => Ok(None),
+    }
+}
+
+/// The hits, if there are any.
+pub fn slice_of(hits: &Option<List<bool>>) -> Option<&[bool]>
+    ensures { option_map (λ hits. hits.now) result ≡ hits.now }
+{
+    match hits {
+        Some(hits) => Some(hits.as_slice()),
         None => None,
     }
 }
@@ -141,7 +151,8 @@ fn counted_by<'a>(
         (λ refusal. clash_with class (record_of (data_records exec_data.entry) class.id) ≡ Some refusal)) }
 {
     let class_hits = record_of(alloc, exec_data, &class)?;
-    Ok(counted(alloc, class, bits_of(class_hits))?)
+    let bits = bits_of(alloc, class_hits)?;
+    Ok(counted(alloc, class, slice_of(&bits))?)
 }
 
 /// What the class of a class file is to a report.

@@ -10,7 +10,7 @@ mod options;
 mod report;
 
 pub use class_info::prepare_class_info;
-pub use class_report::Data;
+pub use class_report::{Data, bits_of, slice_of};
 pub use instrument::{Decided, decide_all, decided_line, prepare_instrument};
 pub use options::ReportOptions;
 pub use report::{ExecInput, csv_of_files, prepare_report};

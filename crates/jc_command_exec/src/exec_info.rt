@@ -11,7 +11,7 @@ ghost use Rattle.jc_command_work.specs.Handed.{BetweenFiles};
 use crate::gathered::{Gathered, read_on};
 use jc_bytes::Memory;
 use jc_command_work::{Stop, Write, keep};
-use jc_exec::{ClassHits, ExecStore, Session};
+use jc_exec::{Bits, ClassHits, ExecStore, Session};
 use jc_outside::Files;
 use std::alloc::{AllocError, Global};
 
@@ -40,12 +40,12 @@ fn session_line(alloc: Global, session: &Session) -> Result<Vec<u8>, AllocError>
 }
 
 /// How many probes were hit.
-fn hit_count(bits: &[bool]) -> usize
+fn hit_count(bits: &Bits) -> usize
     ensures { result ≡ count_by (λ hit. hit) bits.now }
 {
     let mut count = 0;
-    'counting: for hit in bits {
-        if *hit {
+    'counting: for k in 0..bits.len() {
+        if bits.get(k) {
             count += 1;
         }
     }

@@ -7,12 +7,12 @@ ghost use Rattle.jc_programs.specs.Probes.{counts_of};
 ghost use Rattle.jc_command_run.specs.HitStore.{set_record, set_records, counts_in, FitRecords, AddsLast};
 
 use jc_bytes::{Bytes, List, Memory};
-use jc_exec::{ClassHits, ExecStore};
+use jc_exec::{Bits, ClassHits, ExecStore};
 use jc_programs::{HitSet, Linked, ProbeInit, Program};
 use std::alloc::Global;
 
 /// The truth values of a class.
-fn bits_of(alloc: Global, hits: &HitSet, class: u32, count: u32) -> Result<List<bool>, Memory>
+fn bits_of(alloc: Global, hits: &HitSet, class: u32, count: u32) -> Result<Bits, Memory>
     requires class { class < length hits.now }
     requires count { count ≡ length (slice_index_or hits.now class []) }
     ensures { IfOk result (λ bits. bits ≡ slice_index_or hits.now class []) }
@@ -21,7 +21,7 @@ fn bits_of(alloc: Global, hits: &HitSet, class: u32, count: u32) -> Result<List<
     'copying: for id in 0..count {
         bits.push(hits.get(class, id))?;
     }
-    Ok(bits)
+    Bits::new(alloc, &bits)
 }
 
 /// Puts the record of a class into a store that has none of its id.

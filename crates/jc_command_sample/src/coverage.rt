@@ -15,6 +15,7 @@ ghost use Rattle.jc_command_sample.specs.SampleWork.{AreCounters, IsClashEnd};
 ghost use Rattle.jc_command_sample.specs.Seen.{Decides};
 
 use jc_bytes::{Fail, Memory};
+use jc_command_classes::{bits_of, slice_of};
 use jc_command_work::{Stop, exec_stop};
 use jc_cover::{Counters, counters, covered};
 use jc_exec::{ClassHits, ExecRefusal, ExecStore, check_fits};
@@ -49,16 +50,6 @@ fn check_record(
     }
 }
 
-/// The hits of a record.
-fn bits_of<'d>(known: Option<&'d ClassHits>) -> Option<&'d [bool]>
-    ensures { option_map (λ bits. bits.now) result ≡ option_map (λ r. r.now.bits) known.entry }
-{
-    match known {
-        Some(known) => Some(&known.bits),
-        None => None,
-    }
-}
-
 /// The counters of a class by these hits, or by none.
 fn counted(alloc: Global, class: &Analysed, hits: Option<&[bool]>) -> Result<Counters, Memory>
     requires analysed { IsAnalysed class.now }
@@ -85,7 +76,10 @@ fn class_counters<'a>(
 {
     let known = record_of(store, class);
     match check_record(alloc, class, known) {
-        Ok(()) => Ok(counted(alloc, class, bits_of(known))?),
+        Ok(()) => {
+            let bits = bits_of(alloc, known)?;
+            Ok(counted(alloc, class, slice_of(&bits))?)
+        }
         Err(fail) => Err(exec_stop(fail, 0, PATH)),
     }
 }

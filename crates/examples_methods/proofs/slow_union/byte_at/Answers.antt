@@ -6,7 +6,7 @@ use Rattle.examples_methods.proofs.slow_union.byte_at.Goals as goal
 pub returns : goal.returns
 returns c =
     low_of_eight c.args.bits.now c.args.index c.from.result c.from-2.result c.from-3.result c.from-4.result c.from-5.result c.from-6.result c.from-7.result c.from-8.result
-    (c.from.ensures ∙ ap bool_byte c.bit_at.ensures) (c.from-2.ensures ∙ ap bool_byte c.bit_at-2.ensures)
-    (c.from-3.ensures ∙ ap bool_byte c.bit_at-3.ensures) (c.from-4.ensures ∙ ap bool_byte c.bit_at-4.ensures)
-    (c.from-5.ensures ∙ ap bool_byte c.bit_at-5.ensures) (c.from-6.ensures ∙ ap bool_byte c.bit_at-6.ensures)
-    (c.from-7.ensures ∙ ap bool_byte c.bit_at-7.ensures) (c.from-8.ensures ∙ ap bool_byte c.bit_at-8.ensures)
+    (c.from.ensures ∙ ap bool_byte c.get.ensures) (c.from-2.ensures ∙ ap bool_byte c.get-2.ensures)
+    (c.from-3.ensures ∙ ap bool_byte c.get-3.ensures) (c.from-4.ensures ∙ ap bool_byte c.get-4.ensures)
+    (c.from-5.ensures ∙ ap bool_byte c.get-5.ensures) (c.from-6.ensures ∙ ap bool_byte c.get-6.ensures)
+    (c.from-7.ensures ∙ ap bool_byte c.get-7.ensures) (c.from-8.ensures ∙ ap bool_byte c.get-8.ensures)

@@ -3,4 +3,4 @@ use Rattle.std.specs.List.{count_by}
 use Rattle.jc_command_exec.proofs.exec_info.hit_count.Given as goal
 
 abbrev pub invariant-counting : goal.invariant-counting
-invariant-counting l = l.count ≡ count_by (λ hit. hit) (take l.hit-index l.bits)
+invariant-counting l = l.count ≡ count_by (λ hit. hit) (take l.k l.bits)
