@@ -1,6 +1,6 @@
 -- The execution data of hits that are kept as truth values is that of the run plan's hits.
 use Rattle.std.proofs.Common.{◌≡◌, ◌⊎◌, inl, inr, ◌↔◌, ℕ, suc, ◌+◌, ◌<◌, Bool, true, false, ◌||◌, ◌&&◌, nat_eq, List, [], ◌∷◌, map, length, get_or, Option, None, Some, Contains, refl, sym, ◌∙◌, ap, subst, arith}
-use Rattle.std.specs.List.{range_with_len}
+use Rattle.std.specs.List.{range_with_len, filter}
 use Rattle.std.proofs.lemmas.Bool.{and_parts, and_from, or_cases, or_left, or_right, eqb-true, eq-eqb}
 use Rattle.std.proofs.lemmas.List.{ext_get_or, get_or-map, length-map}
 use Rattle.std.proofs.lemmas.List.FromFn.{get_or-map-range_with_len, length-map-range_with_len}
@@ -8,6 +8,7 @@ use Rattle.jc_bytes.proofs.BooleanLaws.{first_in, later_in, which_in, none_in, s
 use Rattle.jc_bytes.proofs.ListLaws.{flat_in, flat_cases}
 use Rattle.jc_exec.specs.declared.hits.ClassHits.{ClassHits}
 use Rattle.jc_exec.specs.Store.{Store}
+use Rattle.jc_exec.specs.Writing.{is_hit}
 use Rattle.jc_programs.specs.declared.program.Program.{Program}
 use Rattle.jc_programs.specs.declared.program.Linked.{Linked}
 use Rattle.jc_programs.specs.declared.program.ProbeInit.{ProbeInit}
@@ -18,8 +19,6 @@ use Rattle.jc_machine_model.specs.Run.{IsHit as IsHitBy, case_hits, hits_of}
 use Rattle.jc_machine_model.specs.World.{Hit}
 use Rattle.jc_command_run.specs.RunStore.{is_hit_in, hit_record, with_record, hit_records, run_store}
 use Rattle.jc_command_run.specs.HitStore.{set_record, with_set, set_records, count_of, counts_in}
-
--- ---- lists of lists
 
 -- ---- a hit in a list
 
@@ -105,8 +104,8 @@ module _ (p : Program) (plan : RunPlan) (hits : List (List Bool)) (are : (class 
       by (Some init) is = ap (λ (r : ClassHits). r ∷ hit_records all (class + 1) classes) (same_record class c init (here ∙ ap count_of is))
 
   -- the records are those of the run plan's hits
-  pub same_store : counts_of hits ≡ probe_counts p → (let s : Store = record { sessions = []; classes = set_records hits 0 p.classes } in s) ≡ run_store p plan
-  same_store counts = ap (λ (classes : List ClassHits). let s : Store = record { sessions = []; classes = classes } in s) (same_records 0 p.classes counted)
+  pub same_store : counts_of hits ≡ probe_counts p → (let s : Store = record { sessions = []; classes = filter is_hit (set_records hits 0 p.classes) } in s) ≡ run_store p plan
+  same_store counts = ap (λ (classes : List ClassHits). let s : Store = record { sessions = []; classes = filter is_hit classes } in s) (same_records 0 p.classes counted)
     where
       sizes : map length hits ≡ counts_in p.classes
       sizes = counts ∙ same_counts p

@@ -1,12 +1,14 @@
 -- Records of classes with probes, one after the other.
-use Rattle.std.proofs.Common.{◌≡◌, ◌≢◌, ℕ, ◌+◌, ◌<◌, Bool, List, [], ◌∷◌, ◌++◌, map, length, take, drop, get_or, Option, None, Some, option_map, slice_get, slice_index_or, refl, sym, ◌∙◌, ap, subst, arith, append_assoc, append-nil}
+use Rattle.std.proofs.Common.{◌≡◌, ◌≢◌, ℕ, ◌+◌, ◌<◌, Bool, true, false, cond, filter, List, [], ◌∷◌, ◌++◌, map, length, take, drop, get_or, Option, None, Some, option_map, slice_get, slice_index_or, refl, sym, ◌∙◌, ap, subst, arith, append_assoc, append-nil}
 use Rattle.std.specs.List.{AllByRecursion}
+use Rattle.std.proofs.lemmas.List.Elements.{filter-append}
 use Rattle.std.proofs.lemmas.List.{take_more, take-append-drop, length-take-le, length-append, length-map, get_or-map}
 use Rattle.jc_exec.specs.declared.hits.ClassHits.{ClassHits}
 use Rattle.jc_exec.specs.Format.{Block, class}
 use Rattle.jc_exec.specs.Refusing.{OneOfEachId, blocks_of}
 use Rattle.jc_exec.specs.Store.{Store, IsNew}
 use Rattle.jc_exec.specs.Union.{IsUnion}
+use Rattle.jc_exec.specs.Writing.{is_hit}
 use Rattle.jc_exec.proofs.StoringLaws.{own_union}
 use Rattle.jc_exec.proofs.UnionLaws.{union_class, one_union}
 use Rattle.jc_programs.specs.declared.program.Linked.{Linked}
@@ -75,6 +77,16 @@ none_before xs (d ∷ front) c ys id apart has = (
     shorter : (zs : List Linked) → length zs < length (zs ++ d ∷ front)
     shorter zs = let l = length-append zs (d ∷ front) in omega (arith, l)
 
+-- ---- the records that have a hit
+
+new_among : (id : ℕ) (cs : List ClassHits) → IsNew id cs → IsNew id (filter is_hit cs)
+new_among id [] new = tt
+new_among id (c ∷ cs) new = by (is_hit c) (new_among id cs new.1)
+  where
+    by : (t : Bool) → IsNew id (filter is_hit cs) → IsNew id (cond t (c ∷ filter is_hit cs) (filter is_hit cs))
+    by true rest = (new.0, rest)
+    by false rest = rest
+
 -- ---- the loop
 
 module _ (hits : List (List Bool)) (cs : List Linked) (i : ℕ) (c : Linked) (within : i < length cs) (is : c ≡ get_or cs i c) (apart : NoPair (HaveOneId cs)) where
@@ -90,28 +102,41 @@ module _ (hits : List (List Bool)) (cs : List Linked) (i : ℕ) (c : Linked) (wi
       ∙ ap (λ (n : ℕ). set_records hits 0 (take i cs) ++ with_set hits n c c.probes []) (let l = length-take-le i cs (omega (arith, within)) in omega (arith, l))
 
   -- the record of the class is the first of its id
-  pub is_new : (init : ProbeInit) → c.probes ≡ Some init → IsNew init.id (set_records hits 0 (take i cs))
+  pub is_new : (init : ProbeInit) → c.probes ≡ Some init → IsNew init.id (filter is_hit (set_records hits 0 (take i cs)))
   is_new init has =
-      new_of hits 0 (take i cs) init.id
-      (none_before [] (take i cs) c (drop (i + 1) cs) init.id (subst (λ (l : List Linked). NoPair (HaveOneId l)) parts_at apart) (ap (option_map (λ (p : ProbeInit). p.id)) has))
+      new_among init.id (set_records hits 0 (take i cs))
+      (new_of hits 0 (take i cs) init.id
+      (none_before [] (take i cs) c (drop (i + 1) cs) init.id (subst (λ (l : List Linked). NoPair (HaveOneId l)) parts_at apart) (ap (option_map (λ (p : ProbeInit). p.id)) has)))
 
-  pub none_put : (store : List ClassHits) → c.probes ≡ None → store ≡ set_records hits 0 (take i cs) → store ≡ set_records hits 0 (take (i + 1) cs)
-  none_put store none so_far = so_far ∙ sym (more ∙ ap (λ (o : Option ProbeInit). set_records hits 0 (take i cs) ++ with_set hits i c o []) none ∙ append-nil (set_records hits 0 (take i cs)))
+  pub none_put : (store : List ClassHits) → c.probes ≡ None → store ≡ filter is_hit (set_records hits 0 (take i cs))
+      → store ≡ filter is_hit (set_records hits 0 (take (i + 1) cs))
+  none_put store none so_far =
+      so_far
+      ∙ ap (filter is_hit)
+      (sym (more ∙ ap (λ (o : Option ProbeInit). set_records hits 0 (take i cs) ++ with_set hits i c o []) none ∙ append-nil (set_records hits 0 (take i cs))))
 
-  pub record_put : (old new : List ClassHits) (init : ProbeInit) → c.probes ≡ Some init → old ≡ set_records hits 0 (take i cs) → new ≡ old
-      ++ set_record hits i c init ∷ [] → new ≡ set_records hits 0 (take (i + 1) cs)
+  pub record_put : (old new : List ClassHits) (init : ProbeInit) → c.probes ≡ Some init → old ≡ filter is_hit (set_records hits 0 (take i cs))
+      → new ≡ old ++ filter is_hit (set_record hits i c init ∷ []) → new ≡ filter is_hit (set_records hits 0 (take (i + 1) cs))
   record_put old new init has so_far grows =
-      grows ∙ ap (λ (l : List ClassHits). l ++ set_record hits i c init ∷ []) so_far
-      ∙ sym (more ∙ ap (λ (o : Option ProbeInit). set_records hits 0 (take i cs) ++ with_set hits i c o []) has)
+      grows ∙ ap (λ (l : List ClassHits). l ++ filter is_hit (set_record hits i c init ∷ [])) so_far
+      ∙ sym (ap (filter is_hit) (more ∙ ap (λ (o : Option ProbeInit). set_records hits 0 (take i cs) ++ with_set hits i c o []) has)
+      ∙ filter-append is_hit (set_records hits 0 (take i cs)) (set_record hits i c init ∷ []))
 
 -- one more record of a new id
-pub one_more : (cs : List ClassHits) (c : ClassHits) → OneOfEachId cs → IsNew c.id cs → OneOfEachId (cs ++ c ∷ [])
+one_more : (cs : List ClassHits) (c : ClassHits) → OneOfEachId cs → IsNew c.id cs → OneOfEachId (cs ++ c ∷ [])
 one_more [] c one new = (tt, tt)
 one_more (d ∷ cs) c one new = (apart cs one.0 (λ same. new.0 (sym same)), one_more cs c one.1 new.1)
   where
     apart : (xs : List ClassHits) → IsNew d.id xs → d.id ≢ c.id → IsNew d.id (xs ++ c ∷ [])
     apart [] fresh other = (other, tt)
     apart (x ∷ xs) fresh other = (fresh.0, apart xs fresh.1 other)
+
+pub one_more_hit : (cs : List ClassHits) (c : ClassHits) → OneOfEachId cs → IsNew c.id cs → OneOfEachId (cs ++ filter is_hit (c ∷ []))
+one_more_hit cs c one new = by (is_hit c)
+  where
+    by : (t : Bool) → OneOfEachId (cs ++ cond t (c ∷ []) [])
+    by true = one_more cs c one new
+    by false = subst OneOfEachId (sym (append-nil cs)) one
 
 -- a class has as many truth values as probes
 pub count_at : (hits : List (List Bool)) (cs : List Linked) (i : ℕ) (c : Linked) (init : ProbeInit) → map length hits ≡ counts_in cs → i < length cs → c ≡ get_or cs i c → c.probes ≡ Some init

@@ -1,8 +1,9 @@
 -- What programs without frames have in common with the programs that they are of.
 use Rattle.std.proofs.Common.{◌≡◌, ℕ, ◌+◌, Bool, not, is_some, List, [], ◌∷◌, map, Option, None, Some, refl, ap, ap₂, sym, ◌∙◌}
-use Rattle.std.specs.List.{find}
+use Rattle.std.specs.List.{find, filter}
 use Rattle.jc_exec.specs.declared.hits.ClassHits.{ClassHits}
 use Rattle.jc_exec.specs.Store.{Store}
+use Rattle.jc_exec.specs.Writing.{is_hit}
 use Rattle.jc_methods.specs.declared.body.Body.{Body}
 use Rattle.jc_methods.specs.VerificationTypes.{Names}
 use Rattle.jc_emit.specs.TwinBodies.{AreSameBodies}
@@ -64,7 +65,8 @@ same_records hits k (c ∷ classes) = by c.probes ∙ ap (with_record hits k c c
 pub same_store : (p : Program) (plan : RunPlan) → run_store (frameless p) plan ≡ run_store p plan
 same_store p plan =
     ap (λ (cs : List ClassHits). let s : Store = record { sessions = []; classes = cs } in s)
-    (ap (λ (hits : List Hit). hit_records hits 0 (frameless p).classes) (same_hits p plan) ∙ same_records (hits_of p plan) 0 p.classes)
+    (ap (λ (hits : List Hit). filter is_hit (hit_records hits 0 (frameless p).classes)) (same_hits p plan)
+    ∙ ap (filter is_hit) (same_records (hits_of p plan) 0 p.classes))
 
 pub same_without : (p : Program) (threads : List ThreadLine) → first_without (frameless p) threads ≡ first_without p threads
 same_without p threads = ap (λ (t : ThreadLine → Bool). find t threads) (λ i thread. not (is_some (same_entry p thread i)))

@@ -1,8 +1,9 @@
 -- The execution data of hits that are kept as truth values.
-use Rattle.std.specs.Prelude.{◌≡◌, ◌≤◌, ℕ, ◌+◌, Bool, List, [], ◌∷◌, ◌++◌, length, map, Option, Some, None, slice_index_or, All}
+use Rattle.std.specs.Prelude.{◌≡◌, ◌≤◌, ℕ, ◌+◌, Bool, List, [], ◌∷◌, ◌++◌, length, map, Option, Some, None, slice_index_or, All, filter}
 use Rattle.jc_bytes.specs.Modified.{IsModified}
 use Rattle.jc_exec.specs.declared.hits.ClassHits.{ClassHits}
 use Rattle.jc_exec.specs.Store.{Store}
+use Rattle.jc_exec.specs.Writing.{is_hit}
 use Rattle.jc_programs.specs.declared.program.Program.{Program}
 use Rattle.jc_programs.specs.declared.program.Linked.{Linked}
 use Rattle.jc_programs.specs.declared.program.ProbeInit.{ProbeInit}
@@ -43,3 +44,8 @@ pub record FitRecords (program : Program) : Type 0 where
 pub record AddsLast (c : ClassHits) (old new : Store) : Type 0 where
   pub sessions : new.sessions ≡ old.sessions
   pub classes : new.classes ≡ old.classes ++ c ∷ []
+
+-- the record was put last, if it has a hit
+pub record AddsIfHit (c : ClassHits) (old new : Store) : Type 0 where
+  pub sessions : new.sessions ≡ old.sessions
+  pub classes : new.classes ≡ old.classes ++ filter is_hit (c ∷ [])

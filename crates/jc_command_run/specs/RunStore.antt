@@ -1,5 +1,5 @@
 -- The execution data of a run plan, and the threads that it begins with.
-use Rattle.std.specs.Prelude.{ℕ, ◌+◌, Bool, ◌&&◌, not, List, [], ◌∷◌, map, Option, Some, None, is_some, nat_eq, find}
+use Rattle.std.specs.Prelude.{ℕ, ◌+◌, Bool, ◌&&◌, not, List, [], ◌∷◌, map, Option, Some, None, is_some, nat_eq, find, filter}
 use Rattle.std.specs.List.{flat_map, list_any, range_with_len}
 use Rattle.jc_programs.specs.declared.program.Program.{Program}
 use Rattle.jc_programs.specs.declared.program.Linked.{Linked}
@@ -10,6 +10,7 @@ use Rattle.jc_programs.specs.declared.run_plan.ThreadLine.{ThreadLine}
 use Rattle.jc_programs.specs.Entries.{entry_of}
 use Rattle.jc_exec.specs.declared.hits.ClassHits.{ClassHits}
 use Rattle.jc_exec.specs.Store.{Store}
+use Rattle.jc_exec.specs.Writing.{is_hit}
 use Rattle.jc_machine_model.specs.Run.{hits_of}
 use Rattle.jc_machine_model.specs.World.{Hit}
 
@@ -46,6 +47,7 @@ abbrev pub hit_records : List Hit → (class : ℕ) → List Linked → List Cla
 hit_records hits class [] = []
 hit_records hits class (c ∷ classes) = with_record hits class c c.probes (hit_records hits (class + 1) classes)
 
--- what the cases of a run plan hit: no session, since there is no clock
+-- What the cases of a run plan hit, as a file of execution data holds it: the records that have a hit. No session, since there is no
+-- clock.
 abbrev pub run_store : Program → RunPlan → Store
-run_store program plan = record { sessions = []; classes = hit_records (hits_of program plan) 0 program.classes }
+run_store program plan = record { sessions = []; classes = filter is_hit (hit_records (hits_of program plan) 0 program.classes) }

@@ -28,8 +28,8 @@ pub struct Ran {
 
 /// Runs the cases of a run plan on so many workers.
 ///
-/// The execution data has no session, and a record for each class with probes, in the order of the classes. The text has the
-/// text of each case under its number, from 1, in the run plan's order. Neither depends on the number of workers, nor on when a
+/// The execution data has no session, and a record for each class of which a probe was hit, in the order of the classes. The text
+/// has the text of each case under its number, from 1, in the run plan's order. Neither depends on the number of workers, nor on when a
 /// worker runs.
 ///
 /// # Errors

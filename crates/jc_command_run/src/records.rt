@@ -1,10 +1,12 @@
 //! The execution data of hits.
-ghost use Rattle.std.specs.Prelude.{◌≡◌, ◌<◌, ◌≤◌, ◌^◌, [], length, map, slice_index_or, IfOk, OnOk};
+ghost use Rattle.std.specs.Prelude.{◌≡◌, ◌<◌, ◌≤◌, ◌^◌, [], filter, length, map, slice_index_or, IfOk, OnOk};
+ghost use Rattle.std.specs.List.{list_any};
 ghost use Rattle.jc_bytes.specs.Modified.{IsModified};
 ghost use Rattle.jc_exec.specs.Refusing.{OneOfEachId};
 ghost use Rattle.jc_exec.specs.Store.{IsNew};
+ghost use Rattle.jc_exec.specs.Writing.{is_hit};
 ghost use Rattle.jc_programs.specs.Probes.{counts_of};
-ghost use Rattle.jc_command_run.specs.HitStore.{set_record, set_records, counts_in, FitRecords, AddsLast};
+ghost use Rattle.jc_command_run.specs.HitStore.{set_record, set_records, counts_in, FitRecords, AddsIfHit, AddsLast};
 
 use jc_bytes::{Bytes, List, Memory};
 use jc_exec::{Bits, ClassHits, ExecStore};
@@ -12,7 +14,7 @@ use jc_programs::{HitSet, Linked, ProbeInit, Program};
 use std::alloc::Global;
 
 /// The truth values of a class.
-fn bits_of(alloc: Global, hits: &HitSet, class: u32, count: u32) -> Result<Bits, Memory>
+fn bits_of(alloc: Global, hits: &HitSet, class: u32, count: u32) -> Result<List<bool>, Memory>
     requires class { class < length hits.now }
     requires count { count ≡ length (slice_index_or hits.now class []) }
     ensures { IfOk result (λ bits. bits ≡ slice_index_or hits.now class []) }
@@ -21,7 +23,7 @@ fn bits_of(alloc: Global, hits: &HitSet, class: u32, count: u32) -> Result<Bits,
     'copying: for id in 0..count {
         bits.push(hits.get(class, id))?;
     }
-    Bits::new(alloc, &bits)
+    Ok(bits)
 }
 
 /// Puts the record of a class into a store that has none of its id.
@@ -37,7 +39,14 @@ fn add(alloc: Global, store: &mut ExecStore, class_hits: &ClassHits) -> Result<(
     }
 }
 
-/// Puts the record of a class with probes into a store.
+/// Whether a probe was hit.
+fn has_hit(bits: &[bool]) -> bool
+    ensures { result ≡ list_any (λ b. b) bits.now }
+{
+    bits.iter().any(|bit| *bit)
+}
+
+/// Puts the record of a class with probes into a store, if it has a hit.
 fn put_record(
     alloc: Global,
     store: &mut ExecStore,
@@ -51,23 +60,27 @@ fn put_record(
     requires few { init.count ≤ 65535 }
     requires short { length class.now.name ≤ 65535 }
     requires text { IsModified class.now.name }
-    ensures { OnOk result (OneOfEachId store.old.classes → IsNew init.id store.old.classes → AddsLast (set_record hits.now number class.now init) store.old store.new) }
+    ensures { OnOk result (OneOfEachId store.old.classes → IsNew init.id store.old.classes → AddsIfHit (set_record hits.now number class.now init) store.old store.new) }
 {
+    let bits = bits_of(alloc, hits, number, init.count)?;
+    if !has_hit(&bits) {
+        return Ok(());
+    }
     let class_hits = ClassHits {
         id: init.id,
         name: Bytes::copy_of(alloc, &class.name)?,
-        bits: bits_of(alloc, hits, number, init.count)?,
+        bits: Bits::new(alloc, &bits)?,
     };
     add(alloc, store, &class_hits)
 }
 
-/// A store with a record for each class of a program that has probes, in the order of the classes: it has the id and the name
-/// of the class, and says of each probe whether it was hit.
+/// A store with a record for each class of a program of which a probe was hit, in the order of the classes: it has the id and the
+/// name of the class, and says of each probe whether it was hit.
 pub fn hit_store(alloc: Global, program: &Program, hits: &HitSet) -> Result<ExecStore, Memory>
     requires counts { counts_of hits.now ≡ counts_in program.now.classes }
     requires few { length program.now.classes < 2 ^ 32 }
     requires fits { FitRecords program.now }
-    ensures { IfOk result (λ store. store ≡ record { sessions = []; classes = set_records hits.now 0 program.now.classes }) }
+    ensures { IfOk result (λ store. store ≡ record { sessions = []; classes = filter is_hit (set_records hits.now 0 program.now.classes) }) }
 {
     let mut store = ExecStore::new(alloc)?;
     'storing: for number in 0..program.classes.len() {

@@ -14,7 +14,7 @@ use Rattle.jc_command_work.proofs.ListedLaws.{listed, is_listing}
 use Rattle.jc_command_work.proofs.Reaching.{was_decided}
 use Rattle.jc_headline.specs.CoverWork.{LookedFile, AreLooked, all_file_writes, instrumenting}
 use Rattle.jc_headline.specs.CoverRun.{AreRead}
-use Rattle.jc_headline.specs.FitCover.{named_by, named_paths}
+use Rattle.jc_headline.specs.Named.{named_by, named_paths}
 
 module _ (landed : Landed) where
   pub was_given : {X : Type 0} (w : Outside) (x : X) → CameTo landed (giving x) w w (gives x)

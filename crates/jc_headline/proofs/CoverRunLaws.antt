@@ -16,6 +16,7 @@ use Rattle.jc_command_work.specs.Prefix.{after_writes}
 use Rattle.jc_command_run.specs.RunAnswers.{IsPlanEnd, IsRunProgram}
 use Rattle.jc_command_run.specs.RunStore.{run_store}
 use Rattle.jc_headline.specs.CoverWork.{Cover, LookedFile, all_file_writes, accepted, accepted_texts, texts_in, targets, EndsAmongAll, IsLinkEnd, HaveEntries, IsEntryEnd, IsReportText, IsClashEnd, instrumenting, running, cover_work}
+use Rattle.jc_headline.specs.Named.{AreNamed}
 use Rattle.jc_headline.specs.CoverRun.{AreRead, AreDistinct, CoverRun}
 use Rattle.jc_headline.proofs.PartLaws.{IsDone, IsDoneIn, quiet_reading, quiet_writing, quiet_deciding, quiet_reading_all, quiet_files, quiet_instrumenting, both, through, deciding_over, reading_over, writing_over, reading_all_over, files_over, instrumenting_over}
 
@@ -170,7 +171,7 @@ module _ (landed : Landed) (c : Cover) where
   moved old new new' same run = subst (λ (w : Outside). Run old w) (sym same) run
 
   module _ (old : Outside) (plan_text : List ℕ) (plan_read : IsRead old.contents c.plan plan_text) where
-    module _ (paths : List Word) (distinct : AreDistinct paths) where
+    module _ (paths : List Word) (distinct : AreDistinct paths) (named : AreNamed old.contents c.files paths) where
       instrument_over : (read : List (List ℕ)) → AreRead old.contents paths read → (plan : RunPlan) → IsPlanText plan_text plan → (steps : List Step)
           → IsDoneIn landed (instrument_part c plan paths read) old steps → Run old (after landed old steps)
       instrument_over read files_read plan is_plan steps (is, fits) =
@@ -185,6 +186,7 @@ module _ (landed : Landed) (c : Cover) where
             plan_text = plan_text;
             plan_read = plan_read;
             paths = paths;
+            named = named;
             distinct = distinct;
             read = read;
             files_read = files_read;
@@ -226,9 +228,9 @@ module _ (landed : Landed) (c : Cover) where
     list_over steps (is, fits) =
         let rest = λ (paths : List Word). reading_all paths >>= (λ read. look_part c plan_text paths read) in
         let b = both landed (files_of c.files) rest old steps (stops done) (through (files_of c.files) rest steps (quiet_files c.files) is) fits in
-        let (distinct, left) = files_over landed old c.files b.value b.front b.first b.fits in
+        let ((distinct, named), left) = files_over landed old c.files b.value b.front b.first b.fits in
         moved old (after landed old b.behind) (after landed old steps) (b.stands ∙ ap (λ (v : Outside). after landed v b.behind) left)
-        (read_over b.value distinct b.behind (b.next, subst (λ (v : Outside). Fit landed v b.behind) left b.fits'))
+        (read_over b.value distinct named b.behind (b.next, subst (λ (v : Outside). Fit landed v b.behind) left b.fits'))
 
   -- for every `landed`, what ran is what was read back
   pub cover_ran : (old new : Outside) → CameTo landed (cover_work c) old new (stops done) → CoverRun landed c old new

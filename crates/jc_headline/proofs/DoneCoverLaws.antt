@@ -12,12 +12,10 @@ use Rattle.jc_link_programs.specs.Linking.{IsProgramOf}
 use Rattle.jc_link_laws.specs.TwinFiles.{AreWrittenOf, IsShortFile}
 use Rattle.jc_link_laws.proofs.TwinLinkLaws.{twin_program}
 use Rattle.jc_command_work.specs.Step.{Word, Outside, Landed, Step, Fit, IsRead}
-use Rattle.jc_command_work.specs.Part.{done, gives, stops, deciding, reading, reading_all, ◌>>=◌}
+use Rattle.jc_command_work.specs.Part.{done, stops, deciding, reading, reading_all, ◌>>=◌}
 use Rattle.jc_command_work.specs.Ending.{CameTo}
 use Rattle.jc_command_work.specs.Folders.{files_of}
 use Rattle.jc_command_work.specs.Prefix.{after_writes}
-use Rattle.jc_command_work.proofs.AnsweredLaws.{has_files}
-use Rattle.jc_command_work.proofs.OneWork.{same_value}
 use Rattle.jc_command_work.proofs.Prefix.{done_means}
 use Rattle.jc_command_run.specs.RunAnswers.{IsPlanEnd, IsRunProgram}
 use Rattle.jc_command_run.specs.RunStore.{threads_of, first_without}
@@ -31,9 +29,10 @@ use Rattle.jc_headline.proofs.OriginalLaws.{all_written_of, all_short, original_
 use Rattle.jc_headline.proofs.PartLaws.{IsDoneIn, quiet_reading, quiet_deciding, quiet_reading_all, quiet_files, quiet_instrumenting, both, through, deciding_over, reading_over, reading_all_over, files_over, instrumenting_over}
 use Rattle.jc_headline.proofs.RunMeaningLaws.{files_short}
 use Rattle.jc_headline.proofs.WriteLaws.{all_targets, contents_after, map_after, stand, same_back}
-use Rattle.jc_headline.specs.FitCover.{IsFitCover, IsShort, named_paths, DoneCoversFit}
+use Rattle.jc_headline.specs.Named.{named_paths, AreNamed}
+use Rattle.jc_headline.specs.FitCover.{IsFitCover, IsShort, DoneCoversFit}
 use Rattle.jc_headline.proofs.AgainLaws.{same_first}
-use Rattle.jc_headline.proofs.CameLaws.{were_files}
+use Rattle.jc_headline.proofs.NamedLaws.{named_are}
 use Rattle.jc_headline.proofs.NeedLaws.{not_again}
 use Rattle.jc_headline.proofs.StoredLaws.{bytes_written}
 
@@ -184,22 +183,13 @@ module _ (c : Cover) (old : Outside) (m : FileMap) (told : old.contents ≡ Some
         let (files_read, left) = reading_all_over as_written old paths d.value d.front d.first d.fits in
         look_fits distinct d.value files_read d.behind (d.next, subst (λ (v : Outside). Fit as_written v d.behind) left d.fits')
 
-    -- the words name one list of paths
-    one_named : (ps : List Word) (steps : List Step) → files_of c.files steps (gives ps) → Fit as_written old steps → ps ≡ paths
-    one_named ps steps is fits =
-        let way = has_files as_written c.files old (m, told) in
-        let came = were_files as_written old m told c.files in
-        let mine = way.only steps (gives ps) tt is fits in
-        let theirs = way.only came.steps (gives paths) tt came.comes came.fit in
-        same_value ps paths (mine.1 ∙ sym theirs.1)
-
     list_fits : (steps : List Step) → IsDoneIn as_written (files_of c.files >>= (λ ps. reading_all ps >>= (λ read. look_part c plan_text ps read))) old steps
         → IsFitCover c old
     list_fits steps (is, fits) =
         let rest = λ (ps : List Word). reading_all ps >>= (λ read. look_part c plan_text ps read) in
         let b = both as_written (files_of c.files) rest old steps (stops done) (through (files_of c.files) rest steps (quiet_files c.files) is) fits in
-        let (distinct, left) = files_over as_written old c.files b.value b.front b.first b.fits in
-        let named = one_named b.value b.front b.first b.fits in
+        let ((distinct, are), left) = files_over as_written old c.files b.value b.front b.first b.fits in
+        let named = named_are m c.files b.value (subst (λ (o : Option FileMap). AreNamed o c.files b.value) told are) in
         read_fits (subst AreDistinct named distinct) b.behind
         (subst (λ (ps : List Word). rest ps b.behind (stops done)) named b.next, subst (λ (v : Outside). Fit as_written v b.behind) left b.fits')
 

@@ -45,10 +45,12 @@ use Rattle.jc_headline.proofs.OriginalLaws.{all_written_of, all_short}
 use Rattle.jc_headline.proofs.PartLaws.{files_over}
 use Rattle.jc_headline.proofs.RunMeaningLaws.{files_short}
 use Rattle.jc_headline.proofs.WriteLaws.{all_targets, contents_after, map_after, stand}
-use Rattle.jc_headline.specs.FitCover.{IsFitCover, named_paths, FitCoversHaveWork, FitCoversAreDone, HasHeadline}
+use Rattle.jc_headline.specs.Named.{named_paths, AreNamed}
+use Rattle.jc_headline.specs.FitCover.{IsFitCover, FitCoversHaveWork, FitCoversAreDone, HasHeadline}
 use Rattle.jc_headline.proofs.AgainLaws.{linked_again, same_first}
 use Rattle.jc_headline.proofs.CameLaws.{was_done, was_read, were_read, was_written, was_instrumented, were_files, writes-append}
 use Rattle.jc_headline.proofs.FitReportLaws.{counts_of, none_clashes}
+use Rattle.jc_headline.proofs.NamedLaws.{are_named}
 use Rattle.jc_headline.proofs.StoredLaws.{bytes_written, short_files, read_back}
 
 -- a run all of whose steps were made ends as its work does
@@ -72,7 +74,7 @@ module _ (c : Cover) (old : Outside) (fit : IsFitCover c old) where
   named = were_files as_written old fit.contents fit.told c.files
 
   distinct : AreDistinct paths
-  distinct = (files_over as_written old c.files paths named.steps named.comes named.fit).0
+  distinct = (files_over as_written old c.files paths named.steps named.comes named.fit).0.0
 
   read_short : AllByRecursion IsShortFile fit.read
   read_short = files_short old.contents paths fit.read fit.files_read
@@ -216,6 +218,7 @@ module _ (c : Cover) (old : Outside) (fit : IsFitCover c old) where
     plan_text = fit.plan_text;
     plan_read = fit.plan_read;
     paths = paths;
+    named = subst (λ (o : Option FileMap). AreNamed o c.files paths) (sym fit.told) (are_named fit.contents c.files);
     distinct = distinct;
     read = fit.read;
     files_read = fit.files_read;
@@ -233,12 +236,12 @@ module _ (c : Cover) (old : Outside) (fit : IsFitCover c old) where
     stands = is ∙ sym (writes-append as_written old (all_file_writes c.dest fit.looked) behind);
   }
 
-  holds : (new : Outside) → new ≡ last → HasHeadline as_written c old new fit
-  holds new is = let r = run_of new is in (r, refl, refl, headline c old new fit.contents fit.told r)
+  holds : (new : Outside) → new ≡ last → c.exec ≢ c.csv → HasHeadline as_written c old new fit
+  holds new is other = let r = run_of new is in (r, refl, refl, headline c old new fit.contents fit.told r other)
 
-  is_done : EndsAsWork → (new : Outside) (f f' : Counts) (s : Status) → Ends as_written (cover_work c) old new f f' s → NoneRose f f' → s ≢ status.Memory
+  is_done : EndsAsWork → (new : Outside) (f f' : Counts) (s : Status) → c.exec ≢ c.csv → Ends as_written (cover_work c) old new f f' s → NoneRose f f' → s ≢ status.Memory
       → (s ≡ status.Done) × HasHeadline as_written c old new fit
-  is_done ends new f f' s is none not =
+  is_done ends new f f' s other is none not =
       let run : ToldRun as_written (cover_work c) = record {
         old = old;
         new = new;
@@ -251,7 +254,7 @@ module _ (c : Cover) (old : Outside) (fit : IsFitCover c old) where
         ends = is;
       } in
       let (same, (kept, stands)) = ends as_written c run none not in
-      (same, holds new (stands ∙ sym came.stand))
+      (same, holds new (stands ∙ sym came.stand) other)
 
 -- ---- where files read back as they were written
 
@@ -263,4 +266,4 @@ module _ (landed : Landed) (same : (path bytes : List ℕ) → landed path bytes
   each_has_work = subst FitCoversHaveWork (sym as_is) (λ c old fit. (work c old fit, is_work c old fit, refl))
 
   pub each_is_done : EndsAsWork → FitCoversAreDone landed
-  each_is_done ends = subst FitCoversAreDone (sym as_is) (λ c old new f f' s fit is none not. is_done c old fit ends new f f' s is none not)
+  each_is_done ends = subst FitCoversAreDone (sym as_is) (λ c old new f f' s fit other is none not. is_done c old fit ends new f f' s other is none not)

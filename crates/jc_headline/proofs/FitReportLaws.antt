@@ -1,5 +1,5 @@
 -- The records of a run of instrumented files clash with none of the originals.
-use Rattle.std.proofs.Common.{◌≡◌, ℕ, zero, suc, ◌+◌, Bool, true, nat_eq, List, [], ◌∷◌, length, Option, None, Some, refl, sym, ◌∙◌, ap, arith}
+use Rattle.std.proofs.Common.{◌≡◌, ℕ, zero, suc, ◌+◌, Bool, true, false, cond, nat_eq, List, [], ◌∷◌, length, Option, None, Some, refl, sym, ◌∙◌, ap, arith}
 use Rattle.std.specs.Prelude.{slice_get, bytes_eq, if◌then◌else◌}
 use Rattle.std.specs.List.{AllByRecursion}
 use Rattle.std.specs.Option.{option_or}
@@ -18,6 +18,7 @@ use Rattle.jc_exec.specs.declared.hits.ClassHits.{ClassHits}
 use Rattle.jc_exec.specs.declared.refusal.ExecRefusal.{ExecRefusal}
 use Rattle.jc_exec.specs.Answers.{conflict_with}
 use Rattle.jc_exec.specs.Union.{fits}
+use Rattle.jc_exec.specs.Writing.{is_hit as has_hit}
 use Rattle.jc_link_programs.specs.Linking.{AreLinkedClasses}
 use Rattle.jc_link_programs.specs.Pairs.{HaveOneId, NoPair}
 use Rattle.jc_link_laws.specs.TwinFiles.{AreWrittenOf, IsShortFile}
@@ -26,7 +27,7 @@ use Rattle.jc_machine_model.specs.Run.{hits_of}
 use Rattle.jc_command_classes.specs.Report.{ReportedFile, refused_class, unchanged_class, changed_class, IsItem, is_refused, is_unchanged, is_changed, AreItems, record_of, clash_with, clash_of, first_clash}
 use Rattle.jc_command_run.specs.RunStore.{is_hit_in, hit_record, run_store}
 use Rattle.jc_headline.proofs.FactLaws.{ChangedFacts, FileFacts, AreFacts}
-use Rattle.jc_headline.proofs.RowLaws.{record_there}
+use Rattle.jc_headline.proofs.RecordLaws.{hit_there}
 
 -- ---- the probes of an original, and the name of its twin
 
@@ -72,15 +73,12 @@ module _ (after : Program) (plan : RunPlan) (ids : NoPair (HaveOneId after.class
     abbrev own : ClassHits
     own = hit_record (hits_of after plan) k n f.init
 
-    record_is : record_of records a.id ≡ Some own
-    record_is =
-        let e : 0 + k ≡ k = omega arith in
-        ap (record_of records) (sym f.id) ∙ record_there (hits_of after plan) 0 after.classes ids k n f.init at f.probes
-        ∙ ap (λ (j : ℕ). Some (hit_record (hits_of after plan) j n f.init)) e
+    record_is : record_of records a.id ≡ cond (has_hit own) (Some own) None
+    record_is = ap (record_of records) (sym f.id) ∙ hit_there (hits_of after plan) after.classes ids k n f.init at f.probes
 
-    -- the record of a changed class fits it
+    -- the record of a changed class fits it, if there is one
     record_fits : n.name ≡ l.name → a.probes ≡ all_probes a.bodies → clash_with a (record_of records a.id) ≡ None
-    record_fits named counted = ap (clash_with a) record_is ∙ ap (λ (t : Bool). if t then None else Some (conflict_with own a.id a.name a.probes)) fits_it
+    record_fits named counted = ap (clash_with a) record_is ∙ by (has_hit own)
       where
         count : length own.bits ≡ a.probes
         count =
@@ -90,6 +88,10 @@ module _ (after : Program) (plan : RunPlan) (ids : NoPair (HaveOneId after.class
         fits_it =
             and_from (bytes_eq own.name a.name) (nat_eq (length own.bits) a.probes) ((bytes_eq-Decides own.name a.name).1 (named ∙ sym f.name))
             (eq-eqb (length own.bits) a.probes count)
+
+        by : (t : Bool) → clash_with a (cond t (Some own) None) ≡ None
+        by true = ap (λ (t : Bool). if t then None else Some (conflict_with own a.id a.name a.probes)) fits_it
+        by false = refl
 
   pub none_clashes : (k : ℕ) (ls ns : List Linked) (items : List ReportedFile) → ((i : ℕ) (n : Linked) → slice_get ns i ≡ Some n → slice_get after.classes (k + i) ≡ Some n)
       → AreFacts ls ns items → AreCounts ls ns items → first_clash records items ≡ None

@@ -38,7 +38,7 @@ range_at f a (suc n) (suc i) d less =
 pub first_range_at : {X : Type 0} (f : ℕ → X) (n i : ℕ) (d : X) → i < n → slice_index_or (map f (range_with_len 0 n)) i d ≡ f i
 first_range_at f n i d less = let e : 0 + i ≡ i = omega arith in range_at f 0 n i d less ∙ ap f e
 
-range_behind : {X : Type 0} (f : ℕ → X) (a n i : ℕ) (d : X) → n ≤ i → slice_index_or (map f (range_with_len a n)) i d ≡ d
+pub range_behind : {X : Type 0} (f : ℕ → X) (a n i : ℕ) (d : X) → n ≤ i → slice_index_or (map f (range_with_len a n)) i d ≡ d
 range_behind f a zero i d more = refl
 range_behind f a (suc n) zero d more = absurd (omega (arith, more))
 range_behind f a (suc n) (suc i) d more = range_behind f (a + 1) n i d (omega (arith, more))

@@ -1,5 +1,6 @@
 pub mod DistinctLaws
 pub mod PartLaws
+pub mod NamedLaws
 pub mod CoverRunLaws
 pub mod WriteLaws
 pub mod OriginalLaws
@@ -7,7 +8,9 @@ pub mod EntryLaws
 pub mod RunMeaningLaws
 pub mod HitLaws
 pub mod FactLaws
+pub mod RecordLaws
 pub mod RowLaws
+pub mod PassedLaws
 pub mod HeadlineLaws
 pub mod OneCoverLaws
 pub mod OwnEndLaws

@@ -2,12 +2,14 @@
 use Rattle.std.proofs.Common.{◌≡◌, ℕ, List, [], ◌∷◌, ◌++◌, inl, inr, refl, sym, ◌∙◌, ap, subst}
 use Rattle.jc_command_work.specs.Step.{Word, Outside, Landed, Write, to_read, to_list, to_write, Step, has_read, has_no, has_listed, has_written, Fit, after, after_write, IsRead}
 use Rattle.jc_command_work.specs.Part.{End, done, refused, misused, unread, unwritten, unprinted, Outcome, wants, gives, stops, Part, Command, giving, deciding, making, never, reading, listing, writing, reading_all, writing_all, Hands, ◌>>=◌}
+use Rattle.jc_outside.specs.Outside.{IsListing}
 use Rattle.jc_paths.specs.Paths.{FileText, plain, folder}
 use Rattle.jc_command_work.specs.Folders.{all_paths, paths_of, files_of, once}
 use Rattle.jc_command_work.specs.Prefix.{after_writes}
 use Rattle.jc_command_work.proofs.Behind.{after-append, fit_front, fit_behind}
 use Rattle.jc_command_work.proofs.OneWork.{same_value, not_gives}
 use Rattle.jc_headline.specs.CoverWork.{LookedFile, AreLooked, instrumenting, all_file_writes}
+use Rattle.jc_headline.specs.Named.{IsNamedBy, AreNamedBy, AreNamed}
 use Rattle.jc_headline.specs.CoverRun.{AreRead, AreDistinct}
 use Rattle.jc_headline.proofs.DistinctLaws.{distinct_once}
 
@@ -117,13 +119,16 @@ module _ (landed : Landed) (w : Outside) where
   reading_over path text (has_listed p b ∷ ss) is fits = absurd is
   reading_over path text (has_written v ∷ ss) is fits = absurd is
 
-  listing_over : (path : Word) (ps : List Word) (steps : List Step) → listing path steps (gives ps) → Left steps
-  listing_over path ps [] is = absurd (not_gives ps (wants (to_list path)) is tt)
-  listing_over path ps (has_listed f qs ∷ []) is = refl
-  listing_over path ps (has_listed f qs ∷ s ∷ ss) is = absurd is
-  listing_over path ps (has_read p b ∷ ss) is = absurd is
-  listing_over path ps (has_no p ∷ ss) is = absurd is
-  listing_over path ps (has_written v ∷ ss) is = absurd is
+  listing_over : (path : Word) (ps : List Word) (steps : List Step) → listing path steps (gives ps) → Fit landed w steps → IsListing w.contents path ps × Left steps
+  listing_over path ps [] is fits = absurd (not_gives ps (wants (to_list path)) is tt)
+  listing_over path ps (has_listed f qs ∷ []) is fits = (
+    subst (IsListing w.contents path) (sym (same_value ps qs is.1)) (subst (λ (x : Word). IsListing w.contents x qs) is.0 fits.0),
+    refl,
+  )
+  listing_over path ps (has_listed f qs ∷ s ∷ ss) is fits = absurd is
+  listing_over path ps (has_read p b ∷ ss) is fits = absurd is
+  listing_over path ps (has_no p ∷ ss) is fits = absurd is
+  listing_over path ps (has_written v ∷ ss) is fits = absurd is
 
   pub writing_over : (write : Write) (u : Unit {0}) (steps : List Step) → writing write steps (gives u) → after landed w steps ≡ after_write landed w write
   writing_over write u [] is = absurd (not_gives u (wants (to_write write)) is tt)
@@ -133,9 +138,9 @@ module _ (landed : Landed) (w : Outside) where
   writing_over write u (has_no p ∷ ss) is = absurd is
   writing_over write u (has_listed f ps ∷ ss) is = absurd is
 
-  paths_over : (file : FileText) (ps : List Word) (steps : List Step) → paths_of file steps (gives ps) → Left steps
-  paths_over (plain path) ps steps is = (giving_over _ ps steps is).1
-  paths_over (folder path) ps steps is = listing_over _ ps steps is
+  paths_over : (file : FileText) (ps : List Word) (steps : List Step) → paths_of file steps (gives ps) → Fit landed w steps → IsNamedBy w.contents file ps × Left steps
+  paths_over (plain path) ps steps is fits = giving_over _ ps steps is
+  paths_over (folder path) ps steps is fits = listing_over _ ps steps is fits
 
 -- a part behind another: where the second begins, and what each did
 pub record Both {X Y : Type 0} (landed : Landed) (p : Part X) (q : X → Part Y) (w : Outside) (steps : List Step) (o : Outcome Y) : Type 0 where
@@ -196,23 +201,26 @@ module _ (landed : Landed) where
       let rest = writing_all_over (after_write landed w v) vs u a.behind a.next (subst (λ (x : Outside). Fit landed x a.behind) made a.fits') in
       a.stands ∙ ap (λ (x : Outside). after landed x a.behind) made ∙ rest
 
-  all_paths_over : (w : Outside) (files : List FileText) (ps : List Word) (steps : List Step) → all_paths files steps (gives ps) → Fit landed w steps → after landed w steps ≡ w
-  all_paths_over w [] ps steps is fits = (giving_over landed w [] ps steps is).1
+  all_paths_over : (w : Outside) (files : List FileText) (ps : List Word) (steps : List Step) → all_paths files steps (gives ps) → Fit landed w steps
+      → AreNamedBy w.contents files ps × (after landed w steps ≡ w)
+  all_paths_over w [] ps steps is fits = giving_over landed w [] ps steps is
   all_paths_over w (file ∷ files) ps steps is fits =
       let a = both landed (paths_of file) _ w steps (gives ps) (handed (paths_of file) _ steps ps is) fits in
-      let left = paths_over landed w file a.value a.front a.first in
+      let (here, left) = paths_over landed w file a.value a.front a.first a.fits in
       let fits' = subst (λ (v : Outside). Fit landed v a.behind) left a.fits' in
       let b = both landed (all_paths files) _ w a.behind (gives ps) (handed (all_paths files) _ a.behind ps a.next) fits' in
-      let left' = all_paths_over w files b.value b.front b.first b.fits in
-      let left'' = (giving_over landed (after landed w b.front) (a.value ++ b.value) ps b.behind b.next).1 in
-      a.stands ∙ ap (λ (v : Outside). after landed v a.behind) left ∙ b.stands ∙ left'' ∙ left'
+      let (more, left') = all_paths_over w files b.value b.front b.first b.fits in
+      let (same, left'') = giving_over landed (after landed w b.front) (a.value ++ b.value) ps b.behind b.next in
+      ((a.value, b.value, here, more, same), a.stands ∙ ap (λ (v : Outside). after landed v a.behind) left ∙ b.stands ∙ left'' ∙ left')
 
-  pub files_over : (w : Outside) (files : List FileText) (ps : List Word) (steps : List Step) → files_of files steps (gives ps) → Fit landed w steps → AreDistinct ps × (after landed w steps ≡ w)
+  -- the paths differ, and are those that the files name
+  pub files_over : (w : Outside) (files : List FileText) (ps : List Word) (steps : List Step) → files_of files steps (gives ps) → Fit landed w steps
+      → (AreDistinct ps × AreNamed w.contents files ps) × (after landed w steps ≡ w)
   files_over w files ps steps is fits =
       let a = both landed (all_paths files) _ w steps (gives ps) (handed (all_paths files) _ steps ps is) fits in
-      let left = all_paths_over w files a.value a.front a.first a.fits in
+      let (are, left) = all_paths_over w files a.value a.front a.first a.fits in
       let (same, left') = giving_over landed (after landed w a.front) (once [] a.value) ps a.behind a.next in
-      (subst AreDistinct (sym same) (distinct_once [] a.value), a.stands ∙ left' ∙ left)
+      ((subst AreDistinct (sym same) (distinct_once [] a.value), (a.value, are, same)), a.stands ∙ left' ∙ left)
 
   pub instrumenting_over : (w : Outside) (dest : Word) (paths : List Word) (read : List (List ℕ)) (l : List LookedFile) (steps : List Step)
       → instrumenting dest paths read steps (gives l) → Fit landed w steps

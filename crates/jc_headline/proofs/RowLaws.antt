@@ -3,14 +3,13 @@ use Rattle.std.proofs.Common.{◌≡◌, ◌⊎◌, inl, inr, ℕ, zero, suc, �
 use Rattle.std.specs.Prelude.{slice_get, slice_index_or, filter, option_map}
 use Rattle.std.specs.List.{sum_by}
 use Rattle.std.proofs.Math.Seq.{take-length}
-use Rattle.std.proofs.lemmas.Bool.{eq-eqb, eqb-true}
-use Rattle.std.proofs.lemmas.Option.{none-some, same_Some, slice_get_within}
+use Rattle.std.proofs.lemmas.Bool.{eqb-true}
+use Rattle.std.proofs.lemmas.Option.{slice_get_within}
 use Rattle.jc_bytes.proofs.BooleanLaws.{first_in, later_in, which_in, none_in}
 use Rattle.jc_methods.specs.declared.analysed.Analysed.{Analysed}
 use Rattle.jc_methods.specs.declared.body.Body.{Body}
 use Rattle.jc_programs.specs.declared.program.Program.{Program}
 use Rattle.jc_programs.specs.declared.program.Linked.{Linked}
-use Rattle.jc_programs.specs.declared.program.ProbeInit.{ProbeInit}
 use Rattle.jc_programs.specs.declared.run_plan.RunPlan.{RunPlan}
 use Rattle.jc_programs.specs.declared.run_end.Entry.{Entry}
 use Rattle.jc_plan.specs.declared.branch.Branch.{Branch}
@@ -21,23 +20,29 @@ use Rattle.jc_plan.proofs.OneWayLaws.{firsts_rise}
 use Rattle.jc_emit.specs.Marks.{Marks}
 use Rattle.jc_twin_programs.specs.TwinProgram.{TwinProgram}
 use Rattle.jc_cover.specs.declared.coverage.Coverage.{Coverage}
-use Rattle.jc_cover.specs.Covered.{is_hit, IsChain, Covered, TellsCovered}
+use Rattle.jc_cover.specs.Covered.{is_hit, hits_or_none, IsChain, Covered, TellsCovered}
 use Rattle.jc_cover.specs.Marking.{coverage_of}
 use Rattle.jc_cover.proofs.CoverageLaws.{tells}
 use Rattle.jc_exec.specs.declared.hits.ClassHits.{ClassHits}
+use Rattle.jc_exec.specs.Writing.{is_hit as has_hit}
+use Rattle.jc_pool.specs.Lookup.{class_name_of}
+use Rattle.jc_class.specs.ClassId.{class_id}
+use Rattle.jc_class.specs.ClassText.{ClassText}
+use Rattle.jc_class.specs.declared.class_file.ClassFile.{ClassFile}
+use Rattle.jc_instrument.specs.Analysis.{super_name_of}
 use Rattle.jc_report.specs.declared.row.Counted.{Counted}
 use Rattle.jc_link_programs.specs.Pairs.{HaveOneId, NoPair, id_of as class_id_of}
 use Rattle.jc_machine_model.specs.Methods.{declares_init}
 use Rattle.jc_machine_model.specs.Run.{hits_of}
-use Rattle.jc_machine_model.specs.World.{Hit}
 use Rattle.jc_twin_simulation.specs.Marking.{AreMarks}
 use Rattle.jc_twin_exact.specs.Exact.{HaveEntries}
 use Rattle.jc_twin_exact.proofs.ReportedLaws.{reported_edges}
-use Rattle.jc_command_classes.specs.Report.{ReportedFile, refused_class, unchanged_class, changed_class, changed_of, record_of, first_of_each_id, hits_of as hits_in, frameless}
+use Rattle.jc_command_classes.specs.Report.{ReportedFile, refused_class, unchanged_class, changed_class, IsItem, is_refused, is_unchanged, is_changed, AreItems, changed_of, record_of, first_of_each_id, hits_of as hits_in, frameless}
 use Rattle.jc_command_classes.specs.ReportSteps.{counted_of, counted_by}
 use Rattle.jc_command_classes.proofs.FramelessLaws.{same_counted}
-use Rattle.jc_command_run.specs.RunStore.{is_hit_in, hit_record, with_record, hit_records, run_store}
+use Rattle.jc_command_run.specs.RunStore.{is_hit_in, hit_record, run_store}
 use Rattle.jc_headline.specs.Headline.{bits_of, IsRow, RowsBy, AreRowsFrom}
+use Rattle.jc_headline.proofs.RecordLaws.{tail_pairs, id_key, hit_there, same_hits}
 use Rattle.jc_headline.proofs.FactLaws.{ChangedFacts, FileFacts, AreFacts}
 use Rattle.jc_headline.proofs.HitLaws.{bits_in, all_bits, bit_at, bits_tell, class_bits, first_range_at}
 
@@ -54,7 +59,7 @@ module _ (b : Body) (first : ℕ) (hits others : List Bool)
   covered_there x c = (c.0, chain_there (x ∷ c.0) c.1)
 
 -- the ids of a body are below the number of the class's probes
-ids_below : (bodies : List Body) (n : ℕ) (b : Body) (x : Branch) → slice_get bodies n ≡ Some b → Contains (branches b.code) x → is_probed b x ≡ true
+pub ids_below : (bodies : List Body) (n : ℕ) (b : Body) (x : Branch) → slice_get bodies n ≡ Some b → Contains (branches b.code) x → is_probed b x ≡ true
     → id_of b (first_id bodies n) x < sum_by probe_count bodies
 ids_below bodies n b x at listed probed =
     let within = (ids_within b (first_id bodies n) x listed probed).1 in
@@ -80,20 +85,6 @@ tells_there bodies hits others coverage same t = record {
 }
 
 -- ---- ids of changed classes
-
-tail_pairs : (n : Linked) (ns : List Linked) → NoPair (HaveOneId (n ∷ ns)) → NoPair (HaveOneId ns)
-tail_pairs n ns none = λ a b less h. none (suc a) (suc b) (omega (arith, less)) (record {
-  a = h.a;
-  b = h.b;
-  shared = h.shared;
-  first_is = h.first_is;
-  second_is = h.second_is;
-  first_key = h.first_key;
-  second_key = h.second_key;
-})
-
-abbrev id_key : Option ProbeInit → Option ℕ
-id_key o = option_map (λ (p : ProbeInit). p.id) o
 
 -- a linked class with the id of a class that has a row
 abbrev HasThatId : List Linked → Analysed → Type 0
@@ -154,55 +145,19 @@ none_left_out (l ∷ ls) (n ∷ ns) (changed_class c ∷ items) none facts =
           second_key = h.3 ∙ ap Some (sym same);
         })
 
--- ---- the record of a class
+-- ---- who the class of a file is
 
-pub record_there : (hits : List Hit) (k : ℕ) (ns : List Linked) → NoPair (HaveOneId ns) → (i : ℕ) (n : Linked) (init : ProbeInit) → slice_get ns i ≡ Some n → n.probes ≡ Some init
-    → record_of (hit_records hits k ns) init.id ≡ Some (hit_record hits (k + i) n init)
-record_there hits k [] none i n init at probes = absurd (none-some n at)
-record_there hits k (m ∷ ns) none zero n init at probes =
-    let e : k ≡ k + 0 = omega arith in
-    by m.probes (ap (λ (x : Linked). x.probes) (same_Some m n at) ∙ probes) ∙ ap (λ (j : ℕ). Some (hit_record hits j n init)) e
-  where
-    head : (t : Bool) → t ≡ true → (rest : Option ClassHits) → cond t (Some (hit_record hits k m init)) rest ≡ Some (hit_record hits k n init)
-    head true e rest = ap (λ (x : Linked). Some (hit_record hits k x init)) (same_Some m n at)
-    head false e rest = absurd (false_or_true e)
-      where
-        false_or_true : false ≡ true → ⊥
-        false_or_true e = cc
+abbrev pub Described : List ℕ → ReportedFile → Type 0
+Described bytes (refused_class why) = Unit {0}
+Described bytes unchanged_class = Unit {0}
+Described bytes (changed_class a) =
+    (file : ClassFile) × ClassText bytes file × (a.id ≡ class_id bytes) × (a.super_name ≡ super_name_of file.pool file.super_class)
+    × (map Some a.interfaces ≡ map (class_name_of file.pool) file.interfaces)
 
-    by : (o : Option ProbeInit) → o ≡ Some init → record_of (with_record hits k m o (hit_records hits (k + 1) ns)) init.id ≡ Some (hit_record hits k n init)
-    by None e = absurd (none-some init e)
-    by (Some j) e =
-        subst (λ (x : ProbeInit). record_of (hit_record hits k m x ∷ hit_records hits (k + 1) ns) init.id ≡ Some (hit_record hits k n init)) (sym (same_Some j init e))
-        (head (nat_eq init.id init.id) (eq-eqb init.id init.id refl) (record_of (hit_records hits (k + 1) ns) init.id))
-record_there hits k (m ∷ ns) none (suc i) n init at probes =
-    let e : (k + 1) + i ≡ k + suc i = omega arith in
-    by m.probes refl (record_there hits (k + 1) ns (tail_pairs m ns none) i n init at probes) ∙ ap (λ (j : ℕ). Some (hit_record hits j n init)) e
-  where
-    skip : (t : Bool) (j : ProbeInit) → t ≡ false → (rest : Option ClassHits) → cond t (Some (hit_record hits k m j)) rest ≡ rest
-    skip true j e rest = absurd (true_or_false e)
-      where
-        true_or_false : true ≡ false → ⊥
-        true_or_false e = cc
-    skip false j e rest = refl
-
-    apart : (j : ProbeInit) → m.probes ≡ Some j → (t : Bool) → nat_eq j.id init.id ≡ t → t ≡ false
-    apart j is true e =
-        absurd (none zero (suc i) (omega arith) (record {
-          a = m;
-          b = n;
-          shared = init.id;
-          first_is = refl;
-          second_is = at;
-          first_key = ap id_key is ∙ ap Some (eqb-true j.id init.id e);
-          second_key = ap id_key probes;
-        }))
-    apart j is false e = refl
-
-    by : (o : Option ProbeInit) → m.probes ≡ o → record_of (hit_records hits (k + 1) ns) init.id ≡ Some (hit_record hits ((k + 1) + i) n init)
-        → record_of (with_record hits k m o (hit_records hits (k + 1) ns)) init.id ≡ Some (hit_record hits ((k + 1) + i) n init)
-    by None is later = later
-    by (Some j) is later = skip (nat_eq j.id init.id) j (apart j is (nat_eq j.id init.id) refl) (record_of (hit_records hits (k + 1) ns) init.id) ∙ later
+described : (bytes : List ℕ) (item : ReportedFile) → IsItem bytes item → Described bytes item
+described bytes _ (is_refused why reason) = tt
+described bytes _ (is_unchanged a is alone) = tt
+described bytes _ (is_changed a is alone) = (is.file, is.text, is.described.id, is.described.super_name, is.described.interfaces)
 
 -- ---- the rows
 
@@ -211,7 +166,8 @@ module _ (before after : Program) (marks : Entry → Marks) (plan : RunPlan) (tw
   abbrev records : List ClassHits
   records = (run_store after plan).classes
 
-  module _ (k : ℕ) (l n : Linked) (a : Analysed) (l_at : slice_get before.classes k ≡ Some l) (n_at : slice_get after.classes k ≡ Some n) (f : ChangedFacts l n a) where
+  module _ (k : ℕ) (l n : Linked) (a : Analysed) (l_at : slice_get before.classes k ≡ Some l) (n_at : slice_get after.classes k ≡ Some n) (f : ChangedFacts l n a)
+      (bytes : List ℕ) (item : IsItem bytes (changed_class a)) where
     bits : List Bool
     bits = slice_index_or (bits_of after plan) k []
 
@@ -219,13 +175,23 @@ module _ (before after : Program) (marks : Entry → Marks) (plan : RunPlan) (tw
     unfolding bits
     bits_are = class_bits after plan k n f.init n_at f.probes
 
-    hits_are : hits_in records a ≡ Some bits
-    hits_are =
-        let e : 0 + k ≡ k = omega arith in
+    abbrev own : ClassHits
+    own = hit_record (hits_of after plan) k n f.init
+
+    -- the hits of its record, if it has one
+    found : Option (List Bool)
+    found = hits_in records a
+
+    found_is : found ≡ option_map (λ (r : ClassHits). r.bits) (cond (has_hit own) (Some own) None)
+    unfolding found
+    found_is =
         ap (option_map (λ (r : ClassHits). r.bits))
-        (ap (λ (id : ℕ). record_of records id) (sym f.id) ∙ record_there (hits_of after plan) 0 after.classes ids k n f.init n_at f.probes
-        ∙ ap (λ (j : ℕ). Some (hit_record (hits_of after plan) j n f.init)) e)
-        ∙ ap Some (sym bits_are)
+        (ap (λ (id : ℕ). record_of records id) (sym f.id) ∙ hit_there (hits_of after plan) after.classes ids k n f.init n_at f.probes)
+
+    found_bit : (id : ℕ) → is_hit (hits_or_none found) id ≡ is_hit bits id
+    found_bit id =
+        ap (λ (o : Option (List Bool)). is_hit (hits_or_none o) id) found_is ∙ same_hits own (has_hit own) refl id
+        ∙ ap (λ (b : List Bool). is_hit b id) (sym bits_are)
 
     row : Counted
     row = counted_by records a
@@ -237,12 +203,12 @@ module _ (before after : Program) (marks : Entry → Marks) (plan : RunPlan) (tw
     without : a ≡ frameless as_linked
     without = ap (λ (bodies : List Body). record a { bodies = bodies }) f.bodies
 
-    row_is : row ≡ counted_of (Some bits) as_linked
-    unfolding row
-    row_is = ap (λ (h : Option (List Bool)). counted_of h a) hits_are ∙ ap (counted_of (Some bits)) without ∙ same_counted (Some bits) as_linked
+    row_is : row ≡ counted_of found as_linked
+    unfolding row found
+    row_is = ap (counted_of (hits_in records a)) without ∙ same_counted (hits_in records a) as_linked
 
     abbrev coverage : Coverage
-    coverage = coverage_of l.bodies bits
+    coverage = coverage_of l.bodies (hits_or_none found)
 
     bit_is : (id : ℕ) → id < sum_by probe_count l.bodies → is_hit bits id ≡ is_hit (slice_index_or (all_bits (hits_of after plan)) k []) id
     bit_is id less =
@@ -250,45 +216,64 @@ module _ (before after : Program) (marks : Entry → Marks) (plan : RunPlan) (tw
         ap (λ (b : List Bool). is_hit b id) bits_are ∙ first_range_at (is_hit_in (hits_of after plan) k) f.init.count id false (omega (arith, less, count))
         ∙ sym (bit_at (hits_of after plan) k id)
 
-    pub row_there : IsRow before after marks plan k l (counted_by records a)
+    told : TellsCovered l.bodies bits coverage
+    told = tells_there l.bodies (hits_or_none found) bits coverage (λ id less. found_bit id) (tells l.bodies (hits_or_none found))
+
+    who : Described bytes (changed_class a)
+    who = described bytes (changed_class a) item
+
+    pub row_there : IsRow before after marks plan k bytes l (counted_by records a)
     unfolding row bits
     row_there = record {
+      id = ap (λ (c : Counted). c.id) row_is ∙ who.2;
       name = ap (λ (c : Counted). c.name) row_is ∙ f.name;
+      file = who.0;
+      text = who.1;
+      super_name = ap (λ (c : Counted). c.super_name) row_is ∙ who.3;
+      interfaces = ap (λ (c : Counted). map Some c.interfaces) row_is ∙ who.4;
       coverage = coverage;
-      tells = tells l.bodies bits;
+      tells = told;
       counters = ap (λ (c : Counted). c.counters) row_is;
       reported =
           reported_edges before after plan marks twins are_marks entries (all_bits (hits_of after plan)) (bits_tell after plan) k l l_at (n, n_at, f.declares) coverage
-          (tells_there l.bodies bits (slice_index_or (all_bits (hits_of after plan)) k []) coverage bit_is (tells l.bodies bits));
+          (tells_there l.bodies bits (slice_index_or (all_bits (hits_of after plan)) k []) coverage bit_is told);
     }
 
-  pub rows_there : (k : ℕ) (ls ns : List Linked) (items : List ReportedFile) → ((i : ℕ) (l : Linked) → slice_get ls i ≡ Some l → slice_get before.classes (k + i) ≡ Some l)
-      → ((i : ℕ) (n : Linked) → slice_get ns i ≡ Some n → slice_get after.classes (k + i) ≡ Some n) → AreFacts ls ns items
-      → AreRowsFrom before after marks plan k ls ns (map (counted_by records) (changed_of items))
-  rows_there k [] [] [] ls_at ns_at facts = refl
-  rows_there k [] [] (i ∷ items) ls_at ns_at facts = absurd facts
-  rows_there k [] (n ∷ ns) items ls_at ns_at facts = absurd facts
-  rows_there k (l ∷ ls) [] items ls_at ns_at facts = absurd facts
-  rows_there k (l ∷ ls) (n ∷ ns) [] ls_at ns_at facts = absurd facts
-  rows_there k (l ∷ ls) (n ∷ ns) (item ∷ items) ls_at ns_at facts =
-      by item facts.0 (rows_there (k + 1) ls ns items
+  pub rows_there : (k : ℕ) (os : List (List ℕ)) (ls ns : List Linked) (items : List ReportedFile)
+      → ((i : ℕ) (l : Linked) → slice_get ls i ≡ Some l → slice_get before.classes (k + i) ≡ Some l)
+      → ((i : ℕ) (n : Linked) → slice_get ns i ≡ Some n → slice_get after.classes (k + i) ≡ Some n) → AreFacts ls ns items → AreItems os items
+      → AreRowsFrom before after marks plan k os ls ns (map (counted_by records) (changed_of items))
+  rows_there k [] [] [] [] ls_at ns_at facts are = refl
+  rows_there k (o ∷ os) ls ns [] ls_at ns_at facts are = absurd are
+  rows_there k [] ls ns (i ∷ items) ls_at ns_at facts are = absurd are
+  rows_there k [] [] (n ∷ ns) [] ls_at ns_at facts are = absurd facts
+  rows_there k [] (l ∷ ls) [] [] ls_at ns_at facts are = absurd facts
+  rows_there k [] (l ∷ ls) (n ∷ ns) [] ls_at ns_at facts are = absurd facts
+  rows_there k (o ∷ os) [] [] (i ∷ items) ls_at ns_at facts are = absurd facts
+  rows_there k (o ∷ os) [] (n ∷ ns) (i ∷ items) ls_at ns_at facts are = absurd facts
+  rows_there k (o ∷ os) (l ∷ ls) [] (i ∷ items) ls_at ns_at facts are = absurd facts
+  rows_there k (o ∷ os) (l ∷ ls) (n ∷ ns) (item ∷ items) ls_at ns_at facts are =
+      by item facts.0 are.0 (rows_there (k + 1) os ls ns items
       (λ i x at. let e : (k + 1) + i ≡ k + suc i = omega arith in ap (slice_get before.classes) e ∙ ls_at (suc i) x at)
-      (λ i x at. let e : (k + 1) + i ≡ k + suc i = omega arith in ap (slice_get after.classes) e ∙ ns_at (suc i) x at) facts.1)
+      (λ i x at. let e : (k + 1) + i ≡ k + suc i = omega arith in ap (slice_get after.classes) e ∙ ns_at (suc i) x at) facts.1 are.1)
     where
-      here : (t : Bool) → declares_init n ≡ t → (rows : List Counted) → RowsBy before after marks plan t k l (AreRowsFrom before after marks plan (k + 1) ls ns) rows
-          → RowsBy before after marks plan (declares_init n) k l (AreRowsFrom before after marks plan (k + 1) ls ns) rows
-      here t e rows is = subst (λ (s : Bool). RowsBy before after marks plan s k l (AreRowsFrom before after marks plan (k + 1) ls ns) rows) (sym e) is
+      abbrev Behind : List Counted → Type 0
+      Behind = AreRowsFrom before after marks plan (k + 1) os ls ns
 
-      by : (i : ReportedFile) → FileFacts l n i → AreRowsFrom before after marks plan (k + 1) ls ns (map (counted_by records) (changed_of items))
-          → RowsBy before after marks plan (declares_init n) k l (AreRowsFrom before after marks plan (k + 1) ls ns) (map (counted_by records) (changed_of (i ∷ items)))
-      by (refused_class why) f later = absurd f
-      by unchanged_class f later = here false f (map (counted_by records) (changed_of items)) later
-      by (changed_class a) f later =
+      here : (t : Bool) → declares_init n ≡ t → (rows : List Counted) → RowsBy before after marks plan t k o l Behind rows
+          → RowsBy before after marks plan (declares_init n) k o l Behind rows
+      here t e rows is = subst (λ (s : Bool). RowsBy before after marks plan s k o l Behind rows) (sym e) is
+
+      by : (i : ReportedFile) → FileFacts l n i → IsItem o i → Behind (map (counted_by records) (changed_of items))
+          → RowsBy before after marks plan (declares_init n) k o l Behind (map (counted_by records) (changed_of (i ∷ items)))
+      by (refused_class why) f is later = absurd f
+      by unchanged_class f is later = here false f (map (counted_by records) (changed_of items)) later
+      by (changed_class a) f is later =
           let e : k + 0 ≡ k = omega arith in
           here true f.declares (counted_by records a ∷ map (counted_by records) (changed_of items)) (
             counted_by records a,
             map (counted_by records) (changed_of items),
             refl,
-            row_there k l n a (ap (slice_get before.classes) (sym e) ∙ ls_at zero l refl) (ap (slice_get after.classes) (sym e) ∙ ns_at zero n refl) f,
+            row_there k l n a (ap (slice_get before.classes) (sym e) ∙ ls_at zero l refl) (ap (slice_get after.classes) (sym e) ∙ ns_at zero n refl) f o is,
             later,
           )

@@ -1,8 +1,9 @@
 -- What a run of `cover` that is done means, where files read back as they were written.
-use Rattle.std.proofs.Common.{◌≡◌, ◌≢◌, ℕ, List, [], ◌∷◌, ◌++◌, map, Option, None, Some, Contains, sym, ◌∙◌, ap, subst, append-nil}
+use Rattle.std.proofs.Common.{◌≡◌, ◌≢◌, ℕ, List, [], ◌∷◌, ◌++◌, map, ◌+◌, slice_get, Option, None, Some, Contains, sym, ◌∙◌, ap, subst, append-nil}
 use Rattle.std.specs.FinMap.{get, insert}
 use Rattle.std.specs.List.{AllByRecursion}
 use Rattle.jc_bytes.specs.ByteLists.{AreBytes}
+use Rattle.jc_bytes.proofs.BooleanLaws.{stands_in}
 use Rattle.jc_outside.specs.Outside.{FileMap}
 use Rattle.jc_outside.proofs.HeldLaws.{get_there, get_here}
 use Rattle.jc_programs.specs.declared.program.Program.{Program}
@@ -17,27 +18,29 @@ use Rattle.jc_exec.specs.Writing.{exec_text}
 use Rattle.jc_link_programs.specs.Linking.{IsProgramOf}
 use Rattle.jc_link_laws.specs.TwinFiles.{AreWrittenOf, IsShortFile}
 use Rattle.jc_link_laws.proofs.TwinLinkLaws.{twin_program}
-use Rattle.jc_machine_model.specs.CaseText.{case_texts}
+use Rattle.jc_machine_model.specs.CaseEnds.{case_end}
+use Rattle.jc_machine_model.specs.CaseText.{case_text, case_texts}
 use Rattle.jc_machine_model.specs.Run.{run}
 use Rattle.jc_twin_simulation.specs.Marking.{AreMarks}
 use Rattle.jc_twin_simulation.specs.Same.{Same}
 use Rattle.jc_twin_simulation.specs.Laws.{kept_of}
 use Rattle.jc_twin_simulation.proofs.BeginLaws.{entry_alike}
 use Rattle.jc_twin_simulation.proofs.ProgramRunLaws.{have_marks, have_sides, runs_are_same}
+use Rattle.jc_machine_laws.specs.Frameless.{frameless}
 use Rattle.jc_machine_laws.proofs.FramelessTextLaws.{same_texts}
+use Rattle.jc_twin.proofs.TextLaws.{same_text}
 use Rattle.jc_paths.specs.Paths.{in_folder}
 use Rattle.jc_command_work.specs.Step.{Word, Outside, to_file, to_out, Told}
-use Rattle.jc_command_classes.specs.Instrument.{Decision, refused_file, accepted_file}
 use Rattle.jc_command_classes.specs.Report.{report_text}
 use Rattle.jc_command_run.specs.RunStore.{run_store, threads_of, first_without}
 use Rattle.jc_command_run.proofs.StoreLaws.{same_store, same_without}
 use Rattle.jc_headline.specs.CoverWork.{Cover, LookedFile, all_file_writes, accepted, texts_in, targets}
 use Rattle.jc_headline.specs.CoverRun.{AreRead, AreDistinct, CoverRun}
-use Rattle.jc_headline.specs.Headline.{as_written, all_written, HoldsFile, IsCopied, out_text, err_text}
+use Rattle.jc_headline.specs.Headline.{as_written, all_written, stored, HoldsFile, StandsThere, out_text, err_text}
 use Rattle.jc_headline.proofs.DistinctLaws.{distinct_targets, looked_files}
 use Rattle.jc_headline.proofs.EntryLaws.{case_entries, entries_alike}
 use Rattle.jc_headline.proofs.OriginalLaws.{all_written_of, all_short, original_program}
-use Rattle.jc_headline.proofs.WriteLaws.{all_targets, contents_after, out_after, err_after, out-append, err-append, map_after, map_after-append, stored, Stand, stand, same_back}
+use Rattle.jc_headline.proofs.WriteLaws.{all_targets, contents_after, out_after, err_after, out-append, err-append, map_after, map_after-append, Stand, stand, same_back}
 
 -- ---- what was read
 
@@ -96,10 +99,14 @@ module _ (c : Cover) (old new : Outside) (m : FileMap) (told : old.contents ≡ 
   unfolding there
   all_stand = stand c.dest m r.looked distinct
 
-  back : r.written ≡ all_written r.looked
+  pub back : r.written ≡ all_written r.looked
   unfolding there
   back = same_back c.dest there r.looked all_stand r.written
       (subst (λ (o : Option FileMap). AreRead o (targets c.dest r.looked) r.written) (contents_after old m (all_file_writes c.dest r.looked) told) r.read_back)
+
+  pub program_is : r.program ≡ frameless twin
+  unfolding twin
+  program_is = r.links.2
 
   pub instrumented : IsProgramOf (all_written r.looked) twin
   unfolding twin
@@ -110,16 +117,15 @@ module _ (c : Cover) (old new : Outside) (m : FileMap) (told : old.contents ≡ 
   unfolding final there exec_bytes
   kept path exec csv = get_there (insert there c.exec exec_bytes) c.csv r.csv path csv ∙ get_there there c.exec exec_bytes path exec
 
-  copies : (ls : List LookedFile) → Stand c.dest there ls → AllByRecursion (λ l. IsCopied c new l l.decision) ls
-  copies [] stand = tt
-  copies (l ∷ ls) stand = (by l.decision stand.0, copies ls stand.1)
-    where
-      by : (d : Decision) → get there (in_folder c.dest l.file) ≡ Some (stored l d) → IsCopied c new l d
-      by (refused_file why) is = λ exec csv. holds (in_folder c.dest l.file) l.bytes (kept (in_folder c.dest l.file) exec csv ∙ is)
-      by (accepted_file a) is = tt
+  stand_at_end : (ls : List LookedFile) → Stand c.dest there ls → AllByRecursion (StandsThere c new) ls
+  stand_at_end [] stand = tt
+  stand_at_end (l ∷ ls) stand = (
+    λ exec csv. holds (in_folder c.dest l.file) (stored l l.decision) (kept (in_folder c.dest l.file) exec csv ∙ stand.0),
+    stand_at_end ls stand.1,
+  )
 
-  pub all_copied : AllByRecursion (λ l. IsCopied c new l l.decision) r.looked
-  all_copied = copies r.looked all_stand
+  pub each_stands : AllByRecursion (StandsThere c new) r.looked
+  each_stands = stand_at_end r.looked all_stand
 
   pub data_written : c.exec ≢ c.csv → HoldsFile new c.exec (exec_text (run_store twin r.plan))
   unfolding final there exec_bytes
@@ -190,3 +196,7 @@ module _ (c : Cover) (old new : Outside) (m : FileMap) (told : old.contents ≡ 
   pub leaves : (case : Case) → Contains r.plan.cases case
       → Same twin marks (run original case (kept_of twin marks case (turns_in case))) (run twin case (turns_in case))
   leaves case there = let es = entries case there in runs_are_same original twin marks twins are_marks case es.0 es.1 (turns_in case)
+
+  pub same_texts_kept : (k : ℕ) (case : Case) → slice_get r.plan.cases k ≡ Some case
+      → case_text twin (1 + k) (case_end twin case (turns_in case)) ≡ case_text original (1 + k) (case_end original case (kept_of twin marks case (turns_in case)))
+  same_texts_kept k case at = same_text original twin marks twins _ _ (leaves case (stands_in r.plan.cases k case at)) (1 + k)

@@ -13,8 +13,8 @@ use Rattle.jc_command_work.specs.Step.{Word}
 use Rattle.jc_command_classes.specs.Instrument.{Decision, refused_file, accepted_file, IsDecision}
 use Rattle.jc_headline.specs.CoverWork.{LookedFile, AreLooked, accepted, kept_if, paths_in, targets}
 use Rattle.jc_headline.specs.CoverRun.{AreRead}
-use Rattle.jc_headline.specs.Headline.{written_bytes, all_written}
-use Rattle.jc_headline.proofs.WriteLaws.{Stand, stored}
+use Rattle.jc_headline.specs.Headline.{written_bytes, all_written, stored}
+use Rattle.jc_headline.proofs.WriteLaws.{Stand}
 use Rattle.jc_headline.specs.FitCover.{IsShort}
 
 -- ---- what is written

@@ -10,7 +10,7 @@ use Rattle.jc_command_work.specs.Prefix.{after_writes}
 use Rattle.jc_command_classes.specs.Instrument.{Decision, refused_file, accepted_file, file_writes}
 use Rattle.jc_headline.specs.CoverWork.{LookedFile, all_file_writes, accepted, kept_if, paths_in, targets}
 use Rattle.jc_headline.specs.CoverRun.{AreRead, IsNone, AreDistinct}
-use Rattle.jc_headline.specs.Headline.{as_written, written_bytes, all_written, out_text, err_text}
+use Rattle.jc_headline.specs.Headline.{as_written, written_bytes, all_written, stored, out_text, err_text}
 
 -- all paths that files are written to
 abbrev pub all_targets : Word → List LookedFile → List Word
@@ -67,11 +67,6 @@ map_after-append m (to_out text ∷ xs) ys = map_after-append m xs ys
 map_after-append m (to_err text ∷ xs) ys = map_after-append m xs ys
 
 -- ---- the files in the folder
-
--- what is written for a file
-abbrev pub stored : LookedFile → Decision → List ℕ
-stored l (refused_file why) = l.bytes
-stored l (accepted_file a) = a.bytes
 
 module _ (dest : Word) where
   -- the map after a file's two writes

@@ -10,6 +10,7 @@ use Rattle.jc_command_work.specs.Step.{Word, Outside, Landed, to_file, to_out, I
 use Rattle.jc_command_work.specs.Prefix.{after_writes}
 use Rattle.jc_command_run.specs.RunAnswers.{IsRunProgram}
 use Rattle.jc_command_run.specs.RunStore.{run_store}
+use Rattle.jc_headline.specs.Named.{AreNamed}
 use Rattle.jc_headline.specs.CoverWork.{Cover, LookedFile, AreLooked, all_file_writes, accepted_texts, targets, HaveEntries, IsReportText}
 
 -- the paths hold these bytes, in order
@@ -35,7 +36,9 @@ pub record CoverRun (landed : Landed) (c : Cover) (old new : Outside) : Type 0 w
   -- what was read before any write
   pub plan_text : List ℕ
   pub plan_read : IsRead old.contents c.plan plan_text
+  -- the class files are those that the words name, and all of them
   pub paths : List Word
+  pub named : AreNamed old.contents c.files paths
   pub distinct : AreDistinct paths
   pub read : List (List ℕ)
   pub files_read : AreRead old.contents paths read

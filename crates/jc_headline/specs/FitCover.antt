@@ -1,11 +1,8 @@
 -- What is enough for a run of `cover` to be done.
-use Rattle.std.specs.Prelude.{◌≡◌, ◌≢◌, ◌≤◌, ℕ, List, [], ◌∷◌, Some, filter, length}
-use Rattle.std.specs.FinMap.{keys}
-use Rattle.std.specs.List.{AllByRecursion, flat_map}
+use Rattle.std.specs.Prelude.{◌≡◌, ◌≢◌, ◌≤◌, ℕ, List, Some, length}
+use Rattle.std.specs.List.{AllByRecursion}
 use Rattle.jc_bytes.specs.Reader.{most_read}
-use Rattle.jc_outside.specs.Folder.{front_of, is_class_file}
 use Rattle.jc_outside.specs.Outside.{FileMap}
-use Rattle.jc_paths.specs.Paths.{FileText, plain, folder}
 use Rattle.jc_programs.specs.declared.program.Program.{Program}
 use Rattle.jc_programs.specs.declared.run_plan.RunPlan.{RunPlan}
 use Rattle.jc_run_plans.specs.Plans.{IsPlanText}
@@ -14,25 +11,14 @@ use Rattle.jc_link_programs.specs.declared.link_refusal.LinkRefusal.{LinkRefusal
 use Rattle.jc_link_laws.specs.SecondLinking.{IsSecondRefusal}
 use Rattle.jc_command_work.specs.declared.status.Status.{Status}
 use Rattle.jc_command_work.specs.declared.status.Status.TheVariants as status
-use Rattle.jc_command_work.specs.Step.{Word, Outside, Counts, Landed, IsRead}
+use Rattle.jc_command_work.specs.Step.{Outside, Counts, Landed, IsRead}
 use Rattle.jc_command_work.specs.Part.{done}
 use Rattle.jc_command_work.specs.Ending.{Ends, NoneRose}
-use Rattle.jc_command_work.specs.Folders.{once}
 use Rattle.jc_command_work.specs.OneWay.{Work, IsWork}
 use Rattle.jc_headline.specs.CoverWork.{Cover, LookedFile, AreLooked, accepted_texts, HaveEntries, cover_work}
+use Rattle.jc_headline.specs.Named.{named_paths}
 use Rattle.jc_headline.specs.CoverRun.{AreRead, CoverRun}
 use Rattle.jc_headline.specs.Headline.{all_written, Headline}
-
--- ---- the files that are named
-
--- the path of a file, or those of a folder's class files, in the order of their bytes
-abbrev pub named_by : FileMap → FileText → List Word
-named_by m (plain path) = path ∷ []
-named_by m (folder path) = filter (is_class_file (front_of path)) (keys m)
-
--- those of all; a path that has come before is dropped
-abbrev pub named_paths : FileMap → List FileText → List Word
-named_paths m files = once [] (flat_map (named_by m) files)
 
 -- ---- what is enough
 
@@ -77,9 +63,11 @@ abbrev pub HasHeadline : (landed : Landed) (c : Cover) (old new : Outside) → I
 HasHeadline landed c old new fit =
     (r : CoverRun landed c old new) × (r.plan ≡ fit.plan) × (r.looked ≡ fit.looked) × Headline landed c old new r
 
--- where no count rose and memory wasn't refused, each run of such a cover is done
+-- Where no count rose and memory wasn't refused, each run of such a cover is done. The execution data and the report go to two paths,
+-- as words name them that call `cover`.
 abbrev pub FitCoversAreDone : Landed → Type 0
-FitCoversAreDone landed = (c : Cover) (old new : Outside) (f f' : Counts) (s : Status) (fit : IsFitCover c old) → Ends landed (cover_work c) old new f f' s
+FitCoversAreDone landed = (c : Cover) (old new : Outside) (f f' : Counts) (s : Status) (fit : IsFitCover c old) → c.exec ≢ c.csv
+    → Ends landed (cover_work c) old new f f' s
     → NoneRose f f' → s ≢ status.Memory → (s ≡ status.Done) × HasHeadline landed c old new fit
 
 -- nothing less is enough: each run that is done is one of a cover that fits

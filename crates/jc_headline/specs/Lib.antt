@@ -1,4 +1,5 @@
 pub mod CoverWork
+pub mod Named
 pub mod CoverRun
 pub mod Headline
 pub mod Runs

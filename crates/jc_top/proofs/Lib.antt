@@ -4,4 +4,5 @@ pub mod WorkLaws
 pub mod BoundLaws
 pub mod RunLaws
 pub mod SampleLaws
+pub mod ApartLaws
 pub mod HeadlineLaws

@@ -4,7 +4,7 @@ use Rattle.jc_exec.specs.declared.hits.ClassHits.{ClassHits}
 use Rattle.jc_exec.specs.Refusing.{OneOfEachId}
 use Rattle.jc_exec.specs.Store.{IsNew}
 use Rattle.jc_command_run.specs.HitStore.{set_record}
-use Rattle.jc_command_run.proofs.HitStoreLaws.{count_at, is_new, none_put, record_put, one_more}
+use Rattle.jc_command_run.proofs.HitStoreLaws.{count_at, is_new, none_put, record_put, one_more_hit}
 use Rattle.jc_command_run.proofs.records.hit_store.Goals.{in-None, in-Some+in_ok-put_record-in-Some}
 use Rattle.jc_command_run.proofs.records.hit_store.Goals as goal
 
@@ -37,6 +37,6 @@ storing-preserved c =
           rw w.store-is (record {
             sessions = adds.sessions ∙ c.storing.invariant.sessions;
             classes = record_put hits cs i class within is c.requires.fits.ids c.storing.store.classes w.put_record.new.store.classes init w.in-Some.is c.storing.invariant.classes adds.classes;
-            one = subst OneOfEachId (sym adds.classes) (one_more c.storing.store.classes (set_record hits i class init) c.storing.invariant.one fresh);
+            one = subst OneOfEachId (sym adds.classes) (one_more_hit c.storing.store.classes (set_record hits i class init) c.storing.invariant.one fresh);
           })
     ]

@@ -1,5 +1,6 @@
-use Rattle.std.proofs.Common.{◌≡◌, [], take}
+use Rattle.std.proofs.Common.{◌≡◌, [], take, filter}
 use Rattle.jc_exec.specs.Refusing.{OneOfEachId}
+use Rattle.jc_exec.specs.Writing.{is_hit}
 use Rattle.jc_command_run.specs.HitStore.{set_records}
 use Rattle.jc_command_run.proofs.records.hit_store.Given as goal
 
@@ -7,6 +8,6 @@ use Rattle.jc_command_run.proofs.records.hit_store.Given as goal
 abbrev pub invariant-storing : goal.invariant-storing
 invariant-storing l = record {
   sessions : l.store.sessions ≡ [];
-  classes : l.store.classes ≡ set_records l.hits 0 (take l.number l.program.classes);
+  classes : l.store.classes ≡ filter is_hit (set_records l.hits 0 (take l.number l.program.classes));
   one : OneOfEachId l.store.classes;
 }
