@@ -18,7 +18,8 @@ abbrev pub ReadsBack : Landed → Type 0
 ReadsBack landed = (path bytes : List ℕ) → landed path bytes ≡ bytes
 
 -- Where contents are told and read back as they were written, the headline holds of each run that the words of a `cover` call and that is
--- done: of what it read, made and wrote.
+-- done. What it read is told by the words and the contents: the text of the run plan, and each class file that the words name. What it
+-- made of these, and wrote, is in `CoverRun`, and what that means in `Headline`.
 abbrev pub KeepsHeadline : Landed → List Word → (old new : Outside) → Status → Type 0
 KeepsHeadline landed words old new s =
     (c : Cover) → CallsCover words c → ReadsBack landed → IsTold old → s ≡ status.Done

@@ -61,11 +61,12 @@ fn read_command<'a>(alloc: Global, words: &'a [String]) -> Result<Command<'a>, F
 /// files tell that its path is the one which failed last. What each status says, and what stands then, is in the laws of this
 /// crate.
 ///
-/// Of `cover` the headline holds, where it is done and contents are told and read back as they were written [`headline`]: each
-/// case of the instrumented files prints and leaves what the originals give under its schedule without the turns of probes, the
-/// written data is the union of the probes passed, every reported instruction and branch was executed, or is, instructions
-/// alone, next in a stopped thread, and every refused class is copied unchanged. It is done exactly where its run plan and class
-/// files fit, no call fails and memory isn't refused: see [`jc_headline::each_fit_cover_is_done`].
+/// Of `cover` the headline holds, where it is done and contents are told and read back as they were written [`headline`]. It is
+/// said of all class files that the words name: each case of the instrumented files prints and leaves what the originals give under
+/// its schedule without the turns of probes, the written data is the union of the probes passed, every reported instruction and
+/// branch was executed, or is, instructions alone, next in a stopped thread, and exactly what was executed is reported where every
+/// thread returned and nothing was thrown, and every refused class is copied unchanged, and its reason printed. It is done exactly
+/// where its run plan and class files fit, no call fails and memory isn't refused: see [`jc_headline::each_fit_cover_is_done`].
 pub fn run_tool<R: Threads + Sync, F: Files, O: Sink, E: Sink, G: Gate + Sync>(
     rt: &R,
     alloc: Global,
