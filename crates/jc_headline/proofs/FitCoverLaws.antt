@@ -34,7 +34,7 @@ use Rattle.jc_command_run.specs.RunStore.{threads_of, run_store}
 use Rattle.jc_command_run.proofs.StoreLaws.{same_store, same_without}
 use Rattle.jc_headline.specs.CoverWork.{Cover, all_file_writes, accepted_texts, targets, IsLinkEnd, HaveEntries, IsEntryEnd, IsReportText, IsClashEnd, instrumenting, running, cover_work}
 use Rattle.jc_headline.specs.CoverRun.{AreRead, AreDistinct, CoverRun}
-use Rattle.jc_headline.specs.Headline.{as_written, all_written}
+use Rattle.jc_headline.specs.Headline.{as_written, NamesApart, all_written}
 use Rattle.jc_headline.specs.Runs.{ToldRun, MakesItsWork}
 use Rattle.jc_headline.proofs.CoverRunLaws.{report_part, look_part}
 use Rattle.jc_headline.proofs.DistinctLaws.{distinct_targets, looked_files}
@@ -236,10 +236,10 @@ module _ (c : Cover) (old : Outside) (fit : IsFitCover c old) where
     stands = is ∙ sym (writes-append as_written old (all_file_writes c.dest fit.looked) behind);
   }
 
-  holds : (new : Outside) → new ≡ last → c.exec ≢ c.csv → HasHeadline as_written c old new fit
+  holds : (new : Outside) → new ≡ last → NamesApart c → HasHeadline as_written c old new fit
   holds new is other = let r = run_of new is in (r, refl, refl, headline c old new fit.contents fit.told r other)
 
-  is_done : EndsAsWork → (new : Outside) (f f' : Counts) (s : Status) → c.exec ≢ c.csv → Ends as_written (cover_work c) old new f f' s → NoneRose f f' → s ≢ status.Memory
+  is_done : EndsAsWork → (new : Outside) (f f' : Counts) (s : Status) → NamesApart c → Ends as_written (cover_work c) old new f f' s → NoneRose f f' → s ≢ status.Memory
       → (s ≡ status.Done) × HasHeadline as_written c old new fit
   is_done ends new f f' s other is none not =
       let run : ToldRun as_written (cover_work c) = record {

@@ -1,5 +1,5 @@
 -- The headline.
-use Rattle.std.proofs.Common.{◌≡◌, ◌≢◌, ℕ, ◌+◌, List, Some, map, sym, ◌∙◌, ap, subst, arith}
+use Rattle.std.proofs.Common.{◌≡◌, ℕ, ◌+◌, List, Some, map, sym, ◌∙◌, ap, subst, arith}
 use Rattle.std.specs.Prelude.{slice_get}
 use Rattle.jc_outside.specs.Outside.{FileMap}
 use Rattle.jc_programs.specs.declared.program.Program.{Program}
@@ -12,14 +12,14 @@ use Rattle.jc_command_classes.proofs.CountedLaws.{all_counted}
 use Rattle.jc_command_run.specs.RunStore.{run_store}
 use Rattle.jc_headline.specs.CoverWork.{Cover, accepted, accepted_texts, texts_in, cover_work}
 use Rattle.jc_headline.specs.CoverRun.{CoverRun}
-use Rattle.jc_headline.specs.Headline.{as_written, all_written, AreRows, Headline, HeadlineOf}
+use Rattle.jc_headline.specs.Headline.{as_written, NamesApart, all_written, AreRows, Headline, HeadlineOf}
 use Rattle.jc_headline.proofs.CoverRunLaws.{cover_ran}
 use Rattle.jc_headline.proofs.FactLaws.{AreFacts, facts_of}
 use Rattle.jc_headline.proofs.PassedLaws.{passes}
 use Rattle.jc_headline.proofs.RowLaws.{none_left_out, rows_there}
 use Rattle.jc_headline.proofs.RunMeaningLaws.{twin, instrumented, program_is, back, same_texts_kept, each_stands, data_written, report_written, printed, reasons_printed, store_is, short, written_of, are_written, original, originals, twins, marks, are_marks, entries, leaves}
 
-module _ (c : Cover) (old new : Outside) (m : FileMap) (told : old.contents ≡ Some m) (r : CoverRun as_written c old new) (other : c.exec ≢ c.csv) where
+module _ (c : Cover) (old new : Outside) (m : FileMap) (told : old.contents ≡ Some m) (r : CoverRun as_written c old new) (apart : NamesApart c) where
   abbrev before : Program
   before = original c old new m told r
 
@@ -61,19 +61,19 @@ module _ (c : Cover) (old new : Outside) (m : FileMap) (told : old.contents ≡ 
     prints = printed c old new m told r;
     same_text = same_texts_kept c old new m told r;
     leaves = leaves c old new m told r;
-    written_data = data_written c old new m told r other;
+    written_data = data_written c old new m told r apart.results;
     passed = passes before after (marks c old new m told r) r.plan (twins c old new m told r) (are_marks c old new m told r) (entries c old new m told r);
     rows = r.report.counted;
     reports = report_written c old new m told r;
     ran = ran;
-    stand = each_stands c old new m told r;
+    stand = each_stands c old new m told r apart;
     reasons = reasons_printed c old new m told r;
   }
 
 headline_of : HeadlineOf as_written
-headline_of c old new f f' told other ends =
+headline_of c old new f f' told apart ends =
     let run = cover_ran as_written c old new (done_means as_written (cover_work c) old new f f' ends).1 in
-    (run, headline c old new told.0 told.1 run other)
+    (run, headline c old new told.0 told.1 run apart)
 
 pub each_headline : (landed : Landed) → ((path bytes : List ℕ) → landed path bytes ≡ bytes) → HeadlineOf landed
 each_headline landed same = let e : landed ≡ as_written = (λ i path bytes. same path bytes i) in subst HeadlineOf (sym e) headline_of

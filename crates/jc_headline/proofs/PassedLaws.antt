@@ -63,21 +63,17 @@ module _ (p p' : Program) (sides : Entry → Side) (marks : Entry → Marks) (ar
       t = sides m
 
       side : IsSide p p' m t
-      unfolding t m
       side = are.side m is.class is.edge.body is.stands is.edge.stands
 
       body_is : t.body ≡ is.edge.body
-      unfolding t m
       body_is =
           same_Some t.body is.edge.body
           (sym side.body_is ∙ ap (λ (x : Linked). slice_get x.bodies e.body) (same_Some t.class is.class (sym side.class_is ∙ is.stands)) ∙ is.edge.stands)
 
       parts : (e.class ≡ h.class) × (t.ids e.branch ≡ Some h.id)
-      unfolding t m
       parts = told_id e.class (t.ids e.branch) h named
 
       by : (o : Option ℕ) → t.slot ≡ o → IsProbe p' h
-      unfolding t m
       by None q = absurd (none-some h.id (sym (ap (λ (f : Branch → Option ℕ). f e.branch) (side.no_ids_are q)) ∙ parts.1))
       by (Some v) q =
           let pair = (side.changed v q).pair in

@@ -128,7 +128,7 @@ none_of id (r ∷ rs) new = by (has_hit r) (nat_eq r.id id) refl (none_of id rs 
 kept_record : (id : ℕ) (rs : List ClassHits) → OneOfEachId rs → (r : ClassHits) → record_of rs id ≡ Some r
     → record_of (filter has_hit rs) id ≡ cond (has_hit r) (Some r) None
 kept_record id [] one r is = absurd (none-some r is)
-kept_record id (x ∷ rs) one r is = by (nat_eq x.id id) refl
+kept_record id (x ∷ rs) one r is = by (nat_eq x.id id) refl (λ e. kept_record id rs one.1 r e)
   where
     -- it is the first one
     first : nat_eq x.id id ≡ true → x ≡ r → (t : Bool) → record_of (cond t (x ∷ filter has_hit rs) (filter has_hit rs)) id ≡ cond t (Some r) None
@@ -141,11 +141,12 @@ kept_record id (x ∷ rs) one r is = by (nat_eq x.id id) refl
     later e rest true = ap (λ (u : Bool). cond u (Some x) (record_of (filter has_hit rs) id)) e ∙ rest
     later e rest false = rest
 
-    by : (u : Bool) → nat_eq x.id id ≡ u → record_of (filter has_hit (x ∷ rs)) id ≡ cond (has_hit r) (Some r) None
-    by true e =
+    by : (u : Bool) → nat_eq x.id id ≡ u → (record_of rs id ≡ Some r → record_of (filter has_hit rs) id ≡ cond (has_hit r) (Some r) None)
+        → record_of (filter has_hit (x ∷ rs)) id ≡ cond (has_hit r) (Some r) None
+    by true e rest =
         let same : x ≡ r = same_Some x r (sym (ap (λ (u : Bool). cond u (Some x) (record_of rs id)) e) ∙ is) in
         first e same (has_hit x) ∙ ap (λ (c : ClassHits). cond (has_hit c) (Some r) None) same
-    by false e = later e (kept_record id rs one.1 r (sym (ap (λ (u : Bool). cond u (Some x) (record_of rs id)) e) ∙ is)) (has_hit x)
+    by false e rest = later e (rest (sym (ap (λ (u : Bool). cond u (Some x) (record_of rs id)) e) ∙ is)) (has_hit x)
 
 -- that of a class of the program
 pub hit_there : (hits : List Hit) (ns : List Linked) → NoPair (HaveOneId ns) → (k : ℕ) (n : Linked) (init : ProbeInit) → slice_get ns k ≡ Some n → n.probes ≡ Some init

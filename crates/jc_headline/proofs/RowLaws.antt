@@ -257,7 +257,7 @@ module _ (before after : Program) (marks : Entry → Marks) (plan : RunPlan) (tw
       (λ i x at. let e : (k + 1) + i ≡ k + suc i = omega arith in ap (slice_get before.classes) e ∙ ls_at (suc i) x at)
       (λ i x at. let e : (k + 1) + i ≡ k + suc i = omega arith in ap (slice_get after.classes) e ∙ ns_at (suc i) x at) facts.1 are.1)
     where
-      abbrev Behind : List Counted → Type 0
+      Behind : List Counted → Type 0
       Behind = AreRowsFrom before after marks plan (k + 1) os ls ns
 
       here : (t : Bool) → declares_init n ≡ t → (rows : List Counted) → RowsBy before after marks plan t k o l Behind rows

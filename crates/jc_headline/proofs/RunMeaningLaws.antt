@@ -1,5 +1,5 @@
 -- What a run of `cover` that is done means, where files read back as they were written.
-use Rattle.std.proofs.Common.{◌≡◌, ◌≢◌, ℕ, List, [], ◌∷◌, ◌++◌, map, ◌+◌, slice_get, Option, None, Some, Contains, sym, ◌∙◌, ap, subst, append-nil}
+use Rattle.std.proofs.Common.{◌≡◌, ◌≢◌, inl, inr, ℕ, List, [], ◌∷◌, ◌++◌, map, ◌+◌, slice_get, Option, None, Some, Contains, sym, ◌∙◌, ap, subst, append-nil}
 use Rattle.std.specs.FinMap.{get, insert}
 use Rattle.std.specs.List.{AllByRecursion}
 use Rattle.jc_bytes.specs.ByteLists.{AreBytes}
@@ -36,7 +36,7 @@ use Rattle.jc_command_run.specs.RunStore.{run_store, threads_of, first_without}
 use Rattle.jc_command_run.proofs.StoreLaws.{same_store, same_without}
 use Rattle.jc_headline.specs.CoverWork.{Cover, LookedFile, all_file_writes, accepted, texts_in, targets}
 use Rattle.jc_headline.specs.CoverRun.{AreRead, AreDistinct, CoverRun}
-use Rattle.jc_headline.specs.Headline.{as_written, all_written, stored, HoldsFile, StandsThere, out_text, err_text}
+use Rattle.jc_headline.specs.Headline.{as_written, NamesApart, all_written, stored, HoldsFile, IsKept, StandsThere, out_text, err_text}
 use Rattle.jc_headline.proofs.DistinctLaws.{distinct_targets, looked_files}
 use Rattle.jc_headline.proofs.EntryLaws.{case_entries, entries_alike}
 use Rattle.jc_headline.proofs.OriginalLaws.{all_written_of, all_short, original_program}
@@ -117,15 +117,22 @@ module _ (c : Cover) (old new : Outside) (m : FileMap) (told : old.contents ≡ 
   unfolding final there exec_bytes
   kept path exec csv = get_there (insert there c.exec exec_bytes) c.csv r.csv path csv ∙ get_there there c.exec exec_bytes path exec
 
-  stand_at_end : (ls : List LookedFile) → Stand c.dest there ls → AllByRecursion (StandsThere c new) ls
-  stand_at_end [] stand = tt
-  stand_at_end (l ∷ ls) stand = (
-    λ exec csv. holds (in_folder c.dest l.file) (stored l l.decision) (kept (in_folder c.dest l.file) exec csv ∙ stand.0),
-    stand_at_end ls stand.1,
+  -- a file whose path is named by itself is one of these
+  goes_to_neither : NamesApart c → (path : Word) → IsKept c path → (in_folder c.dest path ≢ c.exec) × (in_folder c.dest path ≢ c.csv)
+  goes_to_neither apart path (inl named) = apart.files path named
+  goes_to_neither apart path (inr other) = other
+
+  stand_at_end : NamesApart c → (ls : List LookedFile) → Stand c.dest there ls → AllByRecursion (StandsThere c new) ls
+  stand_at_end apart [] stand = tt
+  stand_at_end apart (l ∷ ls) stand = (
+    λ is.
+        let other = goes_to_neither apart l.file is in
+        holds (in_folder c.dest l.file) (stored l l.decision) (kept (in_folder c.dest l.file) other.0 other.1 ∙ stand.0),
+    stand_at_end apart ls stand.1,
   )
 
-  pub each_stands : AllByRecursion (StandsThere c new) r.looked
-  each_stands = stand_at_end r.looked all_stand
+  pub each_stands : NamesApart c → AllByRecursion (StandsThere c new) r.looked
+  each_stands apart = stand_at_end apart r.looked all_stand
 
   pub data_written : c.exec ≢ c.csv → HoldsFile new c.exec (exec_text (run_store twin r.plan))
   unfolding final there exec_bytes

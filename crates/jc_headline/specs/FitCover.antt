@@ -18,7 +18,7 @@ use Rattle.jc_command_work.specs.OneWay.{Work, IsWork}
 use Rattle.jc_headline.specs.CoverWork.{Cover, LookedFile, AreLooked, accepted_texts, HaveEntries, cover_work}
 use Rattle.jc_headline.specs.Named.{named_paths}
 use Rattle.jc_headline.specs.CoverRun.{AreRead, CoverRun}
-use Rattle.jc_headline.specs.Headline.{all_written, Headline}
+use Rattle.jc_headline.specs.Headline.{NamesApart, all_written, Headline}
 
 -- ---- what is enough
 
@@ -63,10 +63,10 @@ abbrev pub HasHeadline : (landed : Landed) (c : Cover) (old new : Outside) → I
 HasHeadline landed c old new fit =
     (r : CoverRun landed c old new) × (r.plan ≡ fit.plan) × (r.looked ≡ fit.looked) × Headline landed c old new r
 
--- Where no count rose and memory wasn't refused, each run of such a cover is done. The execution data and the report go to two paths,
--- as words name them that call `cover`.
+-- Where no count rose and memory wasn't refused, and paths are named as words name them that call `cover`, each run of such a cover is
+-- done.
 abbrev pub FitCoversAreDone : Landed → Type 0
-FitCoversAreDone landed = (c : Cover) (old new : Outside) (f f' : Counts) (s : Status) (fit : IsFitCover c old) → c.exec ≢ c.csv
+FitCoversAreDone landed = (c : Cover) (old new : Outside) (f f' : Counts) (s : Status) (fit : IsFitCover c old) → NamesApart c
     → Ends landed (cover_work c) old new f f' s
     → NoneRose f f' → s ≢ status.Memory → (s ≡ status.Done) × HasHeadline landed c old new fit
 

@@ -16,13 +16,13 @@
 --   interfaces, by which a class without a name is shown, and the counters of a coverage. What this counts as covered was executed by
 --   `before` in some case under its kept turns, or, instructions alone, is the goto, return or athrow that is next in a thread that
 --   stopped; and exactly what was executed is covered where each thread of each case returned, and nothing was thrown.
--- * Each class file that is refused stands in the folder as it was read, unless its path there is that of the execution data or of the
---   report too, and its line, which says why, is on `err`. So does each accepted one as it was instrumented, with its line on `out`.
-use Rattle.std.specs.Prelude.{◌≡◌, ◌≢◌, ◌↔◌, ℕ, ◌+◌, Bool, true, false, List, [], ◌∷◌, ◌++◌, map}
+-- * Each class file that is refused stands in the folder as it was read, unless a folder among the words brought it in and its path is that
+--   of the execution data or of the report too; and its line, which says why, is on `err`. So does each accepted one as it was instrumented, with its line on `out`.
+use Rattle.std.specs.Prelude.{◌≡◌, ◌≢◌, ◌⊎◌, ◌↔◌, ℕ, ◌+◌, Bool, true, false, List, [], ◌∷◌, ◌++◌, map}
 use Rattle.std.specs.Prelude.{Option, Some, None, Contains, IsTrue, slice_get, slice_index_or}
 use Rattle.std.specs.FinMap.{get}
 use Rattle.std.specs.List.{AllByRecursion}
-use Rattle.jc_paths.specs.Paths.{in_folder}
+use Rattle.jc_paths.specs.Paths.{plain, in_folder}
 use Rattle.jc_programs.specs.declared.program.Program.{Program}
 use Rattle.jc_programs.specs.declared.program.Linked.{Linked}
 use Rattle.jc_programs.specs.declared.program.ProbeInit.{ProbeInit}
@@ -63,11 +63,17 @@ use Rattle.jc_command_run.specs.RunStore.{hit_record, run_store}
 use Rattle.jc_headline.specs.CoverWork.{Cover, LookedFile, all_file_writes, accepted_texts, cover_work}
 use Rattle.jc_headline.specs.CoverRun.{CoverRun}
 
--- ---- a premise
+-- ---- premises
 
 -- what a path holds after a write is what was written
 abbrev pub as_written : Landed
 as_written path bytes = bytes
+
+-- As words name them that call `cover`, execution data and report go to two paths, and the file of a path that is named by itself,
+-- and not by a folder, goes to neither.
+pub record NamesApart (c : Cover) : Type 0 where
+  pub results : c.exec ≢ c.csv
+  pub files : (path : Word) → Contains c.files (plain path) → (in_folder c.dest path ≢ c.exec) × (in_folder c.dest path ≢ c.csv)
 
 -- ---- files
 
@@ -89,11 +95,13 @@ abbrev pub stored : LookedFile → Decision → List ℕ
 stored l (refused_file why) = l.bytes
 stored l (accepted_file a) = a.bytes
 
--- it stands in the folder, unless a later write went to its path
+-- the path is named by itself, or, where a folder brought it in, neither execution data nor report went to its path in the folder `dest`
+abbrev pub IsKept : Cover → Word → Type 0
+IsKept c path = Contains c.files (plain path) ⊎ ((in_folder c.dest path ≢ c.exec) × (in_folder c.dest path ≢ c.csv))
+
+-- then this stands there
 abbrev pub StandsThere : Cover → Outside → LookedFile → Type 0
-StandsThere c new l =
-    in_folder c.dest l.file ≢ c.exec → in_folder c.dest l.file ≢ c.csv
-    → HoldsFile new (in_folder c.dest l.file) (stored l l.decision)
+StandsThere c new l = IsKept c l.file → HoldsFile new (in_folder c.dest l.file) (stored l l.decision)
 
 -- what writes put on `out`, and on `err`
 abbrev pub out_text : List Write → List ℕ
@@ -191,8 +199,8 @@ pub record Headline (landed : Landed) (c : Cover) (old new : Outside) (r : Cover
   pub stand : AllByRecursion (StandsThere c new) r.looked
   pub reasons : (t : List ℕ) → old.err ≡ Some t → new.err ≡ Some (t ++ err_text (all_file_writes c.dest r.looked))
 
--- Where contents are told, and the execution data and the report go to two paths, as words name them that call `cover`, each run of `cover`
--- that is done is one of which the headline holds.
+-- Where contents are told, and paths are named as words name them that call `cover`, each run of `cover` that is done is one of which the
+-- headline holds.
 abbrev pub HeadlineOf : Landed → Type 0
-HeadlineOf landed = (c : Cover) (old new : Outside) (f f' : Counts) → IsTold old → c.exec ≢ c.csv → Ends landed (cover_work c) old new f f' status.Done
+HeadlineOf landed = (c : Cover) (old new : Outside) (f f' : Counts) → IsTold old → NamesApart c → Ends landed (cover_work c) old new f f' status.Done
     → (r : CoverRun landed c old new) × Headline landed c old new r

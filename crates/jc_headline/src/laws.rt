@@ -56,15 +56,15 @@ pub fn what_was_read_back_runs()
 /// was executed, or is, instructions alone, next in a stopped thread, and exactly what was executed is reported where every thread
 /// returned and nothing was thrown. Every refused class is copied unchanged, and its reason is printed.
 ///
-/// It is said of each run of `cover` that is done, where contents are told and a file reads back as it was written, and the execution
-/// data and the report go to two paths, as words name them. The run is one of all class files that the words name, as they stood.
+/// It is said of each run of `cover` that is done, where contents are told, a file reads back as it was written, and paths are named
+/// as words name them that call `cover`. The run is one of all class files that the words name, as they stood.
 pub fn instrumented_classes_do_what_their_originals_do()
     ensures { (landed : Landed) → ((path bytes : List ℕ) → landed path bytes ≡ bytes) → HeadlineOf landed }
 {}
 
 /// Where files read back as they were written, the work of a cover that fits ends as done [`work`]. So each run of it in which no
-/// count rose, and memory wasn't refused, is done, and the headline holds of it where the execution data and the report go to two
-/// paths [`ends`]: see [`crate::laws::instrumented_classes_do_what_their_originals_do`].
+/// count rose, and memory wasn't refused, is done, and the headline holds of it, where paths are named as words name them that call
+/// `cover` [`ends`]: see [`crate::laws::instrumented_classes_do_what_their_originals_do`].
 pub fn each_fit_cover_is_done()
     ensures work { (landed : Landed) → ((path bytes : List ℕ) → landed path bytes ≡ bytes) → FitCoversHaveWork landed }
     ensures ends { (landed : Landed) → ((path bytes : List ℕ) → landed path bytes ≡ bytes) → FitCoversAreDone landed }

@@ -12,7 +12,7 @@ use Rattle.jc_headline.specs.CoverWork.{cover_work}
 use Rattle.jc_headline.proofs.HeadlineLaws.{each_headline}
 use Rattle.jc_top.specs.Work.{work_of, IsUsage, the_work}
 use Rattle.jc_top.specs.CoverHeadline.{KeepsHeadline}
-use Rattle.jc_top.proofs.ApartLaws.{exec_apart}
+use Rattle.jc_top.proofs.ApartLaws.{names_apart}
 
 module _ (words : List Word) (command : Called) (means : Means words command) where
   -- what the words come to, the command that they call comes to
@@ -47,4 +47,4 @@ pub keeps_headline : (landed : Landed) (words : List Word) (old new : Outside) (
     → KeepsHeadline landed words old new s
 keeps_headline landed words old new f f' s ends c (workers, means) reads told is =
     let (same, came) = done_means landed (the_work words) old new f f' (subst (Ends landed (the_work words) old new f f') is ends) in
-    each_headline landed reads c old new f f' told (exec_apart words c (workers, means)) (ends_done landed (cover_work c) old f new f' same (came_so words _ means landed old new (stops done) came))
+    each_headline landed reads c old new f f' told (names_apart words c (workers, means)) (ends_done landed (cover_work c) old f new f' same (came_so words _ means landed old new (stops done) came))
