@@ -9,4 +9,3 @@ pub mod OwnEndLaws
 pub mod LineLaws
 pub mod OutLaws
 pub mod LineTextLaws
-pub mod RecordLaws
