@@ -1,0 +1,12 @@
+pub mod SampleTextLaws
+pub mod SampleBodyLaws
+pub mod SampleCheckedLaws
+pub mod SampleCodeLaws
+pub mod SampleExactLaws
+pub mod SampleFramesLaws
+pub mod PoolWeightLaws
+pub mod ClassSizesLaws
+pub mod NoCauseLaws
+pub mod WrittenSampleLaws
+pub mod SampleEntriesLaws
+pub mod DoneLaws
