@@ -61,7 +61,7 @@ def all_ids():
 
 def colliding_ids():
     """Ids that have one home among the slots that the index has for 2^19 ids."""
-    return (k * (33 * (2**15 - 1) - 16) for k in range(1 << 30))
+    return (k * (1065015 - 16) for k in range(1 << 30))
 
 
 def ids_of_one_home():

@@ -4,11 +4,10 @@ use Rattle.std.proofs.lemmas.List.{append-nil}
 use Rattle.jc_bytes.specs.ByteLists.{AreBytes}
 use Rattle.jc_bytes.specs.Decoder.{IsBig}
 use Rattle.jc_bytes.proofs.OneTextLaws.{both_bytes, big_below}
-use Rattle.jc_exec.specs.declared.gathering.Added.{Added}
 use Rattle.jc_exec.specs.declared.session.Session.{Session}
 use Rattle.jc_exec.specs.declared.refusal.ExecRefusal.{ExecRefusal}
 use Rattle.jc_exec.specs.declared.refusal.ExecRefusal.TheVariants.{BadExec, OtherVersion, Conflict}
-use Rattle.jc_exec.specs.Adding.{Entries, store_of, store_with, with_added, Adds, StopsUnfit, StopsClash}
+use Rattle.jc_exec.specs.Adding.{Entries, Held, store_of, store_with, with_added, Adds, StopsUnfit, StopsClash}
 use Rattle.jc_exec.specs.Answers.{why_of}
 use Rattle.jc_exec.specs.Feeding.{NoneInFront, Waits, most_block}
 use Rattle.jc_exec.specs.Format.{Block, header, session, class, SessionParts, session_joined, Parts, joined, IsBlock}
@@ -146,33 +145,33 @@ none_in_nothing = record { none = λ b front more parts block. no_block b [] fro
 regrouped : (a b c d : List ℕ) → ((a ++ b) ++ c) ++ d ≡ a ++ ((b ++ c) ++ d)
 regrouped a b c d = simp append_assoc
 
-module _ (start : Added) (offset : ℕ) (rest piece : List ℕ) (keyed : Keyed start.records) (before : Store) (bytes : List ℕ)
-    (w : Waits before bytes (store_of start.sessions.items start.records) rest) (size : offset + length rest ≡ length bytes) where
+module _ (start : Held) (offset : ℕ) (rest piece : List ℕ) (keyed : Keyed start.records) (before : Store) (bytes : List ℕ)
+    (w : Waits before bytes (store_of start.sessions start.records) rest) (size : offset + length rest ≡ length bytes) where
   taken_size : length w.taken ≡ offset
   taken_size = omega (arith, size, ap length w.parts, length-append w.taken rest)
 
   start_union : IsUnion (blocks_of before ++ w.read) (with_added [] [] start)
-  start_union = subst (IsUnion (blocks_of before ++ w.read)) (sym (nothing_known start.sessions.items start.records keyed)) w.union
+  start_union = subst (IsUnion (blocks_of before ++ w.read)) (sym (nothing_known start.sessions start.records keyed)) w.union
 
   more_parts : (more : List ℕ) → (bytes ++ piece) ++ more ≡ w.taken ++ ((rest ++ piece) ++ more)
   more_parts more = ap (λ (l : List ℕ). (l ++ piece) ++ more) w.parts ∙ regrouped w.taken rest piece more
 
   -- the blocks that were read, and what stands behind them
-  pub waits_on : (taken left : List ℕ) (new : Added) → rest ++ piece ≡ taken ++ left → Adds [] offset taken start new → NoneInFront left
-      → Waits before (bytes ++ piece) (store_of new.sessions.items new.records) left
+  pub waits_on : (taken left : List ℕ) (new : Held) → rest ++ piece ≡ taken ++ left → Adds [] offset taken start new → NoneInFront left
+      → Waits before (bytes ++ piece) (store_of new.sessions new.records) left
   waits_on taken left new parts a none = record {
     read = w.read ++ a.read;
     taken = w.taken ++ taken;
     parts = ap (λ (l : List ℕ). l ++ piece) w.parts ∙ append_assoc w.taken rest piece ∙ ap (λ (l : List ℕ). w.taken ++ l) parts ∙ sym (append_assoc w.taken taken left);
     blocks = added_blocks [] offset start [] before w.taken w.read w.blocks taken_size start_union taken new a;
-    union = subst (IsUnion (blocks_of before ++ (w.read ++ a.read))) (nothing_known new.sessions.items new.records a.keyed)
+    union = subst (IsUnion (blocks_of before ++ (w.read ++ a.read))) (nothing_known new.sessions new.records a.keyed)
         (added_union [] offset start [] before w.taken w.read w.blocks taken_size start_union taken new a);
     unfinished = none;
   }
 
   -- all of the bytes are blocks
-  pub waits_for_none : (new : Added) → Adds [] offset (rest ++ piece) start new
-      → Waits before (bytes ++ piece) (store_of new.sessions.items new.records) []
+  pub waits_for_none : (new : Held) → Adds [] offset (rest ++ piece) start new
+      → Waits before (bytes ++ piece) (store_of new.sessions new.records) []
   waits_for_none new a = waits_on (rest ++ piece) [] new (sym (append-nil (rest ++ piece))) a none_in_nothing
 
   refused_on : (more : List ℕ) (why : ExecRefusal) → FirstRefusal before (w.taken ++ ((rest ++ piece) ++ more)) (why_of why)
@@ -200,7 +199,7 @@ module _ (start : Added) (offset : ℕ) (rest piece : List ℕ) (keyed : Keyed s
   some_more (x ∷ left) more some = λ e. cc
 
   -- what is unfit with whatever behind it is refused so
-  pub unfit_lasts : (new : Added) (why : ExecRefusal) (s : StopsUnfit [] offset (rest ++ piece) start new why)
+  pub unfit_lasts : (new : Held) (why : ExecRefusal) (s : StopsUnfit [] offset (rest ++ piece) start new why)
       → ((more : List ℕ) → IsUnfit (reading_at (offset + length s.taken) (s.left ++ more)) (why_of why))
       → (more : List ℕ) → FirstRefusal before ((bytes ++ piece) ++ more) (why_of why)
   unfit_lasts new why s lasts more = refused_on more why
@@ -230,7 +229,7 @@ other_stop_lasts place left more (OtherVersion found) apart unfit = other_lasts 
 other_stop_lasts place left more (Conflict id first second m n) apart unfit = absurd unfit
 
 -- bytes that are no block are unfit
-pub bad_is_unfit : (known : Entries) (offset : ℕ) (bytes : List ℕ) (start new : Added) (p : ℕ)
+pub bad_is_unfit : (known : Entries) (offset : ℕ) (bytes : List ℕ) (start new : Held) (p : ℕ)
     → StopsUnfit known offset bytes start new (BadExec p) ⊎ StopsClash known offset bytes start (BadExec p) → StopsUnfit known offset bytes start new (BadExec p)
 bad_is_unfit known offset bytes start new p (inl s) = s
 bad_is_unfit known offset bytes start new p (inr s) = absurd (apart s.refused.2)

@@ -5,11 +5,10 @@ use Rattle.std.proofs.lemmas.List.{nil_from_length, append-nil}
 use Rattle.jc_bytes.specs.declared.fail.Fail.{Fail}
 use Rattle.jc_bytes.specs.declared.fail.Fail.TheVariants as fails
 use Rattle.jc_bytes.specs.Reader.{Reading}
-use Rattle.jc_exec.specs.declared.gathering.Added.{Added}
 use Rattle.jc_exec.specs.declared.hits.ClassHits.{ClassHits}
 use Rattle.jc_exec.specs.declared.session.Session.{Session}
 use Rattle.jc_exec.specs.declared.refusal.ExecRefusal.{ExecRefusal}
-use Rattle.jc_exec.specs.Adding.{Entries, over, Gathers, Puts, Keeps, RefusesBlock, RefusesAll, store_of, store_with, with_added, Adds, StopsUnfit, StopsClash, IsStop}
+use Rattle.jc_exec.specs.Adding.{Entries, Held, over, Gathers, Puts, Keeps, RefusesBlock, RefusesAll, store_of, store_with, with_added, Adds, StopsUnfit, StopsClash, IsStop}
 use Rattle.jc_exec.specs.Answers.{why_of, Refuses, SaysOnly, RefusesRecord}
 use Rattle.jc_exec.specs.Format.{Block, header, session, class, AreBlocks, Blocks, BeginsWithHeader}
 use Rattle.jc_exec.specs.Front.{MayStandAt, Took, IsUnfit, ReadsFront, moved, reading_at}
@@ -46,13 +45,13 @@ union_push s at t read b is step =
 -- ---- what was gathered so far
 
 -- the blocks that were read were put
-pub record Progress (known : Entries) (offset : ℕ) (bytes : List ℕ) (old : Added) (reader : Reading) (new : Added) : Type 0 where
+pub record Progress (known : Entries) (offset : ℕ) (bytes : List ℕ) (old : Held) (reader : Reading) (new : Held) : Type 0 where
   pub taken : List ℕ
   pub parts : bytes ≡ taken ++ reader.left
   pub place : reader.place ≡ length taken
   pub adds : Adds known offset taken old new
 
-pub begins_here : (known : Entries) (offset : ℕ) (bytes : List ℕ) (old : Added) (reader : Reading) → Keyed old.records
+pub begins_here : (known : Entries) (offset : ℕ) (bytes : List ℕ) (old : Held) (reader : Reading) → Keyed old.records
     → reader.left ≡ bytes → reader.place ≡ 0 → Progress known offset bytes old reader old
 begins_here known offset bytes old reader keyed left place = record {
   taken = [];
@@ -66,7 +65,7 @@ begins_more : (taken : List ℕ) (read : List Block) (b : Block) (offset : ℕ) 
 begins_more taken read b offset whole begins stands first =
     may_follow taken read b (record { begins = begins first; whole = whole }) (λ none. stands (omega (arith, first, none)))
 
-pub goes_on : (known : Entries) (offset : ℕ) (bytes : List ℕ) (old new : Reading) (start before after : Added) (b : Block)
+pub goes_on : (known : Entries) (offset : ℕ) (bytes : List ℕ) (old new : Reading) (start before after : Held) (b : Block)
     → Progress known offset bytes start old before → Took (moved offset old) (moved offset new) b → Keeps known before after b
     → Progress known offset bytes start new after
 goes_on known offset bytes old new start before after b p t k =
@@ -87,7 +86,7 @@ goes_on known offset bytes old new start before after b p t k =
     }
 
 -- all was read
-pub all_taken : (known : Entries) (offset : ℕ) (bytes : List ℕ) (reader : Reading) (start new : Added) → Progress known offset bytes start reader new
+pub all_taken : (known : Entries) (offset : ℕ) (bytes : List ℕ) (reader : Reading) (start new : Held) → Progress known offset bytes start reader new
     → length bytes ≤ reader.place → Adds known offset bytes start new
 all_taken known offset bytes reader start new p end =
     let none : reader.left ≡ [] = nil_from_length reader.left (omega (arith, end, p.place, ap length p.parts, length-append p.taken reader.left)) in
@@ -95,7 +94,7 @@ all_taken known offset bytes reader start new p end =
 
 -- ---- what stops the reading
 
-module _ (known : Entries) (offset : ℕ) (bytes : List ℕ) (old : Reading) (start at : Added) (p : Progress known offset bytes start old at) where
+module _ (known : Entries) (offset : ℕ) (bytes : List ℕ) (old : Reading) (start at : Held) (p : Progress known offset bytes start old at) where
   not_nil : old.place < length bytes → old.left ≢ []
   not_nil goes_on = λ none. omega (arith, goes_on, p.place, ap length p.parts, length-append p.taken old.left, ap length none)
 
@@ -112,10 +111,10 @@ module _ (known : Entries) (offset : ℕ) (bytes : List ℕ) (old : Reading) (st
     unfit = subst (λ (n : ℕ). IsUnfit (reading_at (offset + n) old.left) (why_of why)) p.place reads;
   })
 
-  memory : (e : Fail ExecRefusal) (after : Added) → e ≡ fails.Memory → IsStop known offset bytes start after e
+  memory : (e : Fail ExecRefusal) (after : Held) → e ≡ fails.Memory → IsStop known offset bytes start after e
   memory e after is = subst (IsStop known offset bytes start after) (sym is) tt
 
-  clashes : (new : Reading) (c : ClassHits) (e : Fail ExecRefusal) (after : Added) → Took (moved offset old) (moved offset new) (class c)
+  clashes : (new : Reading) (c : ClassHits) (e : Fail ExecRefusal) (after : Held) → Took (moved offset old) (moved offset new) (class c)
       → RefusesRecord e (over known at.records) c → IsStop known offset bytes start after e
   clashes new c fails.Memory after t why = tt
   clashes new c (fails.Said refusal) after t why = inr (record {
@@ -132,7 +131,7 @@ module _ (known : Entries) (offset : ℕ) (bytes : List ℕ) (old : Reading) (st
   })
 
   -- the block in front was read, and not kept
-  pub stops_unkept : (new : Reading) (b : Block) (e : Fail ExecRefusal) (after : Added) → Took (moved offset old) (moved offset new) b
+  pub stops_unkept : (new : Reading) (b : Block) (e : Fail ExecRefusal) (after : Held) → Took (moved offset old) (moved offset new) b
       → RefusesBlock e known at.records b → IsStop known offset bytes start after e
   stops_unkept new header e after t why = memory e after why
   stops_unkept new (session s) e after t why = memory e after why
@@ -151,20 +150,20 @@ begins_behind (header ∷ read) more first rest = tt
 begins_behind (session s ∷ read) more first rest = first
 begins_behind (class c ∷ read) more first rest = first
 
-module _ (known : Entries) (offset : ℕ) (start : Added) (sessions : List Session) (before : Store) (done : List ℕ) (read : List Block)
+module _ (known : Entries) (offset : ℕ) (start : Held) (sessions : List Session) (before : Store) (done : List ℕ) (read : List Block)
     (blocks : Blocks done read) (size : length done ≡ offset) (union : IsUnion (blocks_of before ++ read) (with_added sessions known start)) where
-  pub added_blocks : (bytes : List ℕ) (new : Added) (a : Adds known offset bytes start new) → Blocks (done ++ bytes) (read ++ a.read)
+  pub added_blocks : (bytes : List ℕ) (new : Held) (a : Adds known offset bytes start new) → Blocks (done ++ bytes) (read ++ a.read)
   added_blocks bytes new a = record {
     begins = begins_behind read a.read blocks.begins (λ none. a.begins (sym size ∙ ap length (subst (AreBlocks done) none blocks.whole)));
     whole = append_blocks done bytes read a.read blocks.whole a.whole;
   }
 
-  pub added_union : (bytes : List ℕ) (new : Added) (a : Adds known offset bytes start new)
+  pub added_union : (bytes : List ℕ) (new : Held) (a : Adds known offset bytes start new)
       → IsUnion (blocks_of before ++ (read ++ a.read)) (with_added sessions known new)
   added_union bytes new a = subst (λ (l : List Block). IsUnion l (with_added sessions known new)) (append_assoc (blocks_of before) read a.read)
       (union_blocks (blocks_of before ++ read) a.read (with_added sessions known start) (with_added sessions known new) union (a.union sessions))
 
-  refused_here : (taken left : List ℕ) (new : Added) (a : Adds known offset taken start new) (why : Refused)
+  refused_here : (taken left : List ℕ) (new : Held) (a : Adds known offset taken start new) (why : Refused)
       → RefusedHere (read ++ a.read) (with_added sessions known new) (length (done ++ taken)) left why → FirstRefusal before (done ++ (taken ++ left)) why
   refused_here taken left new a why here = record {
     read = read ++ a.read;
@@ -180,7 +179,7 @@ module _ (known : Entries) (offset : ℕ) (start : Added) (sessions : List Sessi
   place : (taken : List ℕ) → length (done ++ taken) ≡ offset + length taken
   place taken = omega (arith, length-append done taken, size)
 
-  unfit_here : (taken left : List ℕ) (new : Added) (a : Adds known offset taken start new) (why : Refused) → left ≢ []
+  unfit_here : (taken left : List ℕ) (new : Held) (a : Adds known offset taken start new) (why : Refused) → left ≢ []
       → IsUnfit (reading_at (offset + length taken) left) why
       → RefusedHere (read ++ a.read) (with_added sessions known new) (length (done ++ taken)) left why
   unfit_here taken left new a (bad_exec p) some unfit = (
@@ -220,7 +219,7 @@ module _ (known : Entries) (offset : ℕ) (start : Added) (sessions : List Sessi
         refl,
       )
 
-  pub unfit_refused : (bytes : List ℕ) (new : Added) (why : ExecRefusal) → StopsUnfit known offset bytes start new why
+  pub unfit_refused : (bytes : List ℕ) (new : Held) (why : ExecRefusal) → StopsUnfit known offset bytes start new why
       → FirstRefusal before (done ++ bytes) (why_of why)
   unfit_refused bytes new why s = subst (λ (l : List ℕ). FirstRefusal before (done ++ l) (why_of why)) (sym s.parts)
       (refused_here s.taken s.left new s.adds (why_of why) (unfit_here s.taken s.left new s.adds (why_of why) s.some s.unfit))
@@ -230,7 +229,7 @@ module _ (known : Entries) (offset : ℕ) (start : Added) (sessions : List Sessi
   clash_refused bytes why s = subst (λ (l : List ℕ). FirstRefusal before (done ++ l) (why_of why)) (sym s.parts)
       (refused_here s.taken (s.front ++ s.more) s.reached s.adds (why_of why) (clash_here bytes why s))
 
-  pub stop_refused : (bytes : List ℕ) (new : Added) (e : Fail ExecRefusal) → IsStop known offset bytes start new e → Refuses e before (done ++ bytes)
+  pub stop_refused : (bytes : List ℕ) (new : Held) (e : Fail ExecRefusal) → IsStop known offset bytes start new e → Refuses e before (done ++ bytes)
   stop_refused bytes new fails.Memory stop = tt
   stop_refused bytes new (fails.Said why) (inl unfit) = unfit_refused bytes new why unfit
   stop_refused bytes new (fails.Said why) (inr clash) = clash_refused bytes why clash
@@ -238,12 +237,12 @@ module _ (known : Entries) (offset : ℕ) (start : Added) (sessions : List Sessi
 -- ---- a whole file
 
 -- nothing was gathered yet
-pub nothing : (sessions : List Session) (known : Entries) (start : Added) → start.sessions.items ≡ [] → start.records ≡ []
+pub nothing : (sessions : List Session) (known : Entries) (start : Held) → start.sessions ≡ [] → start.records ≡ []
     → store_of sessions known ≡ with_added sessions known start
 nothing sessions known start none empty = ap (λ (ss : List Session). store_of ss known) (sym (append-nil sessions)) ∙ (λ i. store_with sessions known (sym none i) (sym empty i))
 
-pub adds_gathers : (known : Entries) (bytes : List ℕ) (start new : Added) → start.sessions.items ≡ [] → start.records ≡ []
-    → Adds known 0 bytes start new → Gathers known bytes new.sessions.items new.records
+pub adds_gathers : (known : Entries) (bytes : List ℕ) (start new : Held) → start.sessions ≡ [] → start.records ≡ []
+    → Adds known 0 bytes start new → Gathers known bytes new.sessions new.records
 adds_gathers known bytes start new none empty a = record {
   read = a.read;
   blocks = record { begins = a.begins refl; whole = a.whole };
@@ -252,7 +251,7 @@ adds_gathers known bytes start new none empty a = record {
   keyed = a.keyed;
 }
 
-pub stops_file : (known : Entries) (bytes : List ℕ) (start new : Added) (e : Fail ExecRefusal) → Keyed known → start.sessions.items ≡ []
+pub stops_file : (known : Entries) (bytes : List ℕ) (start new : Held) (e : Fail ExecRefusal) → Keyed known → start.sessions ≡ []
     → start.records ≡ [] → IsStop known 0 bytes start new e → RefusesAll known bytes e
 stops_file known bytes start new e keyed none empty stop = λ sessions.
     let before = store_of sessions known in

@@ -3,10 +3,9 @@ use Rattle.std.proofs.Common.{◌≡◌, ℕ, ◌+◌, ◌-◌, inl, inr, List, 
 use Rattle.std.proofs.lemmas.List.{take_all, drop_at, length-drop}
 use Rattle.jc_bytes.specs.declared.fail.Fail.{Fail}
 use Rattle.jc_bytes.specs.declared.fail.Fail.TheVariants as fails
-use Rattle.jc_exec.specs.declared.gathering.Added.{Added}
 use Rattle.jc_exec.specs.declared.refusal.ExecRefusal.{ExecRefusal}
 use Rattle.jc_exec.specs.declared.refusal.ExecRefusal.TheVariants.{BadExec}
-use Rattle.jc_exec.specs.Adding.{Entries, store_of, Adds, StopsUnfit, IsStop}
+use Rattle.jc_exec.specs.Adding.{Entries, Held, store_of, Adds, StopsUnfit, IsStop}
 use Rattle.jc_exec.specs.Answers.{why_of}
 use Rattle.jc_exec.specs.Feeding.{NoneInFront, Waits}
 use Rattle.jc_exec.specs.Front.{IsUnfit, reading_at}
@@ -15,12 +14,12 @@ use Rattle.jc_exec.specs.Store.{Store, Keyed}
 use Rattle.jc_exec.proofs.FeedLaws.{waits_on, unfit_lasts, clash_lasts, other_stop_lasts, bad_is_unfit}
 
 -- the blocks were read over no records
-pub adds_over_none : (known : Entries) (offset : ℕ) (bytes whole : List ℕ) (old new : Added) → known ≡ [] → bytes ≡ whole
+pub adds_over_none : (known : Entries) (offset : ℕ) (bytes whole : List ℕ) (old new : Held) → known ≡ [] → bytes ≡ whole
     → Adds known offset bytes old new → Adds [] offset whole old new
 adds_over_none known offset bytes whole old new none is a =
     subst (λ (l : List ℕ). Adds [] offset l old new) is (subst (λ (es : Entries). Adds es offset bytes old new) none a)
 
-pub stops_over_none : (known : Entries) (offset : ℕ) (bytes whole : List ℕ) (old new : Added) (e : Fail ExecRefusal) (why : ExecRefusal) → known ≡ []
+pub stops_over_none : (known : Entries) (offset : ℕ) (bytes whole : List ℕ) (old new : Held) (e : Fail ExecRefusal) (why : ExecRefusal) → known ≡ []
     → bytes ≡ whole → e ≡ fails.Said why → IsStop known offset bytes old new e → IsStop [] offset whole old new (fails.Said why)
 stops_over_none known offset bytes whole old new e why none is said s =
     subst (λ (f : Fail ExecRefusal). IsStop [] offset whole old new f) said
@@ -64,13 +63,13 @@ module _ (offset place : ℕ) (bytes whole taken left : List ℕ) (is : bytes �
 -- ---- what is kept then
 
 -- bytes that are no block were met at the place
-pub unfit_stop : (start : Added) (offset : ℕ) (whole : List ℕ) (new : Added) (why : ExecRefusal) (place : ℕ) → why ≡ BadExec place
+pub unfit_stop : (start : Held) (offset : ℕ) (whole : List ℕ) (new : Held) (why : ExecRefusal) (place : ℕ) → why ≡ BadExec place
     → IsStop [] offset whole start new (fails.Said why) → StopsUnfit [] offset whole start new (BadExec place)
 unfit_stop start offset whole new why place bad stop =
     bad_is_unfit [] offset whole start new place (subst (λ (r : ExecRefusal). IsStop [] offset whole start new (fails.Said r)) bad stop)
 
-module _ (start : Added) (offset : ℕ) (rest piece : List ℕ) (keyed : Keyed start.records) (before : Store) (bytes : List ℕ)
-    (w : Waits before bytes (store_of start.sessions.items start.records) rest) (size : offset + length rest ≡ length bytes) (new : Added) where
+module _ (start : Held) (offset : ℕ) (rest piece : List ℕ) (keyed : Keyed start.records) (before : Store) (bytes : List ℕ)
+    (w : Waits before bytes (store_of start.sessions start.records) rest) (size : offset + length rest ≡ length bytes) (new : Held) where
   -- a refusal that isn't of bytes that are no block lasts
   pub other_refusal_lasts : (why : ExecRefusal) → ((p : ℕ) → why ≡ BadExec p → ⊥) → IsStop [] offset (rest ++ piece) start new (fails.Said why)
       → (more : List ℕ) → FirstRefusal before ((bytes ++ piece) ++ more) (why_of why)
@@ -96,10 +95,10 @@ module _ (start : Added) (offset : ℕ) (rest piece : List ℕ) (keyed : Keyed s
 
     -- bytes that may be the front of a block are kept
     pub front_waits : (IsUnfit (reading_at place tried) (bad_exec place) → NoneInFront tried)
-        → Waits before (bytes ++ piece) (store_of new.sessions.items new.records) (drop (place - offset) got)
+        → Waits before (bytes ++ piece) (store_of new.sessions new.records) (drop (place - offset) got)
     front_waits waits =
         let s = unfit_stop start offset (rest ++ piece) new why place bad stop in
         let left = left_is offset place got (rest ++ piece) s.taken s.left is s.parts s.unfit.0 in
-        subst (Waits before (bytes ++ piece) (store_of new.sessions.items new.records)) (sym left)
+        subst (Waits before (bytes ++ piece) (store_of new.sessions new.records)) (sym left)
         (waits_on start offset rest piece keyed before bytes w size s.taken s.left new s.parts s.adds
         (left_waits offset place got (rest ++ piece) s.taken s.left is s.parts s.unfit.0 waits s.unfit))

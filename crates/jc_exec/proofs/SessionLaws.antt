@@ -161,61 +161,56 @@ not_lt a b = by (int_lt a b) (int_lt b a) ∙ of_numbers a b
     of_numbers (negsuc a) (pos b) = refl
     of_numbers (negsuc a) (negsuc b) = grind (arith, nat_tests)
 
-abbrev dump_of : Bor Session → ℤ
-dump_of s = s.now.dump
+-- what stands for sessions, among it something for each time
+module _ {X : Type 0} (seen : X → Session) (at_time : ℤ → X) (own : (time : ℤ) → (seen (at_time time)).dump ≡ time) where
+  abbrev dump_of : X → ℤ
+  dump_of s = (seen s).dump
 
-abbrev sessions_at : List (Bor Session) → List Session
-sessions_at ss = map (λ s. s.now) ss
+  filter_at : (p : Session → Bool) (q : X → Bool) → ((s : X) → q s ≡ p (seen s)) → (ss : List X) → filter p (map seen ss) ≡ map seen (filter q ss)
+  filter_at p q same [] = refl
+  filter_at p q same (s ∷ ss) = by (p (seen s)) (q s) (same s) (filter_at p q same ss)
+    where
+      by : (a b : Bool) → b ≡ a → filter p (map seen ss) ≡ map seen (filter q ss)
+          → cond a (seen s ∷ filter p (map seen ss)) (filter p (map seen ss)) ≡ map seen (cond b (s ∷ filter q ss) (filter q ss))
+      by true true is rest = ap (λ (l : List Session). seen s ∷ l) rest
+      by true false is rest = absurd cc
+      by false true is rest = absurd cc
+      by false false is rest = rest
 
-filter_at : (p : Session → Bool) (q : Bor Session → Bool) → ((s : Bor Session) → q s ≡ p s.now) → (ss : List (Bor Session))
-    → filter p (sessions_at ss) ≡ sessions_at (filter q ss)
-filter_at p q same [] = refl
-filter_at p q same (s ∷ ss) = by (p s.now) (q s) (same s) (filter_at p q same ss)
-  where
-    by : (a b : Bool) → b ≡ a → filter p (sessions_at ss) ≡ sessions_at (filter q ss)
-        → cond a (s.now ∷ filter p (sessions_at ss)) (filter p (sessions_at ss)) ≡ sessions_at (cond b (s ∷ filter q ss) (filter q ss))
-    by true true is rest = ap (λ (l : List Session). s.now ∷ l) rest
-    by true false is rest = absurd cc
-    by false true is rest = absurd cc
-    by false false is rest = rest
+  all_at : (P : Session → Type 0) (ss : List X) → ((k : ℕ) (d : X) → k < length ss → P (seen (get_or ss k d))) → AllByRecursion P (map seen ss)
+  all_at P [] all = tt
+  all_at P (s ∷ ss) all = (all 0 s (omega arith), all_at P ss (λ k d lt. all (suc k) d (omega (arith, lt))))
 
-all_at : (P : Session → Type 0) (ss : List (Bor Session)) → ((k : ℕ) (d : Bor Session) → k < length ss → P (get_or ss k d).now)
-    → AllByRecursion P (sessions_at ss)
-all_at P [] all = tt
-all_at P (s ∷ ss) all = (all 0 s (omega arith), all_at P ss (λ k d lt. all (suc k) d (omega (arith, lt))))
+  in_order : (ss : List X) → ((i j : ℕ) (d : X) → i ≤ j → j < length ss → int_le (dump_of (get_or ss i d)) (dump_of (get_or ss j d)) ≡ true)
+      → InOrder (map seen ss)
+  in_order [] up = tt
+  in_order (s ∷ ss) up = (
+    all_at (λ t. int_le (dump_of s) t.dump ≡ true) ss (λ k d lt. up 0 (suc k) d (omega arith) (omega (arith, lt))),
+    in_order ss (λ i j d le lt. up (suc i) (suc j) d (omega (arith, le)) (omega (arith, lt))),
+  )
 
-in_order : (ss : List (Bor Session))
-    → ((i j : ℕ) (d : Bor Session) → i ≤ j → j < length ss → int_le (dump_of (get_or ss i d)) (dump_of (get_or ss j d)) ≡ true)
-    → InOrder (sessions_at ss)
-in_order [] up = tt
-in_order (s ∷ ss) up = (
-  all_at (λ t. int_le s.now.dump t.dump ≡ true) ss (λ k d lt. up 0 (suc k) d (omega arith) (omega (arith, lt))),
-  in_order ss (λ i j d le lt. up (suc i) (suc j) d (omega (arith, le)) (omega (arith, lt))),
-)
+  abbrev ties_with : ℤ → X → Bool
+  ties_with time s = not (is_lt (int_cmp time (dump_of s))) && not (is_lt (int_cmp (dump_of s) time))
 
--- what says how a time compares with the dump of a session
-abbrev at_time : ℤ → Bor Session
-at_time time = record { ref_ptr = (0, 0); now = record { id = []; start = pos 0; dump = time } }
+  ties_at : (time : ℤ) (s : X) → ties_with time s ≡ is_dumped_at time (seen s)
+  ties_at time s = λ i. not_lt time (dump_of s) i && not_lt (dump_of s) time i
 
-abbrev ties_with : ℤ → Bor Session → Bool
-ties_with time s = not (is_lt (int_cmp time (dump_of s))) && not (is_lt (int_cmp (dump_of s) time))
+  pub sorted_by_dump : (old new : List X) → IsSortedByKey dump_of int_cmp new → IsStableByKey dump_of int_cmp old new → map seen new ≡ by_dump (map seen old)
+  sorted_by_dump old new sorted stable = only_by_dump (map seen old) (map seen new) (record {
+    sorted = in_order new (λ i j d le lt. sym (not_lt (dump_of (get_or new j d)) (dump_of (get_or new i d)))
+        ∙ ap not (sorted_far (λ x y. is_lt (int_cmp (dump_of x) (dump_of y))) (ranks_by int_cmp_total dump_of) new sorted i j d le lt));
+    stable = λ time. subst (λ (t : ℤ). filter (is_dumped_at t) (map seen new) ≡ filter (is_dumped_at t) (map seen old)) (own time)
+        (filter_at (is_dumped_at (dump_of (at_time time))) (ties_with (dump_of (at_time time))) (ties_at (dump_of (at_time time))) new
+        ∙ ap (map seen) (stable (at_time time))
+        ∙ sym (filter_at (is_dumped_at (dump_of (at_time time))) (ties_with (dump_of (at_time time))) (ties_at (dump_of (at_time time))) old));
+  })
 
-ties_at : (time : ℤ) (s : Bor Session) → ties_with time s ≡ is_dumped_at time s.now
-ties_at time s = λ i. not_lt time (dump_of s) i && not_lt (dump_of s) time i
-
-pub sorted_by_dump : (old new : List (Bor Session)) → IsSortedByKey dump_of int_cmp new → IsStableByKey dump_of int_cmp old new
-    → sessions_at new ≡ by_dump (sessions_at old)
-sorted_by_dump old new sorted stable = only_by_dump (sessions_at old) (sessions_at new) (record {
-  sorted = in_order new (λ i j d le lt. sym (not_lt (dump_of (get_or new j d)) (dump_of (get_or new i d)))
-      ∙ ap not (sorted_far (λ x y. is_lt (int_cmp (dump_of x) (dump_of y))) (ranks_by int_cmp_total dump_of) new sorted i j d le lt));
-  stable = λ time.
-      filter_at (is_dumped_at time) (ties_with time) (ties_at time) new
-      ∙ ap sessions_at (stable (at_time time))
-      ∙ sym (filter_at (is_dumped_at time) (ties_with time) (ties_at time) old);
-})
+-- a session of a time
+abbrev pub lent_at : ℤ → Bor Session
+lent_at time = record { ref_ptr = (0, 0); now = record { id = []; start = pos 0; dump = time } }
 
 -- ---- what holds of all sessions holds of those that are written
 
-pub all_in_order : (P : Session → Type 0) (ss : List Session) (order : List (Bor Session)) → sessions_at order ≡ by_dump ss → All P ss
+pub all_in_order : (P : Session → Type 0) (ss : List Session) (order : List (Bor Session)) → map (λ s. s.now) order ≡ by_dump ss → All P ss
     → All (λ s. P s.now) order
 all_in_order P ss order is all = all_of_each P (λ s. s.now) order (subst (AllByRecursion P) (sym is) (all_by_dump P ss (subst (AllByRecursion P) (map-id ss) (each_of_all P (λ s. s) ss all))))

@@ -1,14 +1,14 @@
 -- What a file adds to a store, as it is gathered apart: sessions, and records by their ids. A record whose id
 -- is in the store is gathered with the bits of both.
-use Rattle.std.specs.Prelude.{◌≡◌, ◌≢◌, ◌⊎◌, ℕ, ◌+◌, List, [], ◌++◌, length, Some, nat_eq, ⊤, true, false, Result, Ok, Err}
+use Rattle.std.specs.Prelude.{◌≡◌, ◌≢◌, ◌⊎◌, ℕ, ◌+◌, List, [], ◌∷◌, ◌++◌, length, Some, nat_eq, ⊤, true, false, Result, Ok, Err}
 use Rattle.std.specs.List.{AllByRecursion}
+use Rattle.std.specs.Map.{lookup, set_value}
 use Rattle.indexmap.specs.IndexMap.{insert_all}
 use Rattle.jc_bytes.specs.declared.fail.Fail.{Fail}
 use Rattle.jc_bytes.specs.declared.fail.Fail.TheVariants as fails
 use Rattle.jc_exec.specs.declared.hits.ClassHits.{ClassHits}
 use Rattle.jc_exec.specs.declared.session.Session.{Session}
 use Rattle.jc_exec.specs.declared.refusal.ExecRefusal.{ExecRefusal}
-use Rattle.jc_exec.specs.declared.gathering.Added.{Added}
 use Rattle.jc_exec.specs.Answers.{why_of, conflict_of, Refuses, RefusesRecord}
 use Rattle.jc_exec.specs.Format.{Block, header, session, class, IsClassBlock, AreBlocks, Blocks, BeginsWithHeader}
 use Rattle.jc_exec.specs.Front.{MayStandAt, IsUnfit, reading_at}
@@ -18,6 +18,19 @@ use Rattle.jc_exec.specs.Union.{agree, either_hits, with_record, with_block, uni
 -- records under their ids
 abbrev pub Entries : Type 0
 Entries = List (ℕ × ClassHits)
+
+-- sessions and records, as a table holds them
+pub record Held : Type 0 where
+  pub sessions : List Session
+  pub records : Entries
+
+-- with one session more
+abbrev pub with_session : Held → Session → Held
+with_session held s = record { sessions = held.sessions ++ s ∷ []; records = held.records }
+
+-- with other records
+abbrev pub with_records : Held → Entries → Held
+with_records held es = record { sessions = held.sessions; records = es }
 
 -- the records of a store once those that were gathered replace the ones of their ids
 abbrev pub over : Entries → Entries → List ClassHits
@@ -49,6 +62,11 @@ abbrev pub MergesInto : Result (Unit {0}) (Fail ExecRefusal) → ClassHits → C
 MergesInto (Ok done) old new hits = GivesMerged old hits new
 MergesInto (Err e) old new hits = (new ≡ old) × RefusesMerging old hits e
 
+-- the record of the id is there, and took the bits of another, or stayed
+abbrev pub MergesHeld : Result (Unit {0}) (Fail ExecRefusal) → Held → Held → ClassHits → Type 0
+MergesHeld r old new hits = (c : ClassHits) × (v : ClassHits) × (lookup (nat_eq hits.id) old.records ≡ Some c)
+    × MergesInto r c v hits × (new ≡ with_records old (set_value (nat_eq hits.id) old.records v))
+
 -- ---- all that was gathered
 
 -- the store of these sessions and records with what was gathered
@@ -67,11 +85,11 @@ pub record Gathers (known : Entries) (text : List ℕ) (more : List Session) (fr
   pub keyed : Keyed fresh
 
 -- a block more was put with what was gathered: the union goes on with it
-pub record Keeps (known : Entries) (old new : Added) (b : Block) : Type 0 where
+pub record Keeps (known : Entries) (old new : Held) (b : Block) : Type 0 where
   pub union : (sessions : List Session)
-      → with_block (store_with sessions known old.sessions.items old.records) b
-      ≡ Some (store_with sessions known new.sessions.items new.records)
-  pub writable : AllByRecursion IsWritable old.sessions.items → AllByRecursion IsWritable new.sessions.items
+      → with_block (store_with sessions known old.sessions old.records) b
+      ≡ Some (store_with sessions known new.sessions new.records)
+  pub writable : AllByRecursion IsWritable old.sessions → AllByRecursion IsWritable new.sessions
   pub keyed : Keyed new.records
 
 -- why a block is not put with what was gathered; want of memory may come at any time
@@ -86,21 +104,25 @@ RefusesAll known text e = (sessions : List Session) → Refuses e (store_of sess
 
 -- ---- some blocks of a file
 
+-- what is held, as a store
+abbrev pub held_store : Held → Store
+held_store held = store_of held.sessions held.records
+
 -- a store with what was gathered
-abbrev pub with_added : List Session → Entries → Added → Store
-with_added sessions known added = store_with sessions known added.sessions.items added.records
+abbrev pub with_added : List Session → Entries → Held → Store
+with_added sessions known held = store_with sessions known held.sessions held.records
 
 -- bytes that begin at the offset of a file are a list of blocks, which may stand there, and these were put with what was gathered
-pub record Adds (known : Entries) (offset : ℕ) (bytes : List ℕ) (old new : Added) : Type 0 where
+pub record Adds (known : Entries) (offset : ℕ) (bytes : List ℕ) (old new : Held) : Type 0 where
   pub read : List Block
   pub whole : AreBlocks bytes read
   pub begins : offset ≡ 0 → BeginsWithHeader read
   pub union : (sessions : List Session) → union_of (with_added sessions known old) read ≡ Some (with_added sessions known new)
-  pub writable : AllByRecursion IsWritable old.sessions.items → AllByRecursion IsWritable new.sessions.items
+  pub writable : AllByRecursion IsWritable old.sessions → AllByRecursion IsWritable new.sessions
   pub keyed : Keyed new.records
 
 -- the blocks in front were put, and no block that may stand behind them is next
-pub record StopsUnfit (known : Entries) (offset : ℕ) (bytes : List ℕ) (old new : Added) (why : ExecRefusal) : Type 0 where
+pub record StopsUnfit (known : Entries) (offset : ℕ) (bytes : List ℕ) (old new : Held) (why : ExecRefusal) : Type 0 where
   pub taken : List ℕ
   pub left : List ℕ
   pub parts : bytes ≡ taken ++ left
@@ -109,12 +131,12 @@ pub record StopsUnfit (known : Entries) (offset : ℕ) (bytes : List ℕ) (old n
   pub unfit : IsUnfit (reading_at (offset + length taken) left) (why_of why)
 
 -- the blocks in front have a union, over which the class block behind them is refused
-pub record StopsClash (known : Entries) (offset : ℕ) (bytes : List ℕ) (old : Added) (why : ExecRefusal) : Type 0 where
+pub record StopsClash (known : Entries) (offset : ℕ) (bytes : List ℕ) (old : Held) (why : ExecRefusal) : Type 0 where
   pub taken : List ℕ
   pub front : List ℕ
   pub more : List ℕ
   pub parts : bytes ≡ taken ++ (front ++ more)
-  pub reached : Added
+  pub reached : Held
   pub adds : Adds known offset taken old reached
   pub hits : ClassHits
   pub block : IsClassBlock front hits
@@ -122,6 +144,6 @@ pub record StopsClash (known : Entries) (offset : ℕ) (bytes : List ℕ) (old :
   pub refused : RefusesRecord (fails.Said why) (over known reached.records) hits
 
 -- why not all of the bytes were put; want of memory may come at any time
-abbrev pub IsStop : Entries → ℕ → List ℕ → Added → Added → Fail ExecRefusal → Type 0
+abbrev pub IsStop : Entries → ℕ → List ℕ → Held → Held → Fail ExecRefusal → Type 0
 IsStop known offset bytes old new fails.Memory = ⊤
 IsStop known offset bytes old new (fails.Said why) = StopsUnfit known offset bytes old new why ⊎ StopsClash known offset bytes old why

@@ -7,7 +7,7 @@ use Rattle.jc_exec.specs.declared.waiting.Waiting.{Waiting}
 use Rattle.jc_exec.specs.declared.waiting.State.{State}
 use Rattle.jc_exec.specs.declared.waiting.State.TheVariants as states
 use Rattle.jc_exec.specs.declared.refusal.ExecRefusal.{ExecRefusal}
-use Rattle.jc_exec.specs.Adding.{store_of}
+use Rattle.jc_exec.specs.Adding.{Held, held_store}
 use Rattle.jc_exec.specs.Answers.{why_of}
 use Rattle.jc_exec.specs.Format.{Block, IsBlock, Blocks}
 use Rattle.jc_exec.specs.Refusing.{blocks_of, HasOtherHeader, FirstRefusal}
@@ -52,6 +52,12 @@ pub record Feeds (f : Feed) (before : Store) (bytes : List ℕ) : Type 0 where
   pub size : f.length ≡ length bytes
   pub stands : StandsTo f.kept before bytes
 
+-- the bytes are blocks, which have this union with the store before
+pub record Finished (before : Store) (bytes : List ℕ) (store : Store) : Type 0 where
+  pub read : List Block
+  pub blocks : Blocks bytes read
+  pub union : IsUnion (blocks_of before ++ read) store
+
 -- ---- what a feed keeps
 
 -- how many bytes are kept of a block that isn't whole
@@ -76,18 +82,22 @@ IsSaid (fails.Said why) = ⊤
 
 -- ---- the values of the fields
 
-abbrev pub kept_of : State → Kept
-kept_of (states.Waiting o) = waiting (store_of o.added.sessions.items o.added.records) o.rest.items
-kept_of (states.Refused why) = refused why
+abbrev pub kept_of : {T : Type 0} → (T → Held) → State T → Kept
+kept_of held (states.Waiting o) = waiting (held_store (held o.table)) o.rest.items
+kept_of held (states.Refused why) = refused why
 
 -- what is kept fits the format, and no more than the bytes that were fed and less than the longest block
-abbrev pub IsSound : State → ℕ → Type 0
-IsSound (states.Waiting o) fed = AllByRecursion IsWritable o.added.sessions.items × Keyed o.added.records
+abbrev pub IsSound : {T : Type 0} → (T → Held) → State T → ℕ → Type 0
+IsSound held (states.Waiting o) fed = AllByRecursion IsWritable (held o.table).sessions × Keyed (held o.table).records
     × (length o.rest.items ≤ fed) × (length o.rest.items < most_block)
-IsSound (states.Refused why) fed = ⊤
+IsSound held (states.Refused why) fed = ⊤
 
 -- what was kept of some bytes, the last of which begin at the offset, became what is kept of these and the piece
-abbrev pub GoesOn : Waiting → ℕ → List ℕ → State → Type 0
-GoesOn o offset piece later = (before : Store) (bytes : List ℕ)
-    → Waits before bytes (store_of o.added.sessions.items o.added.records) o.rest.items
-    → offset + length o.rest.items ≡ length bytes → StandsTo (kept_of later) before (bytes ++ piece)
+abbrev pub GoesOn : {T : Type 0} → (T → Held) → Waiting T → ℕ → List ℕ → State T → Type 0
+GoesOn held o offset piece later = (before : Store) (bytes : List ℕ)
+    → Waits before bytes (held_store (held o.table)) o.rest.items
+    → offset + length o.rest.items ≡ length bytes → StandsTo (kept_of held later) before (bytes ++ piece)
+
+-- the feed of so many bytes, of which this is kept
+abbrev pub feed_of : {T : Type 0} → (T → Held) → ℕ → State T → Feed
+feed_of held fed state = record { length = fed; kept = kept_of held state }

@@ -8,7 +8,8 @@ ghost use Rattle.jc_exec.specs.Refusing.{Refused, blocks_of, FirstRefusal, IsTak
 ghost use Rattle.jc_exec.specs.Store.{Store};
 ghost use Rattle.jc_exec.specs.Union.{IsUnion, ReadsOn};
 
-use crate::waiting::{State, Waiting, fed};
+use crate::gathering::Added;
+use crate::waiting::{State, begun, ended, fed, rest};
 use crate::{ExecRefusal, ExecStore};
 use jc_bytes::{Fail, Memory};
 use std::alloc::Global;
@@ -21,19 +22,19 @@ use std::marker::Model;
 #[derive(Drop)]
 pub struct ExecFeed {
     fed: u32,
-    state: State,
+    state: State<Added>,
 }
 
 impl Model for ExecFeed {
     ghost use Rattle.std.specs.Prelude.{◌≤◌};
     ghost use Rattle.jc_bytes.specs.Reader.{most_read};
-    ghost use Rattle.jc_exec.specs.Feeding.{Feed, kept_of, IsSound};
+    ghost use Rattle.jc_exec.specs.Feeding.{Feed, feed_of, IsSound};
 
     ghost Value = { Feed };
 
-    ghost view = { λ f. record { length = f.fed; kept = kept_of f.state } };
+    ghost view = { λ f. feed_of (λ a. record { sessions = a.sessions.items; records = a.records }) f.fed f.state };
 
-    ghost invariant = { λ f. (f.fed ≤ most_read) × IsSound f.state f.fed };
+    ghost invariant = { λ f. (f.fed ≤ most_read) × IsSound (λ a. record { sessions = a.sessions.items; records = a.records }) f.state f.fed };
 }
 
 impl ExecFeed {
@@ -43,13 +44,9 @@ impl ExecFeed {
     {
         let added = store.into_added();
         let alloc = *added.sessions.allocator();
-        let waiting = Waiting {
-            added,
-            rest: Vec::new(alloc),
-        };
         ExecFeed {
             fed: 0,
-            state: State::Waiting(waiting),
+            state: begun(alloc, added),
         }
     }
 
@@ -65,13 +62,7 @@ impl ExecFeed {
         ensures length { IfOk result (λ later. later.length ≡ self.length + length piece.now) }
     {
         let ExecFeed { fed: length, state } = self;
-        let state = match state {
-            State::Waiting(waiting) => {
-                let offset = length - waiting.rest.len() as u32;
-                fed(alloc, waiting, offset, piece)?
-            }
-            State::Refused(refusal) => State::Refused(refusal),
-        };
+        let state = fed(alloc, length, state, piece)?;
         Ok(ExecFeed {
             fed: length + piece.len() as u32,
             state,
@@ -87,10 +78,7 @@ impl ExecFeed {
         ensures behind { (before : Store) (bytes more : List ℕ) → Feeds self.now before bytes → IsTaken before (bytes ++ more)
             → StandBehindBlocks bytes result }
     {
-        match &self.state {
-            State::Waiting(waiting) => waiting.rest.len() as u32,
-            State::Refused(_) => 0,
-        }
+        rest(&self.state)
     }
 
     /// How many bytes were fed.
@@ -119,15 +107,7 @@ impl ExecFeed {
         ensures said { IfErr result IsSaid }
     {
         let ExecFeed { fed: length, state } = self;
-        match state {
-            State::Waiting(waiting) => {
-                if !waiting.rest.is_empty() {
-                    let place = length - waiting.rest.len() as u32;
-                    return Err(Fail::Said(ExecRefusal::BadExec { place }));
-                }
-                Ok(ExecStore::of_added(waiting.added))
-            }
-            State::Refused(refusal) => Err(Fail::Said(refusal)),
-        }
+        let added = ended(length, state)?;
+        Ok(ExecStore::of_added(added))
     }
 }

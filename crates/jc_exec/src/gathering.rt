@@ -8,9 +8,10 @@ ghost use Rattle.jc_exec.specs.Store.{Keyed};
 use crate::block::{Front, next_block};
 use crate::merge::gather;
 use crate::records::Records;
-use crate::{ExecRefusal, Session};
+use crate::table::Table;
+use crate::{ClassHits, ExecRefusal, Session};
 use jc_bytes::{Fail, Reader};
-use std::alloc::Global;
+use std::alloc::{AllocError, Global};
 
 /// Sessions, and records of classes.
 #[derive(Drop)]
@@ -19,47 +20,64 @@ pub struct Added {
     pub records: Records,
 }
 
+impl Table for Added {
+    ghost held = { λ a. record { sessions = a.sessions.items; records = a.records } };
+
+    fn push_session(&mut self, session: Session) -> Result<(), AllocError> {
+        self.sessions.push(session)?;
+        Ok(())
+    }
+
+    fn merge(&mut self, alloc: Global, hits: &ClassHits) -> Option<Result<(), Fail<ExecRefusal>>> {
+        self.records.merge(alloc, hits)
+    }
+
+    fn push(&mut self, alloc: Global, hits: ClassHits) -> Result<(), AllocError> {
+        self.records.push(alloc, hits)
+    }
+}
+
 /// Puts a block with what was gathered.
-fn keep(
+fn keep<T: Table>(
     alloc: Global,
     known: &Records,
-    added: &mut Added,
+    table: &mut T,
     block: Front,
 ) -> Result<(), Fail<ExecRefusal>>
     requires known { Keyed known.now }
-    requires keyed { Keyed added.old.records }
+    requires keyed { Keyed (T.held table.old).records }
     requires block { Fits block }
-    ensures keeps { OnOk result (Keeps known.now added.old added.new (block_of block)) }
-    ensures refused { IfErr result (λ e. RefusesBlock e known.now added.old.records (block_of block)) }
+    ensures keeps { OnOk result (Keeps known.now (T.held table.old) (T.held table.new) (block_of block)) }
+    ensures refused { IfErr result (λ e. RefusesBlock e known.now (T.held table.old).records (block_of block)) }
 {
     match block {
         Front::Header => {}
-        Front::Session(session) => added.sessions.push(session)?,
-        Front::Class(hits) => gather(alloc, known, &mut added.records, hits)?,
+        Front::Session(session) => table.push_session(session)?,
+        Front::Class(hits) => gather(alloc, known, table, hits)?,
     }
     Ok(())
 }
 
 /// Puts the blocks of bytes that begin at the offset of a file with what was gathered, over some records. After an
 /// error those in front of the refused block were put.
-pub fn take_blocks(
+pub fn take_blocks<T: Table>(
     alloc: Global,
     known: &Records,
-    added: &mut Added,
+    table: &mut T,
     bytes: &[u8],
     offset: u32,
 ) -> Result<(), Fail<ExecRefusal>>
     requires short { offset + length bytes.now ≤ most_read }
     requires known { Keyed known.now }
-    requires keyed { Keyed added.old.records }
-    ensures adds { OnOk result (Adds known.now offset bytes.now added.old added.new) }
-    ensures stops { IfErr result (IsStop known.now offset bytes.now added.old added.new) }
+    requires keyed { Keyed (T.held table.old).records }
+    ensures adds { OnOk result (Adds known.now offset bytes.now (T.held table.old) (T.held table.new)) }
+    ensures stops { IfErr result (IsStop known.now offset bytes.now (T.held table.old) (T.held table.new)) }
 {
     let mut reader = Reader::new(bytes);
     'reading: while (reader.place() as usize) < bytes.len() {
         let kind = bytes[reader.place() as usize];
         let block = next_block(alloc, &mut reader, offset, kind)?;
-        keep(alloc, known, added, block)?;
+        keep(alloc, known, table, block)?;
     }
     Ok(())
 }

@@ -149,7 +149,7 @@ fn laid(
     Ok((slots, others))
 }
 
-/// Makes the slots more than twice as many, where half of them are taken.
+/// Makes the slots about half as many again, an odd number, where two of three are taken.
 fn make_room(
     alloc: Global,
     ids: &[u64],
@@ -163,10 +163,12 @@ fn make_room(
     ensures reaches { ReachesAll slots.new.items others.new ids.now (length ids.now) }
     ensures unchanged { OnErr result (slots.new.items ≡ slots.old.items) }
 {
-    if WINDOW < slots.len() && ids.len() < slots.len() / 2 {
+    if WINDOW < slots.len() && ids.len() < slots.len() / 3 * 2 {
         return Ok(());
     }
-    let count = slots.len().saturating_mul(2).saturating_add(2 * WINDOW + 1);
+    let count = (slots.len() / 4)
+        .saturating_mul(6)
+        .saturating_add(2 * WINDOW + 1);
     let (more, far) = laid(alloc, ids, count)?;
     *slots = more;
     *others = far;

@@ -15,6 +15,7 @@ mod records;
 mod refusal;
 mod session;
 mod store;
+mod table;
 mod waiting;
 mod write;
 

@@ -8,6 +8,7 @@ ghost use Rattle.jc_exec.specs.Store.{IsSmall, Keyed, classes_of};
 ghost use Rattle.jc_exec.specs.Union.{fits, agree, either_bits, either_hits};
 
 use crate::records::Records;
+use crate::table::Table;
 use crate::{Bits, ClassHits, ExecRefusal};
 use jc_bytes::{Bytes, Fail};
 use std::alloc::{AllocError, Global};
@@ -124,18 +125,19 @@ fn merged(
 
 /// Puts a record with the gathered ones: merged into the one of its id among them, else with the
 /// bits of the one of its id that is known, else as it is.
-pub fn gather(
+pub fn gather<T: Table>(
     alloc: Global,
     known: &Records,
-    fresh: &mut Records,
+    fresh: &mut T,
     hits: ClassHits,
 ) -> Result<(), Fail<ExecRefusal>>
     requires known { Keyed known.now }
-    requires fresh { Keyed fresh.old }
+    requires fresh { Keyed (T.held fresh.old).records }
     requires hits { IsSmall hits }
     requires text { IsModified hits.name }
-    ensures merges { OnOk result (Merges known.now fresh.old fresh.new hits) }
-    ensures refused { IfErr result (λ e. RefusesRecord e (over known.now fresh.old) hits) }
+    ensures merges { OnOk result (Merges known.now (T.held fresh.old).records (T.held fresh.new).records hits) }
+    ensures sessions { OnOk result ((T.held fresh.new).sessions ≡ (T.held fresh.old).sessions) }
+    ensures refused { IfErr result (λ e. RefusesRecord e (over known.now (T.held fresh.old).records) hits) }
 {
     if let Some(merged) = fresh.merge(alloc, &hits) {
         return merged;

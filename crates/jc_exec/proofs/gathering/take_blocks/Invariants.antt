@@ -4,7 +4,7 @@ use Rattle.jc_exec.proofs.gathering.take_blocks.Given as goal
 
 -- the blocks so far
 abbrev pub invariant-reading : goal.invariant-reading
-invariant-reading l = Progress l.fn.known l.fn.offset l.fn.bytes l.fn.added l.reader l.added
+invariant-reading g l = Progress l.fn.known l.fn.offset l.fn.bytes (g.T.Table.held l.fn.table) l.reader (g.T.Table.held l.table)
 
 abbrev pub decreases-reading : goal.decreases-reading
-decreases-reading l = length l.reader.left
+decreases-reading g l = length l.reader.left

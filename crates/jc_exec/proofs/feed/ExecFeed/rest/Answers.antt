@@ -1,9 +1,17 @@
-use Rattle.jc_exec.specs.declared.waiting.State.TheVariants as states
-use Rattle.jc_exec.proofs.FinishLaws.{seen, refused_not_taken}
+use Rattle.std.proofs.Common.{ℕ, ◌<◌, ◌∙◌, sym, ap, subst}
+use Rattle.jc_exec.specs.Feeding.{Feed, StandBehindBlocks, rest_of, most_block}
+use Rattle.jc_exec.proofs.FinishLaws.{sound_small, kept_behind}
 use Rattle.jc_exec.proofs.feed.ExecFeed.rest.Goals as goal
 
-pub returns-in-Refused-clause-behind : goal.returns-in-Refused-clause-behind
-returns-in-Refused-clause-behind c = λ before bytes more f taken.
-    let why = c.in-Refused.field-0 in
-    let g = seen c.args.self.now c.self.inside.fed c.self.inside.state (states.Refused why) c.self.view_is c.in-Refused.is before bytes f in
-    absurd (refused_not_taken why before bytes more g.stands taken)
+pub rest-requires : goal.rest-requires
+rest-requires c = sound_small _ c.self.inside.state c.self.inside.fed c.self.invariant.1
+
+pub returns-clause-kept : goal.returns-clause-kept
+returns-clause-kept c = c.rest.ensures ∙ ap (λ (f : Feed). rest_of f.kept) c.self.view_is
+
+pub returns-clause-small : goal.returns-clause-small
+returns-clause-small c = subst (λ (n : ℕ). n < most_block) (sym c.rest.ensures) (sound_small _ c.self.inside.state c.self.inside.fed c.self.invariant.1)
+
+pub returns-clause-behind : goal.returns-clause-behind
+returns-clause-behind c = λ before bytes more f taken.
+    subst (StandBehindBlocks bytes) (sym (c.rest.ensures ∙ ap (λ (g : Feed). rest_of g.kept) c.self.view_is)) (kept_behind c.args.self.now before bytes more f taken)
