@@ -27,7 +27,7 @@ lookup_at (c ∷ cs) (suc k) id d lt is front =
 pub lookup_place : (cs : List ClassHits) (id place : ℕ) (d : ClassHits) → IsPlaceOf cs id place → lookup (nat_eq id) (entries_of cs) ≡ Some (get_or cs place d)
 lookup_place cs id place d p = lookup_at cs place id d p.within p.is p.front
 
-lookup_nowhere : (cs : List ClassHits) (id : ℕ) → ((j : ℕ) → j < length cs → slice_index (map (λ c. c.id) cs) j ≢ id) → lookup (nat_eq id) (entries_of cs) ≡ None
+pub lookup_nowhere : (cs : List ClassHits) (id : ℕ) → ((j : ℕ) → j < length cs → slice_index (map (λ c. c.id) cs) j ≢ id) → lookup (nat_eq id) (entries_of cs) ≡ None
 lookup_nowhere [] id none = refl
 lookup_nowhere (c ∷ cs) id none =
     rw (ne_eqb id c.id (λ same. none 0 (omega arith) (sym same))) (lookup_nowhere cs id (λ j below. none (suc j) (omega (arith, below))))
@@ -42,7 +42,7 @@ nowhere (c ∷ cs) id none (suc j) lt = nowhere cs id (none_first id (c.id, c) (
 front_long : (all : List ℕ) (cs : List ClassHits) → IsFront all cs → length cs ≤ length all
 front_long all cs front = omega (arith, length-take (length cs) all, ap length front, length-map cs (λ (c : ClassHits). c.id))
 
-front_at : (all : List ℕ) (cs : List ClassHits) (j : ℕ) → IsFront all cs → j < length cs → slice_index (map (λ c. c.id) cs) j ≡ slice_index all j
+pub front_at : (all : List ℕ) (cs : List ClassHits) (j : ℕ) → IsFront all cs → j < length cs → slice_index (map (λ c. c.id) cs) j ≡ slice_index all j
 front_at all cs j front lt = ap (λ (l : List ℕ). slice_index l j) (sym front) ∙ get_or-take (length cs) all j 0 lt
 
 pub place_found : (all : List ℕ) (cs : List ClassHits) (id place : ℕ) (r : Option ℕ) → IsFront all cs → r ≡ Some place

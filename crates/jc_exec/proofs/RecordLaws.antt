@@ -15,7 +15,7 @@ use Rattle.jc_exec.specs.declared.hits.ClassHits.{ClassHits}
 use Rattle.jc_exec.specs.declared.refusal.ExecRefusal.{ExecRefusal}
 use Rattle.jc_exec.specs.Adding.{Entries, over, Merges, Puts, RefusesMerging, GivesMerged, MergesInto}
 use Rattle.jc_exec.specs.Answers.{IsConflict, RefusesRecord, SaysOnly, conflict_of}
-use Rattle.jc_exec.specs.Store.{IsSmall, IsWritableClass, classes_of, Keyed, IsNew}
+use Rattle.jc_exec.specs.Store.{IsSmall, IsWritableClass, classes_of, entries_of, Keyed, IsNew}
 use Rattle.jc_exec.specs.Union.{agree, either_hits, with_record}
 use Rattle.jc_exec.proofs.RecordBitsLaws.{small_either, agree_apart, apart_agree}
 
@@ -370,3 +370,8 @@ pub put_refuses : (result : Result (Unit {0}) (Fail ExecRefusal)) (es later : En
     → (c : ClassHits) → IsConflict (classes_of es) c r → IsErrAnd result (SaysOnly (conflict_of c r))
 put_refuses (Ok done) es later r keyed puts refused c conflict = not_put es later c r keyed conflict puts
 put_refuses (Err e) es later r keyed puts refused c conflict = says_conflict es c r e keyed conflict refused
+
+-- records under their ids are those that their list gives
+pub entries_again : (es : Entries) → Keyed es → entries_of (classes_of es) ≡ es
+entries_again [] keyed = refl
+entries_again (e ∷ es) keyed = λ i. (sym keyed.0 i, e.1) ∷ entries_again es keyed.4 i

@@ -214,3 +214,7 @@ lent_at time = record { ref_ptr = (0, 0); now = record { id = []; start = pos 0;
 pub all_in_order : (P : Session → Type 0) (ss : List Session) (order : List (Bor Session)) → map (λ s. s.now) order ≡ by_dump ss → All P ss
     → All (λ s. P s.now) order
 all_in_order P ss order is all = all_of_each P (λ s. s.now) order (subst (AllByRecursion P) (sym is) (all_by_dump P ss (subst (AllByRecursion P) (map-id ss) (each_of_all P (λ s. s) ss all))))
+
+pub all_sorted : (P : Session → Type 0) (ss : List Session) → All P ss → All P (by_dump ss)
+all_sorted P ss all = all_of_each P (λ s. s) (by_dump ss) (subst (AllByRecursion P) (sym (map-id (by_dump ss)))
+    (all_by_dump P ss (subst (AllByRecursion P) (map-id ss) (each_of_all P (λ s. s) ss all))))

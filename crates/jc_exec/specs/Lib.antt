@@ -11,3 +11,4 @@ pub mod Adding
 pub mod Writing
 pub mod Groups
 pub mod Feeding
+pub mod Rows

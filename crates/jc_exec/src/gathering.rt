@@ -7,6 +7,8 @@ ghost use Rattle.jc_exec.specs.Store.{Keyed};
 
 use crate::block::{Front, next_block};
 use crate::merge::gather;
+use crate::packed_records::PackedRecords;
+use crate::packed_sessions::PackedSessions;
 use crate::records::Records;
 use crate::table::Table;
 use crate::{ClassHits, ExecRefusal, Session};
@@ -34,6 +36,29 @@ impl Table for Added {
 
     fn push(&mut self, alloc: Global, hits: ClassHits) -> Result<(), AllocError> {
         self.records.push(alloc, hits)
+    }
+}
+
+/// Sessions, and records of classes, whose names and bits stand packed.
+#[derive(Drop)]
+pub struct PackedAdded {
+    pub sessions: PackedSessions,
+    pub records: PackedRecords,
+}
+
+impl Table for PackedAdded {
+    ghost held = { λ a. record { sessions = a.sessions; records = a.records } };
+
+    fn push_session(&mut self, session: Session) -> Result<(), AllocError> {
+        self.sessions.push(&session)
+    }
+
+    fn merge(&mut self, alloc: Global, hits: &ClassHits) -> Option<Result<(), Fail<ExecRefusal>>> {
+        self.records.merge(alloc, hits)
+    }
+
+    fn push(&mut self, alloc: Global, hits: ClassHits) -> Result<(), AllocError> {
+        self.records.push(alloc, &hits)
     }
 }
 

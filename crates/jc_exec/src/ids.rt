@@ -204,6 +204,21 @@ impl Ids {
         }
     }
 
+    /// The id at a place.
+    pub fn at(&self, place: usize) -> u64
+        requires { place < length self.now }
+        ensures { result ≡ slice_index self.now place }
+    {
+        self.ids[place]
+    }
+
+    /// The ids without the index of their places.
+    pub fn into_ids(self) -> Vec<u64>
+        ensures { result.items ≡ self }
+    {
+        self.ids
+    }
+
     /// Puts an id that isn't there behind the others.
     pub fn push(&mut self, alloc: Global, id: u64) -> Result<(), AllocError>
         requires { (place : ℕ) → place < length self.old → slice_index self.old place ≢ id }

@@ -11,6 +11,11 @@ mod hits;
 mod ids;
 mod laws;
 mod merge;
+mod packed_feed;
+mod packed_records;
+mod packed_sessions;
+mod packed_store;
+mod packed_write;
 mod records;
 mod refusal;
 mod session;
@@ -27,6 +32,8 @@ pub use laws::{
     sessions_by_dump, union_block_by_block, what_is_written_is_read,
 };
 pub use merge::check_fits;
+pub use packed_feed::PackedFeed;
+pub use packed_store::PackedStore;
 pub use refusal::ExecRefusal;
 pub use session::Session;
 pub use store::ExecStore;

@@ -1,9 +1,9 @@
 //! Where the blocks of execution data are put.
-ghost use Rattle.std.specs.Prelude.{◌≡◌, ◌<◌, None, nat_eq, length, OnOk, IfSome, IfNone};
+ghost use Rattle.std.specs.Prelude.{◌≡◌, None, nat_eq, OnOk, IfSome, IfNone};
 ghost use Rattle.std.specs.Map.{lookup};
 ghost use Rattle.indexmap.specs.IndexMap.{insert_entry};
 ghost use Rattle.jc_exec.specs.Adding.{Held, MergesHeld, with_session, with_records};
-ghost use Rattle.jc_exec.specs.Store.{IsSmall, Keyed};
+ghost use Rattle.jc_exec.specs.Store.{IsSmall, IsWritable, Keyed};
 
 use crate::{ClassHits, ExecRefusal, Session};
 use jc_bytes::Fail;
@@ -16,7 +16,7 @@ pub trait Table {
 
     /// Puts a session last.
     fn push_session(&mut self, session: Session) -> Result<(), AllocError>
-        requires { length session.id < 65536 }
+        requires { IsWritable session }
         ensures { OnOk result (held self.new ≡ with_session (held self.old) session) };
 
     /// Merges a record into the one of its id, if there is one and they agree.

@@ -52,7 +52,7 @@ fn put_time(out: &mut Vec<u8>, time: i64) -> Result<(), AllocError>
 }
 
 /// The block of a session.
-fn put_session(out: &mut Vec<u8>, session: &Session) -> Result<(), AllocError>
+pub fn put_session(out: &mut Vec<u8>, session: &Session) -> Result<(), AllocError>
     requires { length session.now.id < 65536 }
     ensures { OnOk result (out.new.items ≡ out.old.items ++ session_text session.now) }
 {
@@ -65,7 +65,7 @@ fn put_session(out: &mut Vec<u8>, session: &Session) -> Result<(), AllocError>
 }
 
 /// The block of a record.
-fn put_class(out: &mut Vec<u8>, hits: &ClassHits) -> Result<(), AllocError>
+pub fn put_class(out: &mut Vec<u8>, hits: &ClassHits) -> Result<(), AllocError>
     requires { IsSmall hits.now }
     ensures { OnOk result (out.new.items ≡ out.old.items ++ class_text hits.now) }
 {
