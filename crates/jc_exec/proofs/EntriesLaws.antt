@@ -1,5 +1,5 @@
 -- Records under their ids, and the list of ids that begins with theirs.
-use Rattle.std.proofs.Common.{◌≡◌, ◌≢◌, ℕ, zero, suc, ◌+◌, ◌<◌, ◌≤◌, Bool, true, false, cond, List, [], ◌∷◌, ◌++◌, length, map, take, get_or, slice_index, nat_eq, Option, Some, None, IfNone, Result, Ok, Err, refl, sym, ◌∙◌, ap, arith}
+use Rattle.std.proofs.Common.{◌≡◌, ◌≢◌, ℕ, zero, suc, ◌+◌, ◌<◌, ◌≤◌, Bool, true, false, cond, List, [], ◌∷◌, ◌++◌, length, map, take, get_or, slice_index, nat_eq, Option, Some, None, IfNone, Result, Ok, Err, refl, sym, ◌∙◌, ap, subst, arith}
 use Rattle.std.specs.Map.{lookup, set_value}
 use Rattle.std.proofs.Math.ListN.{set}
 use Rattle.std.proofs.Math.Seq.{map-set_same}
@@ -12,8 +12,9 @@ use Rattle.jc_bytes.specs.declared.fail.Fail.{Fail}
 use Rattle.jc_exec.specs.declared.refusal.ExecRefusal.{ExecRefusal}
 use Rattle.jc_exec.specs.Adding.{Entries, MergesInto}
 use Rattle.jc_exec.specs.Places.{with_id, ids_with, IsFront, IsPlaceOf}
-use Rattle.jc_exec.specs.Store.{entries_of, classes_of}
+use Rattle.jc_exec.specs.Store.{entries_of, classes_of, IsNew, IsSmall, Keyed}
 use Rattle.jc_exec.proofs.RecordLaws.{none_first, set_is_insert}
+use Rattle.jc_exec.proofs.StoreLaws.{new_and_there, all_fit}
 
 -- ---- looking up
 
@@ -108,6 +109,29 @@ absent all cs id is none k lt same =
 pub classes_are : (cs : List ClassHits) → classes_of (entries_of cs) ≡ cs
 classes_are [] = refl
 classes_are (c ∷ cs) = ap (λ (l : List ClassHits). c ∷ l) (classes_are cs)
+
+-- no record in front of another has its id
+pub none_in_front : (cs : List ClassHits) (k : ℕ) (r : ClassHits) → Keyed (entries_of cs) → k < length cs → get_or cs k r ≡ r
+    → lookup (nat_eq r.id) (entries_of (take k cs)) ≡ None
+none_in_front [] k r keyed lt is = absurd (omega (arith, lt))
+none_in_front (c ∷ cs) zero r keyed lt is = refl
+none_in_front (c ∷ cs) (suc k) r keyed lt is =
+    let new : IsNew c.id cs = subst (IsNew c.id) (classes_are cs) keyed.3 in
+    let below : k < length cs = omega (arith, lt) in
+    rw (ne_eqb r.id c.id (λ same. new_and_there c.id cs r k new below is (sym same))) (none_in_front cs k r keyed.4 below is)
+
+pub small_at : (cs : List ClassHits) (k : ℕ) (d : ClassHits) → Keyed (entries_of cs) → k < length cs → IsSmall (get_or cs k d)
+small_at cs k d keyed lt =
+    let below : k < length (classes_of (entries_of cs)) = omega (arith, lt, ap length (classes_are cs)) in
+    subst (λ (l : List ClassHits). IsSmall (get_or l k d)) (classes_are cs) (all_fit (entries_of cs) keyed k d below).0
+
+-- one record more of some
+pub entries_next : (cs : List ClassHits) (k : ℕ) (r : ClassHits) → Keyed (entries_of cs) → k < length cs → get_or cs k r ≡ r
+    → insert_entry nat_eq (entries_of (take k cs)) r.id r ≡ entries_of (take (k + 1) cs)
+entries_next cs k r keyed lt is =
+    sym (push_entry (take k cs) r (none_in_front cs k r keyed lt is))
+    ∙ ap (λ (x : ClassHits). entries_of (take k cs ++ x ∷ [])) (sym is)
+    ∙ ap entries_of (sym (take_more cs k r lt))
 
 -- ---- ids with others behind them
 

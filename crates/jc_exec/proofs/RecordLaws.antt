@@ -18,6 +18,7 @@ use Rattle.jc_exec.specs.Answers.{IsConflict, RefusesRecord, SaysOnly, conflict_
 use Rattle.jc_exec.specs.Store.{IsSmall, IsWritableClass, classes_of, entries_of, Keyed, IsNew}
 use Rattle.jc_exec.specs.Union.{agree, either_hits, with_record}
 use Rattle.jc_exec.proofs.RecordBitsLaws.{small_either, agree_apart, apart_agree}
+use Rattle.jc_exec.proofs.StoreLaws.{new_and_there}
 
 -- ---- looking up
 
@@ -307,26 +308,25 @@ known_unchanged (Err e) es later c v r there merges is = is ∙ set_value_same (
 
 -- ---- the only record of its id
 
-new_and_at : (id : ℕ) (es : Entries) (c : ClassHits) (k : ℕ) → IsNew id (classes_of es) → k < length (classes_of es) → get_or (classes_of es) k c ≡ c → id ≡ c.id → ⊥
-new_and_at id [] c k new lt is same = omega (arith, lt)
-new_and_at id (e ∷ es) c zero new lt is same = new.0 (same ∙ sym (ap (λ (x : ClassHits). x.id) is))
-new_and_at id (e ∷ es) c (suc k) new lt is same = new_and_at id es c k new.1 (omega (arith, lt)) is same
-
 at_is_found : (es : Entries) (c : ClassHits) (k : ℕ) → Keyed es → k < length (classes_of es) → get_or (classes_of es) k c ≡ c → lookup (nat_eq c.id) es ≡ Some c
 at_is_found [] c k keyed lt is = absurd (omega (arith, lt))
 at_is_found (e ∷ es) c zero keyed lt is = let same : nat_eq c.id e.0 ≡ true = eq-eqb c.id e.0 (sym (ap (λ (x : ClassHits). x.id) is) ∙ sym keyed.0) in rw same (ap (λ (x : ClassHits). Some x) is)
 at_is_found (e ∷ es) c (suc k) keyed lt is =
     let below : k < length (classes_of es) = omega (arith, lt) in
-    let apart : nat_eq c.id e.0 ≡ false = ne_eqb c.id e.0 (λ same. new_and_at e.1.id es c k keyed.3 below is (sym keyed.0 ∙ sym same)) in
+    let apart : nat_eq c.id e.0 ≡ false = ne_eqb c.id e.0 (λ same. new_and_there e.1.id (classes_of es) c k keyed.3 below is (sym keyed.0 ∙ sym same)) in
     rw apart (at_is_found es c k keyed.4 below is)
 
 pub there_is_found : (id : ℕ) (es : Entries) (c : ClassHits) → Keyed es → Contains (classes_of es) c → c.id ≡ id → lookup (nat_eq id) es ≡ Some c
 there_is_found id es c keyed there same = ap (λ (n : ℕ). lookup (nat_eq n) es) (sym same) ∙ at_is_found es c there.0 keyed there.1 there.2
 
 -- what a look-up answers fits the format
+pub found_fits : (r : Option ClassHits) (id : ℕ) (es : Entries) → Keyed es → r ≡ lookup (nat_eq id) es → IfSome r IsWritableClass
+found_fits None id es keyed is = tt
+found_fits (Some c) id es keyed is = let f = found id es c keyed (sym is) in (f.small, f.text)
+
 pub got_fits : (r : Option (Bor ClassHits)) (id : ℕ) (es : Entries) → Keyed es → option_copied r ≡ lookup (nat_eq id) es → IfSome r (λ c. IsWritableClass c.now)
 got_fits None id es keyed is = tt
-got_fits (Some c) id es keyed is = let f = found id es c.now keyed (sym is) in (f.small, f.text)
+got_fits (Some c) id es keyed is = found_fits (Some c.now) id es keyed is
 
 -- what a look-up answers
 pub got : (r : Option (Bor ClassHits)) (id : ℕ) (es : Entries) → Keyed es → option_copied r ≡ lookup (nat_eq id) es → IfSome r (λ c. Contains (classes_of es) c.now × (c.now.id ≡ id))

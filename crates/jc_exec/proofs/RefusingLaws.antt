@@ -5,11 +5,12 @@ use Rattle.std.proofs.lemmas.List.Elements.{Contains-append_left, Contains-push}
 use Rattle.byteorder.specs.Endian.{big_number}
 use Rattle.jc_exec.specs.declared.hits.ClassHits.{ClassHits}
 use Rattle.jc_exec.specs.Format.{Block, header, session, class, header_text, IsBlock, AreBlocks, Blocks, BeginsWithHeader}
-use Rattle.jc_exec.specs.Store.{Store, IsNew}
+use Rattle.jc_exec.specs.Store.{Store}
 use Rattle.jc_exec.specs.Union.{records_of, IsUnion}
 use Rattle.jc_exec.specs.Refusing.{Refused, bad_exec, other_version, conflict, blocks_of, MayFollow, HasOtherHeader, HasConflict, RefusedHere, FirstRefusal, OneOfEachId, IsTaken}
 use Rattle.jc_exec.proofs.ListLaws.{kind_of, kind_first, one_front, no_block}
 use Rattle.jc_exec.proofs.MergingLaws.{union_consistent, union_distinct}
+use Rattle.jc_exec.proofs.StoreLaws.{new_and_there}
 use Rattle.jc_exec.proofs.UnionLaws.{records-append, one_union, merged_of}
 
 -- ---- a header of another version
@@ -156,11 +157,6 @@ nothing_is_refused : (read : List Block) (s : Store) (offset : ℕ) (why : Refus
 nothing_is_refused read s offset (bad_exec p) h = h.1.some refl
 nothing_is_refused read s offset (other_version found) h = omega (arith, other_header_kind [] found h)
 nothing_is_refused read s offset (conflict id first second m n) (there, hits, h, i1, i2, i3, i4, i5) = no_block (class hits) [] h.front h.more h.block h.parts refl
-
-new_and_there : (id : ℕ) (cs : List ClassHits) (d : ClassHits) (k : ℕ) → IsNew id cs → k < length cs → get_or cs k d ≡ d → id ≡ d.id → ⊥
-new_and_there id [] d k new lt is same = omega (arith, lt)
-new_and_there id (c ∷ cs) d zero new lt is same = new.0 (same ∙ sym (ap (λ (x : ClassHits). x.id) is))
-new_and_there id (c ∷ cs) d (suc k) new lt is same = new_and_there id cs d k new.1 (omega (arith, lt)) is same
 
 one_of_id : (cs : List ClassHits) (c d : ClassHits) (j k : ℕ) → OneOfEachId cs → j < length cs → get_or cs j c ≡ c → k < length cs → get_or cs k d ≡ d → c.id ≡ d.id → c ≡ d
 one_of_id [] c d j k apart lt is below at same = absurd (omega (arith, lt))

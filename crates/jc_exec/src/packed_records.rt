@@ -6,7 +6,7 @@ ghost use Rattle.jc_exec.specs.declared.hits.ClassHits.{ClassHits};
 ghost use Rattle.jc_exec.specs.Adding.{MergesInto};
 ghost use Rattle.jc_exec.specs.Packed.{packed};
 ghost use Rattle.jc_exec.specs.Rows.{hits_at, bits_from, end_of, with_part, TakesIn};
-ghost use Rattle.jc_exec.specs.Store.{IsSmall, Keyed, classes_of};
+ghost use Rattle.jc_exec.specs.Store.{IsSmall, Keyed, classes_of, entries_of};
 
 use crate::ids::Ids;
 use crate::merge::merge_into;
@@ -123,6 +123,18 @@ impl PackedRecords {
             rows: Vec::new(alloc),
             bytes: Vec::new(alloc),
         }
+    }
+
+    /// These records, of which each has an id of its own.
+    pub fn of(alloc: Global, classes: &[ClassHits]) -> Result<PackedRecords, AllocError>
+        requires { Keyed (entries_of classes.now) }
+        ensures { IfOk result (λ packed. packed ≡ entries_of classes.now) }
+    {
+        let mut packed = PackedRecords::new(alloc);
+        'packing: for hits in classes {
+            packed.push(alloc, hits)?;
+        }
+        Ok(packed)
     }
 
     /// How many there are.

@@ -1,5 +1,6 @@
 //! Sessions whose names stand in one vector, one behind the other.
 ghost use Rattle.std.specs.Prelude.{◌≡◌, ◌+◌, ◌<◌, ◌≤◌, ◌++◌, ◌∷◌, [], length, get_or, IfOk, OnOk, OnErr};
+ghost use Rattle.std.specs.List.{AllByRecursion};
 ghost use Rattle.jc_exec.specs.Rows.{session_at};
 ghost use Rattle.jc_exec.specs.Store.{IsWritable};
 ghost use Rattle.jc_exec.specs.Writing.{by_dump};
@@ -59,6 +60,18 @@ impl PackedSessions {
             names: Vec::new(alloc),
             rows: Vec::new(alloc),
         }
+    }
+
+    /// These sessions.
+    pub fn of(alloc: Global, sessions: &[Session]) -> Result<PackedSessions, AllocError>
+        requires { AllByRecursion IsWritable sessions.now }
+        ensures { IfOk result (λ packed. packed ≡ sessions.now) }
+    {
+        let mut packed = PackedSessions::new(alloc);
+        'packing: for session in sessions {
+            packed.push(session)?;
+        }
+        Ok(packed)
     }
 
     /// How many there are.

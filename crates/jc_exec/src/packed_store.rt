@@ -1,5 +1,5 @@
 //! The union of execution data, packed.
-ghost use Rattle.std.specs.Prelude.{◌≡◌, ◌<◌, [], nat_eq, length, get_or, option_map, IfOk, OnOk};
+ghost use Rattle.std.specs.Prelude.{◌≡◌, ◌<◌, [], nat_eq, length, get_or, IfOk, IfSome};
 ghost use Rattle.std.specs.List.{AllByRecursion};
 ghost use Rattle.std.specs.Map.{lookup};
 ghost use Rattle.jc_exec.specs.Adding.{store_of};
@@ -95,7 +95,10 @@ impl PackedStore {
     ///
     /// `Memory`, where memory is refused.
     pub fn get(&self, alloc: Global, id: u64) -> Result<Option<ClassHits>, Memory>
-        ensures { IfOk result (λ found. found ≡ lookup (nat_eq id) (entries_of self.now.classes)) }
+        ensures found { IfOk result (λ found. found ≡ lookup (nat_eq id) (entries_of self.now.classes)) }
+
+        // It has at most 65,535 probes and a name in modified UTF-8.
+        ensures fits { IfOk result (λ found. IfSome found IsWritableClass) }
     {
         Ok(self.records.get(alloc, id)?)
     }

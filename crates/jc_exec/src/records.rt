@@ -9,6 +9,7 @@ ghost use Rattle.jc_exec.specs.Store.{IsSmall, entries_of, classes_of, Keyed};
 
 use crate::ids::Ids;
 use crate::merge::merge_into;
+use crate::packed_records::PackedRecords;
 use crate::{ClassHits, ExecRefusal};
 use jc_bytes::Fail;
 use std::alloc::{AllocError, Global};
@@ -121,6 +122,14 @@ impl Records {
         ensures { result.now ≡ classes_of self.now }
     {
         &self.classes
+    }
+
+    /// The records, packed.
+    pub fn packed(&self, alloc: Global) -> Result<PackedRecords, AllocError>
+        requires { Keyed self.now }
+        ensures { IfOk result (λ packed. packed ≡ self.now) }
+    {
+        PackedRecords::of(alloc, &self.classes)
     }
 
     /// Merges a record into the one of its id, if there is one and they agree.

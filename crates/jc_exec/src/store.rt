@@ -14,11 +14,12 @@ ghost use Rattle.jc_exec.specs.Store.{Store, IsWritable, IsWritableClass, Keyed}
 ghost use Rattle.jc_exec.specs.Union.{IsUnion, ReadsOn};
 ghost use Rattle.jc_exec.specs.Writing.{exec_text};
 
-use crate::gathering::{Added, read_blocks};
+use crate::gathering::{Added, PackedAdded, read_blocks};
 use crate::merge::put;
+use crate::packed_sessions::PackedSessions;
 use crate::records::Records;
 use crate::write::exec_data;
-use crate::{ClassHits, ExecRefusal, Session};
+use crate::{ClassHits, ExecRefusal, PackedStore, Session};
 use jc_bytes::{Fail, Memory};
 use std::alloc::{AllocError, Global};
 use std::marker::Model;
@@ -154,6 +155,20 @@ impl ExecStore {
         ensures text { IfOk result (λ text. text.items ≡ exec_text self.now) }
     {
         exec_data(alloc, &self.sessions, self.records.classes())
+    }
+
+    /// The same union, packed.
+    ///
+    /// # Errors
+    ///
+    /// `Memory`, where memory is refused.
+    pub fn packed(&self, alloc: Global) -> Result<PackedStore, Memory>
+        ensures { IfOk result (λ packed. packed ≡ self.now) }
+    {
+        Ok(PackedStore::of_added(PackedAdded {
+            sessions: PackedSessions::of(alloc, &self.sessions)?,
+            records: self.records.packed(alloc)?,
+        }))
     }
 
     /// The sessions and the records.
