@@ -1,5 +1,5 @@
 #!/bin/sh
-# Time and peak memory of `jcov merge` and `jcov execinfo` on execution data of 64 MiB, beside what the store says.
+# Time and peak memory of `jcov merge`, `jcov execinfo` and `jcov report` on execution data of 64 MiB, beside what the store says.
 # usage: bench/hostile/execution-peaks.sh [JCOV [WORD..]]     JCOV: the built program; else the one of crates/jcov/out
 #                                                             WORD: only inputs whose names have one of these words
 set -e

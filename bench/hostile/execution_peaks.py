@@ -1,10 +1,10 @@
 #!/usr/bin/env python3
-"""Time and peak memory of `jcov merge` and `jcov execinfo` on execution data of 64 MiB, beside what the store says.
+"""Time and peak memory of `jcov merge`, `jcov execinfo` and `jcov report` on execution data of 64 MiB, beside what the store says.
 
     python3 bench/hostile/execution_peaks.py JCOV [WORD..]
 
 One line for each input and command. "says" is what the store says: names, ids, bits eight to a byte, and sessions. "bound" is twice
-that for `merge` and once for `execinfo`, with 24 bytes a record and 16 MB. WORD: only inputs whose names have one of these words.
+that for `merge` and once for the others, with 24 bytes a record and 16 MB. `report` reads one file, beside a class without methods. WORD: only inputs whose names have one of these words.
 """
 import os
 import subprocess
@@ -79,6 +79,10 @@ def refused_last():
     return text[: SIZE - 64] + b"\x02", count, said
 
 
+# A class `A` of version 50 without methods.
+CLASS = bytes.fromhex("cafebabe 0000 0032 0005 01 0001 41 07 0001 01 0010") + b"java/lang/Object" + bytes.fromhex("07 0003 0021 0002 0004 0000 0000 0000 0000")
+
+
 # What makes a file of each input: its text, its records and what the store says of it. And how many files of it there are.
 INPUTS = {
     "short records": (lambda: repeated(short, lambda block: len(block) - 4, all_ids()), 1),
@@ -123,8 +127,11 @@ def main():
             made = subprocess.run([sys.executable, __file__, "--make", name, folder], stdout=subprocess.PIPE, check=True)
             count, said = map(int, made.stdout.split())
             paths = sorted(f"{folder}/{file}" for file in os.listdir(folder))
-            for times, command in ((2, ["merge", "--destfile", f"{folder}/o"]), (1, ["execinfo"])):
-                clock, spent, peak, status = measured([jcov, *command, *paths])
+            with open(f"{folder}/A.class", "wb") as out:
+                out.write(CLASS)
+            report = ["report", "--csv", f"{folder}/o", "--exec", paths[0], f"{folder}/A.class"]
+            for times, command in ((2, ["merge", "--destfile", f"{folder}/o", *paths]), (1, ["execinfo", *paths]), (1, report)):
+                clock, spent, peak, status = measured([jcov, *command])
                 bound = times * said + 24 * count + 16_000_000
                 print("%-40s %-8s %5.2f s, processor %5.2f s, peak %6.1f MB, says %5.1f MB, bound %5.1f MB, status %d"
                       % (name, command[0], clock, spent, peak / 1e6, said / 1e6, bound / 1e6, status >> 8), flush=True)
