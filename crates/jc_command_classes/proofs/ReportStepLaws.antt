@@ -1,6 +1,7 @@
 -- The class files of a report are looked at one after the other.
-use Rattle.std.proofs.Common.{◌≡◌, ◌≢◌, ℕ, zero, suc, ◌+◌, ◌<◌, ◌≤◌, Bool, true, false, not, cond, ◌||◌, List, [], ◌∷◌, ◌++◌, length, take, get_or, map, filter, Option, None, Some, Result, Ok, Err, IfOk, IfErr, Bor, Contains, nat_eq, option_map, refl, sym, ◌∙◌, ap, subst, arith}
+use Rattle.std.proofs.Common.{◌≡◌, ◌≢◌, ℕ, zero, suc, ◌+◌, ◌<◌, ◌≤◌, Bool, true, false, not, cond, ◌||◌, List, [], ◌∷◌, ◌++◌, length, take, get_or, map, filter, Option, None, Some, Result, Ok, Err, IfOk, IfErr, Bor, Contains, nat_eq, option_map, refl, sym, ◌∙◌, ap, ap₂, subst, arith}
 use Rattle.std.specs.List.{AllZip, find, list_any}
+use Rattle.std.specs.Map.{lookup}
 use Rattle.std.specs.Option.{option_or, IfSome, IsSomeAnd}
 use Rattle.std.specs.Cmp.{nat_eq_equiv}
 use Rattle.std.proofs.lemmas.Bool.{and_parts, eqb-true, eq-eqb}
@@ -18,6 +19,7 @@ use Rattle.jc_bytes.proofs.FirstSeenLaws.{seen-append, seen_anew, any_first_seen
 use Rattle.jc_exec.specs.declared.hits.ClassHits.{ClassHits}
 use Rattle.jc_exec.specs.declared.refusal.ExecRefusal.{ExecRefusal}
 use Rattle.jc_exec.specs.Answers.{conflict_with}
+use Rattle.jc_exec.specs.Store.{entries_of}
 use Rattle.jc_exec.specs.Union.{fits}
 use Rattle.jc_instrument.specs.Analysis.{IsAnalysis}
 use Rattle.jc_instrument.specs.LeftAlone.{is_left_alone}
@@ -82,20 +84,18 @@ record_found records id r found only = by (record_of records id) refl r found on
         let has = find_some (λ r. nat_eq r.id id) records d is in
         ap (λ (x : ClassHits). let o : Option ClassHits = Some x in o) (only d has.0 (eqb-true d.id id has.1))
 
--- what was found is answered
-pub found_same : (o : Option ClassHits) (found : Option (Bor ClassHits)) (r : Result (Option (Bor ClassHits)) Stop) → option_map (λ c. c.now) found ≡ o
-    → IfOk r (λ x. x ≡ found) → IfOk r (λ x. option_map (λ c. c.now) x ≡ o)
-found_same o found (Ok x) is same = ap (option_map (λ (c : Bor ClassHits). c.now)) same ∙ is
-found_same o found (Err stop) is same = tt
+-- the record under its id is the record of the id
+pub looked_up : (records : List ClassHits) (id : ℕ) → lookup (nat_eq id) (entries_of records) ≡ record_of records id
+looked_up [] id = refl
+looked_up (r ∷ records) id = ap₂ (λ (t : Bool) (rest : Option ClassHits). cond t (Some r) rest) (nat_eq_equiv.symm id r.id) (looked_up records id)
 
 -- what a record that fits says of its count
-pub fit_count : (a : Analysed) (o : Option ClassHits) (r : Option (Bor ClassHits)) → option_map (λ c. c.now) r ≡ o → clash_with a o ≡ None
-    → IfSome r (λ c. length c.now.bits ≡ a.probes)
-fit_count a o None is fit = tt
-fit_count a o (Some c) is fit = by (fits c.now a.name a.probes) refl (subst (λ (p : Option ClassHits). clash_with a p ≡ None) (sym is) fit)
+pub fit_count : (a : Analysed) (r : Option ClassHits) → clash_with a r ≡ None → IfSome r (λ c. length c.bits ≡ a.probes)
+fit_count a None fit = tt
+fit_count a (Some c) fit = by (fits c a.name a.probes) refl fit
   where
-    by : (t : Bool) → fits c.now a.name a.probes ≡ t → cond t None (Some (conflict_with c.now a.id a.name a.probes)) ≡ None → length c.now.bits ≡ a.probes
-    by true is none = eqb-true (length c.now.bits) a.probes (and_parts (bytes_eq c.now.name a.name) (nat_eq (length c.now.bits) a.probes) is).1
+    by : (t : Bool) → fits c a.name a.probes ≡ t → cond t None (Some (conflict_with c a.id a.name a.probes)) ≡ None → length c.bits ≡ a.probes
+    by true is none = eqb-true (length c.bits) a.probes (and_parts (bytes_eq c.name a.name) (nat_eq (length c.bits) a.probes) is).1
     by false is none = absurd cc
 
 -- the hits of a record
@@ -109,11 +109,11 @@ said_why fails.Memory why P is said = absurd cc
 said_why (fails.Said other) why P is said = let same : other ≡ why = cc in subst P same said
 
 -- they are as many as the bits of the record
-pub same_bits_count : (o : Option (Bor ClassHits)) (r : Option (Bor (List Bool))) (n : ℕ) → option_map (λ b. b.now) r ≡ option_map (λ c. c.now.bits) o
-    → IfSome o (λ c. length c.now.bits ≡ n) → IfSome r (λ b. length b.now ≡ n)
+pub same_bits_count : (o : Option ClassHits) (r : Option (Bor (List Bool))) (n : ℕ) → option_map (λ b. b.now) r ≡ option_map (λ c. c.bits) o
+    → IfSome o (λ c. length c.bits ≡ n) → IfSome r (λ b. length b.now ≡ n)
 same_bits_count o None n is many = tt
 same_bits_count None (Some b) n is many = absurd cc
-same_bits_count (Some c) (Some b) n is many = let same : b.now ≡ c.now.bits = cc in ap length same ∙ many
+same_bits_count (Some c) (Some b) n is many = let same : b.now ≡ c.bits = cc in ap length same ∙ many
 
 -- ---- one item more
 

@@ -16,7 +16,7 @@ use indexmap::IndexSet;
 use jc_bytes::{Bytes, Fail, List, Memory, Refusal};
 use jc_command_work::{InputFiles, Stop, Write, exec_stop};
 use jc_cover::{counters, covered};
-use jc_exec::{ClassHits, ExecStore, check_fits};
+use jc_exec::{ClassHits, PackedStore, check_fits};
 use jc_instrument::analyse;
 use jc_methods::Analysed;
 use jc_report::Counted;
@@ -28,7 +28,7 @@ use std::thread::Threads;
 #[derive(Drop)]
 pub struct Data<'a> {
     pub path: &'a str,
-    pub store: ExecStore,
+    pub store: PackedStore,
 }
 
 /// What is made of class files.
@@ -54,29 +54,32 @@ enum Seen {
 }
 
 /// The record of a class in the execution data of a file, if there is one.
-fn record_in<'a, 'd>(exec_data: &'d Data<'a>, class: &Analysed) -> Option<&'d ClassHits>
-    ensures found { option_map (λ r. r.now) result ≡ record_of exec_data.entry.now.store.classes class.now.id }
-    ensures writable { IfSome result (λ r. IsWritableClass r.now) }
+fn record_in(
+    alloc: Global,
+    exec_data: &Data<'_>,
+    class: &Analysed,
+) -> Result<Option<ClassHits>, Memory>
+    ensures found { IfOk result (λ r. r ≡ record_of exec_data.now.store.classes class.now.id) }
+    ensures writable { IfOk result (λ r. IfSome r IsWritableClass) }
 {
-    exec_data.store.get(class.id)
+    exec_data.store.get(alloc, class.id)
 }
 
 /// A record of a class, if there is one. One that doesn't fit the class stops the command.
-fn fitting<'a, 'd>(
+fn fitting<'a>(
     alloc: Global,
     path: &'a str,
     class: &Analysed,
-    class_hits: Option<&'d ClassHits>,
-) -> Result<Option<&'d ClassHits>, Stop<'a>>
-    requires { IfSome class_hits (λ r. IsWritableClass r.now) }
-    ensures same { IfOk result (λ r. r ≡ class_hits.entry) }
-    ensures fit { IfOk result (λ _. clash_with class.now (option_map (λ r. r.now) class_hits.entry) ≡ None) }
-    ensures clash { IfErr result (StopsAtClash (Some path.entry.now)
-        (λ refusal. clash_with class.now (option_map (λ r. r.now) class_hits.entry) ≡ Some refusal)) }
+    class_hits: Option<ClassHits>,
+) -> Result<Option<ClassHits>, Stop<'a>>
+    requires { IfSome class_hits IsWritableClass }
+    ensures same { IfOk result (λ r. r ≡ class_hits) }
+    ensures fit { IfOk result (λ _. clash_with class.now class_hits ≡ None) }
+    ensures clash { IfErr result (StopsAtClash (Some path.entry.now) (λ refusal. clash_with class.now class_hits ≡ Some refusal)) }
 {
     match class_hits {
         None => Ok(None),
-        Some(known) => match check_fits(alloc, known, class.id, &class.name, class.probes) {
+        Some(known) => match check_fits(alloc, &known, class.id, &class.name, class.probes) {
             Ok(()) => Ok(Some(known)),
             Err(fail) => Err(exec_stop(fail, 0, path)),
         },
@@ -84,19 +87,22 @@ fn fitting<'a, 'd>(
 }
 
 /// The record of a class in the execution data, if there is any. One that doesn't fit the class stops the command.
-fn record_of<'a, 'd>(
+fn record_of<'a>(
     alloc: Global,
-    exec_data: Option<&'d Data<'a>>,
+    exec_data: Option<&Data<'a>>,
     class: &Analysed,
-) -> Result<Option<&'d ClassHits>, Stop<'a>>
-    ensures found { IfOk result (λ r. option_map (λ r. r.now) r ≡ record_of (data_records exec_data.entry) class.now.id) }
+) -> Result<Option<ClassHits>, Stop<'a>>
+    ensures found { IfOk result (λ r. r ≡ record_of (data_records exec_data.entry) class.now.id) }
     ensures fit { IfOk result (λ _. clash_with class.now (record_of (data_records exec_data.entry) class.now.id) ≡ None) }
     ensures clash { IfErr result (StopsAtClash (data_path exec_data.entry)
         (λ refusal. clash_with class.now (record_of (data_records exec_data.entry) class.now.id) ≡ Some refusal)) }
 {
     match exec_data {
         None => Ok(None),
-        Some(exec_data) => fitting(alloc, exec_data.path, class, record_in(exec_data, class)),
+        Some(exec_data) => {
+            let class_hits = record_in(alloc, exec_data, class)?;
+            fitting(alloc, exec_data.path, class, class_hits)
+        }
     }
 }
 
@@ -151,7 +157,7 @@ fn counted_by<'a>(
         (λ refusal. clash_with class (record_of (data_records exec_data.entry) class.id) ≡ Some refusal)) }
 {
     let class_hits = record_of(alloc, exec_data, &class)?;
-    let bits = bits_of(alloc, class_hits)?;
+    let bits = bits_of(alloc, class_hits.as_ref())?;
     Ok(counted(alloc, class, slice_of(&bits))?)
 }
 

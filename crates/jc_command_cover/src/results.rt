@@ -24,15 +24,15 @@ fn csv_text<'a, R: Threads + Sync>(
     rt: &R,
     alloc: Global,
     options: &CoverOptions<'a>,
-    store: ExecStore,
+    store: &ExecStore,
     inputs: &InputFiles<'_>,
 ) -> Result<Vec<u8>, Stop<'a>>
-    ensures { Decides (IsReportText options.entry.now.name.now store inputs.now.texts) (IsClashEnd options.entry.now.destfile.now store inputs.now.texts)
+    ensures { Decides (IsReportText options.entry.now.name.now store.now inputs.now.texts) (IsClashEnd options.entry.now.destfile.now store.now inputs.now.texts)
         (λ csv. csv.items) stop_seen result }
 {
     let exec_data = Data {
         path: options.destfile,
-        store,
+        store: store.packed(alloc)?,
     };
     csv_of_files(rt, alloc, options.name, &exec_data, inputs)
 }
@@ -52,7 +52,7 @@ pub fn write_results<'a, R: Threads + Sync, F: Files, O: Sink, E: Sink>(
     let Ran { store, text } = ran;
     let exec_text = store.write(alloc)?;
     write_file(outside.files, options.destfile, &exec_text)?;
-    let csv = csv_text(rt, alloc, options, store, inputs)?;
+    let csv = csv_text(rt, alloc, options, &store, inputs)?;
     write_file(outside.files, options.csv, &csv)?;
     put_out(outside.out, &text)
 }

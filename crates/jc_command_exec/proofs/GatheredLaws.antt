@@ -1,5 +1,5 @@
 -- What has come of files, one behind the other.
-use Rattle.std.proofs.Common.{◌≡◌, ℕ, zero, suc, ◌<◌, ◌≤◌, List, [], ◌∷◌, ◌++◌, length, take, get_or, Option, None, Some, Result, Ok, Err, IfOk, refl, sym, ◌∙◌, ap, subst, arith, length-append}
+use Rattle.std.proofs.Common.{◌≡◌, ℕ, zero, suc, ◌<◌, ◌≤◌, List, [], ◌∷◌, ◌++◌, length, take, get_or, Option, Some, Result, Ok, Err, IfOk, refl, sym, ◌∙◌, ap, subst, arith, length-append}
 use Rattle.std.proofs.Math.Seq.{take-append_seam, get_or-append_seam}
 use Rattle.std.proofs.lemmas.List.{get_or_append_left, take-append-le}
 use Rattle.std.specs.Borrow.{Bor}
@@ -8,10 +8,9 @@ use Rattle.jc_exec.specs.declared.refusal.ExecRefusal.{ExecRefusal}
 use Rattle.jc_command_work.specs.declared.status.Fault.TheVariants as fault
 use Rattle.jc_command_work.specs.declared.stop.Stop.{Stop}
 use Rattle.jc_command_work.specs.Answered.{refusal_of, EndsSo, AnswersWith}
-use Rattle.jc_command_work.specs.Ending.{CameTo, Stops}
-use Rattle.jc_command_work.specs.Part.{End, Part, gives}
+use Rattle.jc_command_work.specs.Part.{End}
 use Rattle.jc_command_work.specs.Seen.{stop_seen, texts_of}
-use Rattle.jc_command_work.specs.Step.{Word, Outside, Counts, Landed}
+use Rattle.jc_command_work.specs.Step.{Word}
 use Rattle.jc_command_work.specs.Stopping.{exec_stop}
 use Rattle.jc_command_exec.specs.declared.gathered.Feeding.{Feeding}
 use Rattle.jc_command_exec.specs.declared.gathered.Feeding.TheVariants.{Fed, Dropped}
@@ -107,11 +106,6 @@ pub path_of : (paths : List (Bor (List ℕ))) (i : ℕ) (d : Bor (List ℕ)) →
 path_of [] i d within = absurd (omega (arith, within))
 path_of (p ∷ paths) zero d within = refl
 path_of (p ∷ paths) (suc i) d within = path_of paths i d (omega (arith, within))
-
--- memory was refused behind a part that is over
-pub lost_behind : {X : Type 0} (landed : Landed) (part : Part X) (old new : Outside) (f f' : Counts) (value : X)
-    → (f' ≡ f) × CameTo landed part old new (gives value) → Stops landed part old new f f' None
-lost_behind landed part old new f f' value (same, came) = (same, record { steps = came.steps; begun = came.begun; fit = came.fit; stand = came.stand })
 
 -- one file alone
 pub gathered_alone : (path : Bor (List ℕ)) (store : Store) (text : List ℕ) (r : Result Gathered Stop) → IsUnion [] store

@@ -1,26 +1,28 @@
 -- What is printed of execution data, file after file.
-use Rattle.std.proofs.Common.{◌≡◌, ℕ, ◌+◌, ◌<◌, List, [], ◌∷◌, ◌++◌, length, take, get_or, map, Option, None, Some, Ok, Err, Vec, Bor, refl, sym, ◌∙◌, ap, subst, arith, append_assoc, length-append}
-use Rattle.std.proofs.lemmas.List.{append-nil, take_all, map-append}
+use Rattle.std.proofs.Common.{◌≡◌, ℕ, ◌+◌, ◌<◌, List, [], ◌∷◌, ◌++◌, length, take, get_or, map, Option, None, Some, Result, Ok, Err, Bor, refl, sym, ◌∙◌, ap, subst, arith, append_assoc, length-append}
+use Rattle.std.proofs.lemmas.List.{append-nil, take_all}
 use Rattle.std.specs.List.{AllByRecursion}
-use Rattle.std.specs.declared.alloc.Global.{Global}
 use Rattle.jc_exec.specs.declared.refusal.ExecRefusal.{ExecRefusal}
 use Rattle.jc_exec.specs.Answers.{why_of}
 use Rattle.jc_exec.specs.Refusing.{FirstRefusal}
 use Rattle.jc_exec.specs.Store.{Store}
 use Rattle.jc_exec.specs.Union.{ReadsOn}
-use Rattle.jc_command_work.specs.declared.output.Write.{Write as Written}
 use Rattle.jc_command_work.specs.declared.stop.Stop.{Stop}
-use Rattle.jc_command_work.specs.Answered.{EndsSo, AnswersWith}
-use Rattle.jc_command_work.specs.Part.{End, gives}
+use Rattle.jc_command_work.specs.Answered.{Answer, EndsSo, answering, preparing}
+use Rattle.jc_command_work.specs.Part.{End, gives, stops, reading_all}
 use Rattle.jc_command_work.specs.Seen.{stop_seen}
-use Rattle.jc_command_work.specs.Step.{Word, Write, to_out}
-use Rattle.jc_command_exec.specs.declared.exec_info.Printed.{Printed}
+use Rattle.jc_command_work.specs.Step.{Word, Outside, Counts, Landed, to_out}
+use Rattle.jc_command_work.specs.Ending.{CameTo, Does}
+use Rattle.jc_command_work.proofs.AnsweredLaws.{prepared}
+use Rattle.jc_command_work.proofs.Behind.{came_then}
+use Rattle.jc_command_work.proofs.Reaching.{was_decided}
+use Rattle.jc_command_exec.specs.declared.exec_info.Listed.{Listed}
 use Rattle.jc_command_exec.specs.declared.gathered.Gathered.{Gathered}
 use Rattle.jc_command_exec.specs.declared.gathered.Gathered.TheVariants.{Union, Refused}
 use Rattle.jc_command_exec.specs.ExecData.{IsUnionOf, IsFirstRefusedAlone, no_data}
 use Rattle.jc_command_exec.specs.ExecInfo.{file_lines, AreInfo, InfoAnswers, informed, exec_info_refused}
 use Rattle.jc_command_exec.specs.Gathering.{Joins}
-use Rattle.jc_command_exec.specs.Informing.{IsAlone, PutsNext, Informs, PrintsAll}
+use Rattle.jc_command_exec.specs.Informing.{IsAlone, PutsNext, Informs, ListsAll, ListsWith}
 use Rattle.jc_command_exec.proofs.ExecDataLaws.{IsData, union_more, union_of_none, one_union_of}
 use Rattle.jc_command_exec.proofs.GatheredLaws.{input_stays, front_stays, last_input, last_front, stop_is}
 use Rattle.jc_command_exec.proofs.MergeLaws.{text_last}
@@ -69,19 +71,20 @@ data_read bytes old new empty reads = union_more [] bytes no_data new union_of_n
 
 -- ---- a file behind others
 
-pub informs : (refused : Option Stop) (before after : Gathered) (bytes : List ℕ) (index : ℕ) (path : Bor (List ℕ)) (old : List Written) (printed : Printed)
-    → IsAlone refused before → Joins before bytes index path after → PutsNext path.now old after printed
-    → Informs refused old bytes index path printed.refused printed.lines.items
-informs None (Union store) (Union later) bytes index path old printed alone joins (prints, none) =
-    subst (λ (o : Option Stop). Informs None old bytes index path o printed.lines.items) (sym none) (later, data_read bytes store later alone joins, prints)
-informs None (Union store) (Refused stop) bytes index path old printed alone (why, is, refused) puts =
-    subst (λ (o : Option Stop). Informs None old bytes index path o printed.lines.items) (sym puts)
+pub informs : (refused : Option Stop) (before after : Gathered) (bytes : List ℕ) (index : ℕ) (path : Bor (List ℕ)) (old lines : List (List ℕ)) (listed : Listed)
+    → lines ≡ old → IsAlone refused before → Joins before bytes index path after → PutsNext path.now lines after listed
+    → Informs refused old bytes index path listed.refused listed.listing
+informs None (Union store) (Union later) bytes index path old lines listed same alone joins (is, none) =
+    subst (λ (o : Option Stop). Informs None old bytes index path o listed.listing) (sym none)
+    (later, data_read bytes store later alone joins, is ∙ ap (λ (l : List (List ℕ)). l ++ file_lines path.now later) same)
+informs None (Union store) (Refused stop) bytes index path old lines listed same alone (why, is, refused) puts =
+    subst (λ (o : Option Stop). Informs None old bytes index path o listed.listing) (sym puts)
     (why, is, subst (λ (s : Store). FirstRefusal s bytes (why_of why)) alone refused)
-informs None (Refused stop) after bytes index path old printed alone joins puts = absurd alone
-informs (Some stop) (Union store) after bytes index path old printed alone joins puts = absurd alone
-informs (Some stop) (Refused s) (Union later) bytes index path old printed alone joins puts = absurd joins
-informs (Some stop) (Refused s) (Refused t) bytes index path old printed alone joins puts =
-    subst (λ (o : Option Stop). Informs (Some stop) old bytes index path o printed.lines.items) (sym puts) (joins ∙ alone)
+informs None (Refused stop) after bytes index path old lines listed same alone joins puts = absurd alone
+informs (Some stop) (Union store) after bytes index path old lines listed same alone joins puts = absurd alone
+informs (Some stop) (Refused s) (Union later) bytes index path old lines listed same alone joins puts = absurd joins
+informs (Some stop) (Refused s) (Refused t) bytes index path old lines listed same alone joins puts =
+    subst (λ (o : Option Stop). Informs (Some stop) old bytes index path o listed.listing) (sym puts) (joins ∙ alone)
 
 module _ (paths : List Word) (texts : List (List ℕ)) (t : List ℕ) where
   alone_stays : (i : ℕ) (path : Word) (r : ExecRefusal) → IsFirstRefusedAlone paths texts i path r → IsFirstRefusedAlone paths (texts ++ t ∷ []) i path r
@@ -97,38 +100,46 @@ module _ (paths : List Word) (texts : List (List ℕ)) (t : List ℕ) where
       ap (λ (n : ℕ). take n paths) (length-append texts (t ∷ []) ∙ ap (λ (n : ℕ). n + 1) size) ∙ text_last paths i path within is
       ∙ ap (λ (n : ℕ). take n paths ++ path ∷ []) (sym size)
 
-  pub prints_on : (i : ℕ) (path : Bor (List ℕ)) (refused later : Option Stop) (old new : List Written) → length texts ≡ i → i < length paths → path.now ≡ get_or paths i []
-      → PrintsAll paths texts refused old → Informs refused old t i path later new → PrintsAll paths (texts ++ t ∷ []) later new
-  prints_on i path None None old new size within is (lines, writes, info) (store, union, prints) = (
-    lines ++ file_lines path.now store,
-    prints ∙ ap (λ (ws : List Write). ws ++ map to_out (file_lines path.now store)) writes ∙ sym (map-append to_out lines (file_lines path.now store)),
-    subst (λ (ps : List Word). AreInfo ps (texts ++ t ∷ []) (lines ++ file_lines path.now store)) (sym (paths_more i path.now size within is))
-        (info_more (take (length texts) paths) texts lines path.now t store info union),
-  )
-  prints_on i path None (Some stop) old new size within is (lines, writes, info) (why, stop_is_so, refused) = (
+  pub lists_on : (i : ℕ) (path : Bor (List ℕ)) (refused later : Option Stop) (old new : List (List ℕ)) → length texts ≡ i → i < length paths → path.now ≡ get_or paths i []
+      → ListsAll paths texts refused old → Informs refused old t i path later new → ListsAll paths (texts ++ t ∷ []) later new
+  lists_on i path None None old new size within is info (store, union, same) =
+      subst (λ (lines : List (List ℕ)). AreInfo (take (length (texts ++ t ∷ [])) paths) (texts ++ t ∷ []) lines) (sym same)
+      (subst (λ (ps : List Word). AreInfo ps (texts ++ t ∷ []) (old ++ file_lines path.now store)) (sym (paths_more i path.now size within is))
+      (info_more (take (length texts) paths) texts old path.now t store info union))
+  lists_on i path None (Some stop) old new size within is info (why, stop_is_so, refused) = (
     i,
     path.now,
     why,
     record {
       text = t;
       input = last_input paths texts t i path.now size is;
-      before = subst (AllByRecursion IsData) (sym (last_front paths texts t i size)) (info_is_data (take (length texts) paths) texts lines info);
+      before = subst (AllByRecursion IsData) (sym (last_front paths texts t i size)) (info_is_data (take (length texts) paths) texts old info);
       refused = refused;
     },
     stop_is paths texts t stop why i path stop_is_so,
   )
-  prints_on i path (Some stop) None old new size within is so_far informs = absurd informs
-  prints_on i path (Some stop) (Some same) old new size within is (k, p, r, refused, seen) informs = (k, p, r, alone_stays k p r refused, ap stop_seen informs ∙ seen)
+  lists_on i path (Some stop) None old new size within is so_far informs = absurd informs
+  lists_on i path (Some stop) (Some same) old new size within is (k, p, r, refused, seen) informs = (k, p, r, alone_stays k p r refused, ap stop_seen informs ∙ seen)
 
 -- ---- what is made of them
 
-pub info_lines : (paths : List Word) (texts : List (List ℕ)) (writes : Vec Written Global) → length texts ≡ length paths → PrintsAll paths texts None writes.items
-    → AnswersWith (InfoAnswers paths texts) (Ok writes)
-info_lines paths texts writes many (lines, is, info) =
-    subst (λ (ws : List Write). InfoAnswers paths texts (gives ws)) (sym is)
-    (informed lines (subst (λ (ps : List Word). AreInfo ps texts lines) (take_all (length texts) paths (omega (arith, many))) info))
+pub info_lines : (paths : List Word) (texts lines : List (List ℕ)) → length texts ≡ length paths → ListsAll paths texts None lines
+    → ListsWith (InfoAnswers paths texts) (Ok lines)
+info_lines paths texts lines many info =
+    informed lines (subst (λ (ps : List Word). AreInfo ps texts lines) (take_all (length texts) paths (omega (arith, many))) info)
 
-pub info_refusal : (paths : List Word) (texts : List (List ℕ)) (writes : List Written) (stop : Stop) → PrintsAll paths texts (Some stop) writes
-    → AnswersWith (InfoAnswers paths texts) (Err stop)
-info_refusal paths texts writes stop (i, path, r, refused, seen) =
+pub info_refusal : (paths : List Word) (texts lines : List (List ℕ)) (stop : Stop) → ListsAll paths texts (Some stop) lines
+    → ListsWith (InfoAnswers paths texts) (Err stop)
+info_refusal paths texts lines stop (i, path, r, refused, seen) =
     subst (λ (o : Option End). EndsSo (InfoAnswers paths texts) o) (sym seen) (exec_info_refused i path r refused)
+
+-- the inputs were read, and the lines decided on
+module _ (landed : Landed) (inputs : List Word) (Answers : List (List ℕ) → Answer → Type 0) (old mid : Outside) (f g : Counts) (texts : List (List ℕ)) where
+  pub lists : (r : Result (List (List ℕ)) Stop) → (g ≡ f) × CameTo landed (reading_all inputs) old mid (gives texts) → ListsWith (Answers texts) r
+      → Does landed (preparing inputs Answers) (λ lines. map to_out lines) stop_seen old mid f g r
+  lists (Ok lines) (same, came) is = (
+    same,
+    came_then landed (reading_all inputs) (λ ts. answering (Answers ts)) old texts mid mid (gives (map to_out lines)) came
+        (was_decided landed (λ ws. Answers texts (gives ws)) (λ end. Answers texts (stops end)) mid (map to_out lines) is),
+  )
+  lists (Err stop) came is = prepared landed inputs Answers old mid f g texts (Err stop) came is

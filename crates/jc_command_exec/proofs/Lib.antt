@@ -4,3 +4,5 @@ pub mod InfoLaws
 pub mod ExecAnswers
 pub mod PartLaws
 pub mod GatheredLaws
+pub mod LinesLaws
+pub mod ListingLaws

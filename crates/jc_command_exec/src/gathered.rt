@@ -6,7 +6,7 @@ ghost use Rattle.jc_command_work.specs.Handed.{BetweenFiles};
 
 use jc_bytes::{Fail, Memory, are_bytes};
 use jc_command_work::{Stop, exec_stop, read_stop};
-use jc_exec::{ExecFeed, ExecStore};
+use jc_exec::{PackedFeed, PackedStore};
 use jc_outside::{Files, MOST_PART};
 use std::alloc::Global;
 
@@ -14,7 +14,7 @@ use std::alloc::Global;
 #[derive(Drop)]
 pub enum Gathered<'a> {
     /// Their union.
-    Union(ExecStore),
+    Union(PackedStore),
     /// The first of them that is refused stops the command.
     Refused(Stop<'a>),
 }
@@ -23,17 +23,17 @@ pub enum Gathered<'a> {
 #[derive(Drop)]
 enum Feeding<'a> {
     /// They were fed.
-    Fed(ExecFeed),
+    Fed(PackedFeed),
     /// A file in front is refused. The bytes are read for the faults alone, and dropped.
     Dropped(Stop<'a>),
 }
 
 /// No bytes of a file behind others.
-fn begin<'a>(gathered: Gathered<'a>) -> Feeding<'a>
+fn begin<'a>(alloc: Global, gathered: Gathered<'a>) -> Feeding<'a>
     ensures { Begins gathered.entry result }
 {
     match gathered {
-        Gathered::Union(store) => Feeding::Fed(ExecFeed::begin(store)),
+        Gathered::Union(store) => Feeding::Fed(PackedFeed::begin(alloc, store)),
         Gathered::Refused(stop) => Feeding::Dropped(stop),
     }
 }
@@ -100,7 +100,7 @@ pub fn read_on<'a, F: Files>(
 ) -> Result<Gathered<'a>, Stop<'a>>
     ensures { BetweenFiles F.Files files.old files.new (ReadsFile F.landed path.entry index gathered.entry) result }
 {
-    let feeding = feed_file(alloc, files, path, part, begin(gathered))?;
+    let feeding = feed_file(alloc, files, path, part, begin(alloc, gathered))?;
     Ok(end(feeding, index, path))
 }
 
@@ -112,7 +112,7 @@ pub fn read_alone<'a, F: Files>(
 ) -> Result<Gathered<'a>, Stop<'a>>
     ensures { BetweenFiles F.Files files.old files.new (ReadsAlone F.landed path.entry) result }
 {
-    let nothing = Gathered::Union(ExecStore::new(alloc)?);
+    let nothing = Gathered::Union(PackedStore::new(alloc));
     let mut part = Vec::new(alloc);
     read_on(alloc, files, path, 0, &mut part, nothing)
 }

@@ -9,7 +9,7 @@ ghost use Rattle.jc_command_exec.specs.Merge.{MergeAnswers};
 
 use crate::gathered::{Gathered, read_on};
 use jc_command_work::{Stop, Write};
-use jc_exec::ExecStore;
+use jc_exec::PackedStore;
 use jc_outside::Files;
 use std::alloc::Global;
 
@@ -24,7 +24,7 @@ fn union_of<'a, F: Files>(
     ensures { BetweenFiles F.Files files.old files.new (ReadsFiles F.landed (texts_of paths.entry.now)) result }
 {
     let mut part = Vec::new(alloc);
-    let mut gathered = Gathered::Union(ExecStore::new(alloc)?);
+    let mut gathered = Gathered::Union(PackedStore::new(alloc));
     'merging: for index in 0..paths.len() {
         gathered = read_on(
             alloc,

@@ -7,7 +7,7 @@ use Rattle.jc_command_work.specs.declared.output.Write.{Write as Written}
 use Rattle.jc_command_work.specs.declared.status.Status.{Status}
 use Rattle.jc_command_work.specs.declared.status.Status.TheVariants as status
 use Rattle.jc_command_work.specs.declared.stop.Stop.{Stop}
-use Rattle.jc_command_work.specs.Step.{Word, Outside, Counts, Landed}
+use Rattle.jc_command_work.specs.Step.{Word, Outside, Counts, Landed, Write, to_out}
 use Rattle.jc_command_work.specs.Part.{End, done, misused, gives, stops, Part, Command, deciding, ending, writing_all, ◌>>=◌}
 use Rattle.jc_command_work.specs.Ending.{CameTo, Began, BrokeOff, Stops, Does, Reports, Ends}
 use Rattle.jc_command_work.specs.Folders.{files_of}
@@ -16,7 +16,7 @@ use Rattle.jc_command_work.specs.Seen.{write_seen, stop_seen}
 use Rattle.jc_command_work.proofs.Behind.{came_then, began_then, broke_then, stops_first}
 use Rattle.jc_command_work.proofs.Ends.{ends_done, ends_stopped}
 use Rattle.jc_command_work.proofs.Reaching.{reached_start, ran_last, was_decided, was_ended}
-use Rattle.jc_top.specs.Completes.{Completes}
+use Rattle.jc_top.specs.Completes.{Completes, CompletesListing}
 use Rattle.jc_top.specs.Work.{on_files, work_of, IsUsage, the_work}
 
 -- ---- one part in front of a command
@@ -50,22 +50,30 @@ memory_ends landed command w f = inr (inr (record { is = refl; far = inl (refl, 
 
 -- ---- writes
 
-module _ (landed : Landed) (made writes : List Written) (same : made ≡ writes) (old mid : Outside) (f g : Counts) where
+module _ (landed : Landed) (writes : List Write) (old mid : Outside) (f g : Counts) where
   -- the writes were made
+  pub made_all : (g ≡ f) × CameTo landed (writing_all writes) old mid (gives tt) → Ends landed (making_all writes) old mid f g status.Done
+  made_all does = ends_done landed (making_all writes) old f mid g all.0 all.1
+    where
+      all : (g ≡ f) × CameTo landed (making_all writes) old mid (stops done)
+      all = ran_last landed (making_all writes) old old f f (writing_all writes) (reached_start landed (making_all writes) old f)
+          (λ (stop : Stop). stop_seen stop) mid g (Ok (tt {0})) does
+
+  -- a write failed, or memory was refused
+  pub made_some : (new : Outside) (f' : Counts) (stop : Option End) (s : Status) → Stops landed (writing_all writes) old mid f g stop → Reports stop mid new g f' s
+      → Ends landed (making_all writes) old new f f' s
+  made_some new f' stop s stopped reports = ends_before landed (writing_all writes) (λ _. ending {X = ⊥} done) old f mid new g f' stop s stopped reports
+
+-- the same of equal writes
+module _ (landed : Landed) (made writes : List Written) (same : made ≡ writes) (old mid : Outside) (f g : Counts) where
   pub wrote_all : (g ≡ f) × CameTo landed (writing_all (map write_seen made)) old mid (gives tt) → Ends landed (making_all (map write_seen writes)) old mid f g status.Done
   wrote_all does = subst (λ (ws : List Written). Ends landed (making_all (map write_seen ws)) old mid f g status.Done) same
-      (ends_done landed (making_all (map write_seen made)) old f mid g all.0 all.1)
-    where
-      all : (g ≡ f) × CameTo landed (making_all (map write_seen made)) old mid (stops done)
-      all = ran_last landed (making_all (map write_seen made)) old old f f (writing_all (map write_seen made))
-          (reached_start landed (making_all (map write_seen made)) old f) (λ (stop : Stop). stop_seen stop) mid g (Ok (tt {0})) does
+      (made_all landed (map write_seen made) old mid f g does)
 
-  -- a write failed
   pub wrote_some : (new : Outside) (f' : Counts) (stop : Option End) (s : Status) → Stops landed (writing_all (map write_seen made)) old mid f g stop → Reports stop mid new g f' s
       → Ends landed (making_all (map write_seen writes)) old new f f' s
-  wrote_some new f' stop s stopped reports =
-      subst (λ (ws : List Written). Ends landed (making_all (map write_seen ws)) old new f f' s) same
-      (ends_before landed (writing_all (map write_seen made)) (λ _. ending {X = ⊥} done) old f mid new g f' stop s stopped reports)
+  wrote_some new f' stop s stopped reports = subst (λ (ws : List Written). Ends landed (making_all (map write_seen ws)) old new f f' s) same
+      (made_some landed (map write_seen made) old mid f g new f' stop s stopped reports)
 
 -- ---- a command that reads, decides and then writes
 
@@ -75,6 +83,12 @@ module _ (landed : Landed) (inputs : List Word) (Answers : List (List ℕ) → A
   completed (Ok writes) s does completes =
       ends_behind landed (preparing inputs Answers) making_all old f (map write_seen writes.items) mid new g f' s does completes
   completed (Err stop) s does completes = ends_before landed (preparing inputs Answers) making_all old f mid new g f' (stop_seen stop) s does completes
+
+  pub listing_completed : (prepared : Result (List (List ℕ)) Stop) (s : Status) → Does landed (preparing inputs Answers) (λ lines. map to_out lines) stop_seen old mid f g prepared
+      → CompletesListing landed prepared mid new g f' s → Ends landed (answered inputs Answers) old new f f' s
+  listing_completed (Ok lines) s does completes =
+      ends_behind landed (preparing inputs Answers) making_all old f (map to_out lines) mid new g f' s does completes
+  listing_completed (Err stop) s does completes = ends_before landed (preparing inputs Answers) making_all old f mid new g f' (stop_seen stop) s does completes
 
 -- the same of equal paths
 pub ends_same : (landed : Landed) (Answers : List Word → List Word → List (List ℕ) → Answer → Type 0) (ts ts' ps ps' : List Word) → ts ≡ ts'

@@ -10,7 +10,7 @@ ghost use Rattle.jc_command_classes.specs.ReportSteps.{exec_path, IsReadOf};
 ghost use Rattle.jc_top.specs.Bounds.{IsBounded};
 ghost use Rattle.jc_top.specs.Work.{reporting, work_of};
 
-use crate::complete::complete;
+use crate::complete::{complete, complete_listing};
 use jc_command_classes::{
     ExecInput, ReportOptions, prepare_class_info, prepare_instrument, prepare_report,
 };
@@ -143,7 +143,7 @@ fn exec_info<F: Files, O: Sink, E: Sink>(
         (Ends F.landed (work_of (exec_info (texts_of inputs.now)))) result }
 {
     let prepared = prepare_exec_info(alloc, outside.files, inputs);
-    complete(alloc, outside, prepared)
+    complete_listing(alloc, outside, prepared)
 }
 
 /// Prints the id, the methods and the probes of each class.

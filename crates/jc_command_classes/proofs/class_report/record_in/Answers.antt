@@ -1,5 +1,8 @@
-use Rattle.jc_command_classes.proofs.ReportStepLaws.{record_found}
+use Rattle.std.proofs.Common.{◌≡◌, Option, IfOk, subst}
+use Rattle.jc_exec.specs.declared.hits.ClassHits.{ClassHits}
+use Rattle.jc_command_classes.proofs.ReportStepLaws.{looked_up}
 use Rattle.jc_command_classes.proofs.class_report.record_in.Goals as goal
 
 pub returns-clause-found : goal.returns-clause-found
-returns-clause-found c = record_found c.args.exec_data.now.store.classes c.args.class.now.id c.get.result c.get.ensures.found c.get.ensures.only
+returns-clause-found c =
+    subst (λ (o : Option ClassHits). IfOk c.get.result (λ r. r ≡ o)) (looked_up c.args.exec_data.now.store.classes c.args.class.now.id) c.get.ensures.found

@@ -1,7 +1,6 @@
 use Rattle.std.proofs.Common.{◌++◌, ◌∷◌, [], ℕ, List, Bor, get_or, refl, arith, length-append}
 use Rattle.std.proofs.lemmas.Result.{err_from_is_err_and}
 use Rattle.jc_command_work.specs.Seen.{texts_of}
-use Rattle.jc_command_work.proofs.AnsweredLaws.{none_made}
 use Rattle.jc_command_work.proofs.Reaching.{paths_start, path_failed, path_kept, paths_read}
 use Rattle.jc_command_exec.proofs.GatheredLaws.{gathers_on, path_of}
 use Rattle.jc_command_exec.proofs.merge.union_of.Goals as goal
@@ -12,18 +11,13 @@ named text = text.now
 abbrev nothing : Bor (List ℕ)
 nothing = record { ref_ptr = (0, 0); now = [] }
 
-pub returns-in_err-new : goal.returns-in_err-new
-returns-in_err-new g c =
-    let p = err_from_is_err_and c.from_residual.result c.from_residual.ensures.1 in
-    rw (p.1, p.2) ([], (λ out err outs errs. none_made g.F.Files.landed _ _ _), tt)
-
 pub merging-init : goal.merging-init
 merging-init g c =
-    ([], refl, record { read = []; blocks = refl; union = c.in_ok-new.ensures.union }, (λ out err outs errs. paths_start g.F.Files.landed named c.args.paths.now _ _))
+    ([], refl, record { read = []; blocks = refl; union = c.new.ensures.union }, (λ out err outs errs. paths_start g.F.Files.landed named c.args.paths.now _ _))
 
 pub returns-in_err-gathered : goal.returns-in_err-gathered
 returns-in_err-gathered g c =
-    let p = err_from_is_err_and c.from_residual-in_err-gathered.result c.from_residual-in_err-gathered.ensures.1 in
+    let p = err_from_is_err_and c.from_residual.result c.from_residual.ensures.1 in
     let inv = c.merging.invariant in
     let d = c.in_err-gathered.ensures in
     rw (p.1, p.2) (
