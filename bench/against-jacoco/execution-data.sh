@@ -59,3 +59,8 @@ for k in $(seq 1 16); do against fill "$k.exec" 40 4194304; done
 ours=$(clock "$jcov" merge --destfile o $(seq -f '%g.exec' 1 16))
 theirs=$(clock against merge p $(seq -f '%g.exec' 1 16))
 printf 'sixteen files of 4 MiB with the same ids: jcov %5d ms, JaCoCo %5d ms\n' "$ours" "$theirs"
+rm -f ./*.exec o p
+for k in $(seq 1 40); do against fill "$k.exec" 40 30000; done
+ours=$(clock "$jcov" merge --destfile o $(seq -f '%g.exec' 1 40))
+theirs=$(clock against merge p $(seq -f '%g.exec' 1 40))
+printf 'forty files of 30,000 bytes: jcov %5d ms, JaCoCo %5d ms\n' "$ours" "$theirs"
