@@ -1,0 +1,17 @@
+pub mod Suits
+pub mod Needs
+pub mod RefsOk
+pub mod Wrong
+pub mod Answers
+pub mod Known
+pub mod KnownSuits
+pub mod FrameNumbers
+pub mod SuitedFlow
+pub mod HeldTypes
+pub mod KindNeeds
+pub mod SuitedWalk
+pub mod Unguarded
+pub mod MethodAnswers
+pub mod Checking
+pub mod Classes
+pub mod KindSuits
