@@ -1,0 +1,9 @@
+mod StatusLaws
+mod StateLaws
+mod PlacedLaws
+mod SpanLaws
+mod SaidLaws
+mod ListingLaws
+mod OneListLaws
+mod AddingLaws
+mod PlacingLaws

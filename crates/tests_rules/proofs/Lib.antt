@@ -1,0 +1,2 @@
+mod SlowLaws
+mod LookingLaws
