@@ -1,0 +1,9 @@
+pub mod ClassLaws
+pub mod HoldingLaws
+pub mod OperandLaws
+pub mod TakenLaws
+pub mod PoolTakenLaws
+pub mod NeedLaws
+pub mod FlowingLaws
+pub mod BeginLaws
+pub mod SoundLaws

@@ -1,0 +1,10 @@
+//! Laws of programs that pass the reference check, which stand over the definitions alone.
+ghost use Rattle.jc_refs_laws.specs.Laws.{RefsSound};
+
+use jc_programs::{Case, Program};
+
+/// Where a program passes the reference check, and each thread of the case has an entry, no world of any run of the case has a
+/// thread that stands at an instruction with a reference of a class which the instruction doesn't take.
+pub fn refs_sound(program: &Program, case: &Case)
+    ensures { RefsSound program.now case.now }
+{}

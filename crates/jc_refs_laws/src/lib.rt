@@ -1,0 +1,6 @@
+//! What the reference check says of the runs of programs.
+#![tactic(auto)]
+
+mod laws;
+
+pub use laws::refs_sound;
