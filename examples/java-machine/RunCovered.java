@@ -12,9 +12,14 @@ import org.jacoco.agent.rt.internal.Offline;
  */
 public final class RunCovered {
     public static void main(String[] words) throws Exception {
+        if (words.length < 2) {
+            System.err.println("usage: java -cp FOLDERS RunCovered EXEC CLASS WORD..");
+            System.exit(2);
+        }
         String exec = words[0];
         Runtime.getRuntime().addShutdownHook(new Thread(() -> write(exec)));
         Method main = Class.forName(words[1]).getMethod("main", String[].class);
+        main.setAccessible(true);
         main.invoke(null, (Object) Arrays.copyOfRange(words, 2, words.length));
     }
 
