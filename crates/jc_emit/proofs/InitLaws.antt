@@ -15,13 +15,13 @@ use Rattle.jc_kinds_after.specs.Table.{table, forms_at}
 use Rattle.jc_kinds_after.specs.After.{insn_at, new_class, ground_of, returns_of, member_step, constant_step, return_step, step_of, after_of}
 use Rattle.jc_kinds_after.proofs.ApplyLaws.{after_is}
 use Rattle.jc_kinds.specs.States.{frames_of, frame_at, state_of, after_at}
-use Rattle.jc_kinds.specs.Fits.{FitState, FitsThere}
 use Rattle.jc_kinds.specs.Checked.{Checked, LeadsTo, HasFrame, IsHandlerTarget, NeedsFrame, IsMissing}
-use Rattle.jc_kinds.proofs.WalkLaws.{state_itself}
 use Rattle.std.proofs.lemmas.Bool.{lt-leb}
 use Rattle.jc_bytes.proofs.BooleanLaws.{which_in, none_in, first_in}
+use Rattle.jc_kinds.specs.Flows.{ThereBy, FlowsBy, IsFlow}
+use Rattle.jc_emit.proofs.FlowLaws.{state_same, fit_there, kind_flow, fits_there_back}
 use Rattle.jc_emit.proofs.PlacedLaws.{flow_push_by, no_targets}
-use Rattle.jc_emit.proofs.TwinStatesLaws.{PushesInt, push_by_is, first_state, frame_state_is, next_state, after_there, fit_there}
+use Rattle.jc_emit.proofs.TwinStatesLaws.{PushesInt, push_by_is, first_state, frame_state_is, next_state, after_there}
 use Rattle.jc_methods.specs.declared.probe_members.Fetch.{Fetch}
 use Rattle.jc_methods.specs.declared.probe_members.Fetch.TheVariants as fetches
 use Rattle.jc_methods.specs.ProbeMembers.{data_name, data_type, init_name, init_type, init_flags, runtime_class, fetch_name, fetch_type, bootstrap_type, most_short}
@@ -39,24 +39,25 @@ pub record Sound (names : Names) (b : Body) (q : ℕ) : Type 0 where
   pub state_is : state_of names b q ≡ Some before
   pub after : TypeState
   pub after_is : after_of b q before ≡ Some after
-  pub next : FallsThrough insn → FitsThere (Some after) (state_of names b (q + 1))
+  pub next : FallsThrough insn → state_of names b (q + 1) ≡ Some after
   pub stops : (FallsThrough insn → ⊥) → q + 1 < length b.code → HasFrame b (q + 1)
-  pub jumps : (r : ℕ) → Contains (targets_of insn) r → HasFrame b r × FitsThere (Some after) (state_of names b r)
+  pub jumps : (r : ℕ) → Contains (targets_of insn) r → HasFrame b r × (state_of names b r ≡ Some after)
 
 module _ (names : Names) (b : Body) (sound : (q : ℕ) → q < length b.code → Sound names b q) where
   after_there_too : (q : ℕ) (s : Sound names b q) → after_at names b q ≡ Some s.after
   after_there_too q s = after_there names b q s.before s.after s.state_is s.after_is
 
-  branch_fits : (q r : ℕ) → LeadsTo b q r → FitsThere (after_at names b q) (state_of names b r)
-  branch_fits q r (inl g) =
+  -- the state where a branch leads is just the state after the instruction
+  branch_is : (q r : ℕ) → LeadsTo b q r → (t : TypeState) × (after_at names b q ≡ Some t) × (state_of names b r ≡ Some t)
+  branch_is q r (inl g) =
       let falls = g.0 in
       let s = sound q (slice_get_within b.code q falls.insn falls.stands) in
       let same : falls.insn ≡ s.insn = same_Some falls.insn s.insn (sym falls.stands ∙ s.stands) in
-      subst (λ o. FitsThere o (state_of names b r)) (sym (after_there_too q s)) (subst (λ k. FitsThere (Some s.after) (state_of names b k)) (sym g.1) (s.next (subst FallsThrough same falls.falls)))
-  branch_fits q r (inr j) =
+      (s.after, after_there_too q s, ap (state_of names b) g.1 ∙ s.next (subst FallsThrough same falls.falls))
+  branch_is q r (inr j) =
       let s = sound q (slice_get_within b.code q j.insn j.stands) in
       let same : j.insn ≡ s.insn = same_Some j.insn s.insn (sym j.stands ∙ s.stands) in
-      subst (λ o. FitsThere o (state_of names b r)) (sym (after_there_too q s)) (s.jumps r (subst (λ x. Contains (targets_of x) r) same j.target)).1
+      (s.after, after_there_too q s, (s.jumps r (subst (λ x. Contains (targets_of x) r) same j.target)).1)
 
   no_missing : (handlers : (r : ℕ) → IsHandlerTarget b r → HasFrame b r) → (r : ℕ) → IsMissing b r → ⊥
   no_missing handlers r m = by m.needs
@@ -78,14 +79,24 @@ module _ (names : Names) (b : Body) (sound : (q : ℕ) → q < length b.code →
               none (subst (HasFrame b) up (s.stops (λ falls. free (q, sym up, record { insn = s.insn; stands = s.stands; falls = falls })) (omega (arith, lt))))
 
   -- a body without exception rows
-  pub sound_checked : b.handlers ≡ [] → FitsThere (Some (entry_of b)) (state_of names b 0) → Checked names b
-  sound_checked empty entry = record {
-    none_missing = no_missing (λ r t. absurd (none_in t.0 (subst (λ l. Contains l t.0) empty t.1)));
-    entry = entry;
-    after = λ q lt. ap is_some (after_there_too q (sound q lt));
-    branches = branch_fits;
-    handlers = λ h q guards lt. absurd (none_in h (subst (λ l. Contains l h) empty guards.row));
-  }
+  module _ (empty : b.handlers ≡ []) (entry : state_of names b 0 ≡ Some (entry_of b)) where
+    pub sound_flows : {S : VerificationType → VerificationType → Type 0} → IsFlow S → FlowsBy S names b
+    sound_flows {S} flow = record {
+      entry = fit_there S (state_of names b 0) (entry_of b) (entry_of b) entry (state_same flow (entry_of b));
+      branches = λ q r leads.
+          let t = branch_is q r leads in
+          subst (λ o. ThereBy S o (state_of names b r)) (sym t.1) (fit_there S (state_of names b r) t.0 t.0 t.2 (state_same flow t.0));
+      handlers = λ h q guards lt. absurd (none_in h (subst (λ l. Contains l h) empty guards.row));
+    }
+
+    pub sound_checked : Checked names b
+    sound_checked = record {
+      none_missing = no_missing (λ r t. absurd (none_in t.0 (subst (λ l. Contains l t.0) empty t.1)));
+      entry = fits_there_back (Some (entry_of b)) (state_of names b 0) (sound_flows kind_flow).entry;
+      after = λ q lt. ap is_some (after_there_too q (sound q lt));
+      branches = λ q r leads. fits_there_back (after_at names b q) (state_of names b r) ((sound_flows kind_flow).branches q r leads);
+      handlers = λ h q guards lt. absurd (none_in h (subst (λ l. Contains l h) empty guards.row));
+    }
 
 -- ---- a method without tables, in which these local variables stay
 
@@ -134,7 +145,7 @@ module _ (names : Names) (class desc : List ℕ) (arg_slots max_locals : ℕ) (c
     state_is = before;
     after = t;
     after_is = after;
-    next = λ falls. fit_there (N (q + 1)) t t behind (state_itself t);
+    next = λ falls. behind;
     stops = λ halts. absurd (halts (inl flow));
     jumps = λ r c. absurd (none_in r (subst (λ l. Contains l r) (no_targets insn (inl flow)) c));
   }
@@ -313,11 +324,10 @@ module _ (names : Names) (class : List ℕ) (id : ℤ) (count : ℕ) (b : Body) 
     state_is = s2;
     after = has A;
     after_is = a2;
-    next = λ falls. fit_there (M 3) (has A) (has A) s3 (state_itself (has A));
+    next = λ falls. s3;
     stops = λ halts. absurd (halts (inr refl));
     jumps = λ r c. ⊎_elim
-        (λ same. subst (λ k. HasFrame b k × FitsThere (Some (has A)) (M k)) same
-        (has_end, fit_there (M 10) (has A) (has A) s10 (state_itself (has A)))) (λ more. absurd (none_in r more)) (which_in 10 ([]) r c);
+        (λ same. subst (λ k. HasFrame b k × (M k ≡ Some (has A))) same (has_end, s10)) (λ more. absurd (none_in r more)) (which_in 10 ([]) r c);
   }
 
   end_sound : Sound names b 10
@@ -340,9 +350,14 @@ module _ (names : Names) (class : List ℕ) (id : ℤ) (count : ℕ) (b : Body) 
   all_sound (suc (suc (suc (suc (suc (suc (suc (suc (suc (suc (suc q))))))))))) lt =
       let l = ap (λ (x : List Insn). length x) i.method.code_is in absurd (omega (arith, l, lt))
 
+  init_begins : M 0 ≡ Some (entry_of b)
+  init_begins = s0 ∙ ap Some (sym entry_is)
+
   init_checked : Checked names b
-  init_checked =
-      sound_checked names b all_sound i.method.handlers (fit_there (M 0) (entry_of b) (has []) s0 (subst (λ s. FitState s (has [])) (sym entry_is) (state_itself (has []))))
+  init_checked = sound_checked names b all_sound i.method.handlers init_begins
+
+  init_flows : {S : VerificationType → VerificationType → Type 0} → IsFlow S → FlowsBy S names b
+  init_flows flow = sound_flows names b all_sound i.method.handlers init_begins flow
 
 -- ---- the bootstrap method
 
@@ -416,12 +431,22 @@ module _ (names : Names) (class : List ℕ) (id : ℤ) (count : ℕ) (b : Body) 
   each_sound (suc (suc (suc (suc (suc q))))) lt =
       let l = ap (λ (x : List Insn). length x) i.method.code_is in absurd (omega (arith, l, lt))
 
+  bootstrap_begins : B 0 ≡ Some (entry_of b)
+  bootstrap_begins = t0 ∙ ap Some (sym given_first)
+
   bootstrap_checked : Checked names b
-  bootstrap_checked =
-      sound_checked names b each_sound i.method.handlers
-      (fit_there (B 0) (entry_of b) (beside []) t0 (subst (λ s. FitState s (beside [])) (sym given_first) (state_itself (beside []))))
+  bootstrap_checked = sound_checked names b each_sound i.method.handlers bootstrap_begins
+
+  bootstrap_flows : {S : VerificationType → VerificationType → Type 0} → IsFlow S → FlowsBy S names b
+  bootstrap_flows flow = sound_flows names b each_sound i.method.handlers bootstrap_begins flow
 
 pub verified : (fetch : Fetch) (names : List (List ℕ)) (class : List ℕ) (id : ℤ) (count : ℕ) (b : Body) → IsAddedBody fetch names class id count b
     → Checked names b
 verified fetches.Member names class id count b i = init_checked names class id count b i
 verified fetches.Constant names class id count b i = bootstrap_checked names class id count b i
+
+-- it flows along each relation that twins keep
+pub added_flows : {S : VerificationType → VerificationType → Type 0} → IsFlow S → (fetch : Fetch) (names : List (List ℕ)) (class : List ℕ) (id : ℤ) (count : ℕ)
+    (b : Body) → IsAddedBody fetch names class id count b → FlowsBy S names b
+added_flows flow fetches.Member names class id count b i = init_flows names class id count b i flow
+added_flows flow fetches.Constant names class id count b i = bootstrap_flows names class id count b i flow

@@ -26,6 +26,7 @@ pub mod WideTwinLaws
 pub mod StateLaws
 pub mod StepLaws
 pub mod ConditionalBranchLaws
+pub mod FlowLaws
 pub mod TwinPremisesLaws
 pub mod TwinPlacesLaws
 pub mod TwinStatesLaws

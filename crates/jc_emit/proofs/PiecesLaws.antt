@@ -47,6 +47,15 @@ module _ {X : Type 0} where
       let rest' = subst (λ l. HasAt l (length (pre ++ i ∷ [])) is) (append_assoc pre (i ∷ []) is) rest in
       (here, subst (λ m. HasAt (pre ++ i ∷ is) m is) n rest')
 
+  pub had_at : (items : List X) (q : ℕ) (is : List X) (k : ℕ) (x : X) → HasAt items q is → slice_get is k ≡ Some x → slice_get items (q + k) ≡ Some x
+  had_at items q [] k x h e = cc
+  had_at items q (i ∷ is) zero x h e =
+      let same : i ≡ x = cc in let z : q ≡ q + 0 = omega arith in
+      subst (λ n. slice_get items n ≡ Some x) z (h.0 ∙ ap Some same)
+  had_at items q (i ∷ is) (suc k) x h e =
+      let z : q + 1 + k ≡ q + suc k = omega arith in
+      subst (λ n. slice_get items n ≡ Some x) z (had_at items (q + 1) is k x h.1 e)
+
   -- a list that has these items from its front on, and no more, is the list of these items
   pub has_whole : (xs is : List X) → HasAt xs 0 is → length xs ≡ length is → xs ≡ is
   has_whole xs is h e = from_front ([]) xs is h e

@@ -14,13 +14,11 @@ use Rattle.jc_methods.specs.EntryState.{entry_of}
 use Rattle.jc_methods.proofs.SlotsLaws.{flow_slots}
 use Rattle.jc_kinds_after.specs.After.{after_of}
 use Rattle.jc_kinds.specs.States.{frames_of, frame_at, state_of, after_at}
-use Rattle.jc_kinds.specs.Fits.{FitState}
 use Rattle.jc_kinds.specs.Checked.{LeadsTo, HasFrame, NeedsFrame}
 use Rattle.jc_kinds.specs.Checking.{has_frame}
 use Rattle.jc_kinds_after.specs.Shift.{with_slot, shifted}
 use Rattle.jc_kinds.proofs.CheckLaws.{has_frame_decided}
 use Rattle.jc_kinds.proofs.StateShiftLaws.{frame_is}
-use Rattle.jc_kinds.proofs.WalkLaws.{state_itself}
 use Rattle.jc_plan.specs.Entries.{is_multi_target, is_invocation_line}
 use Rattle.jc_plan.specs.Probed.{id_if, probes_before}
 use Rattle.jc_plan.specs.Plan.{lead_probe}
@@ -28,13 +26,15 @@ use Rattle.jc_emit.specs.Sizes.{TwinForm, is_wide, early_probe, late_probe, prob
 use Rattle.jc_emit.specs.Marks.{TwinPlaces, prelude_size}
 use Rattle.jc_emit.specs.TwinFrames.{state_at, state_behind, IsFrame}
 use Rattle.jc_emit.specs.Items.{Item, image, probe_store, insn_of, test_part, lead_part, early_part, lead_of, land_of, image_of, twin_items}
+use Rattle.jc_kinds.specs.Flows.{StateBy}
+use Rattle.jc_emit.proofs.FlowLaws.{each_length, state_same, there_fit}
 use Rattle.jc_emit.proofs.PiecesLaws.{HasAt}
 use Rattle.jc_emit.proofs.BuiltLaws.{size_is}
 use Rattle.jc_emit.proofs.ToldLaws.{lead_at, early_at, main_at, main_by, plain_test}
 use Rattle.jc_emit.proofs.LocalLaws.{test_is, early_image}
 use Rattle.jc_emit.proofs.TwinPremisesLaws.{Premises, stands, asked_frame, frame_asked, old_at}
 use Rattle.jc_emit.proofs.TwinPlacesLaws.{state_b, no_frame, narrow, behind, tests_size, asked_front}
-use Rattle.jc_emit.proofs.TwinStatesLaws.{first_state, with_one, fit_length, frame_state_is, next_state, there_fit, after_b, A, after_at_b, image_after, S_low, A_low, S_long, next_is, probe_runs, IsBegun, begun_next, all_begun}
+use Rattle.jc_emit.proofs.TwinStatesLaws.{first_state, with_one, frame_state_is, next_state, after_b, A, after_at_b, image_after, S_low, A_low, S_long, next_is, probe_runs, IsBegun, begun_next, all_begun}
 use Rattle.jc_methods.specs.declared.insn.Flow.TheVariants as flows
 use Rattle.jc_emit.specs.Sizes as sizes
 
@@ -101,9 +101,9 @@ module _ (names new_names : Names) (states : List State) (first : ℕ) (form : T
           differ : false ≡ true → ⊥
           differ x = cc
 
-  pub fits_branch : (i j : ℕ) (lt : i < length b.code) → j < length b.code → LeadsTo b i j → FitState (After i lt) (S j)
+  pub fits_branch : (i j : ℕ) (lt : i < length b.code) → j < length b.code → LeadsTo b i j → StateBy p.passes (After i lt) (S j)
   fits_branch i j lt within leads =
-      there_fit (after_at names b i) (state_of names b j) (After i lt) (S j) (after_at_b names new_names states first form named b b' p i lt) (state_of_b j within) (p.checked.branches i j leads)
+      there_fit p.passes (after_at names b i) (state_of names b j) (After i lt) (S j) (after_at_b names new_names states first form named b b' p i lt) (state_of_b j within) (p.flows.branches i j leads)
 
   falls_from : (i : ℕ) → i < length b.code → FallsThrough (old i) → GoesOnFrom b i
   falls_from i lt falls = record { insn = old i; stands = old_at names new_names states first form named b b' p i lt; falls = falls }
@@ -140,16 +140,16 @@ module _ (names new_names : Names) (states : List State) (first : ℕ) (form : T
   pub record Led (j : ℕ) : Type 0 where
     pub before : TypeState
     pub state_is : N (lead j) ≡ Some (moved before)
-    pub fits : FitState before (S j)
+    pub fits : StateBy p.passes before (S j)
     pub low : slots before.stack ≤ b.max_stack
     pub same : frame_at (frames_of names b) j ≡ None → before ≡ S j
-    pub into : (i : ℕ) (lt : i < length b.code) → j ≡ suc i → FallsThrough (old i) → FitState (After i lt) before
-    pub begins : j ≡ 0 → FitState (entry_of b) before
+    pub into : (i : ℕ) (lt : i < length b.code) → j ≡ suc i → FallsThrough (old i) → StateBy p.passes (After i lt) before
+    pub begins : j ≡ 0 → StateBy p.passes (entry_of b) before
 
   pub led_long : (j : ℕ) → j < length b.code → (l : Led j) → v ≤ length l.before.locals
   led_long j lt l =
       let long = S_long names new_names states first form named b b' p j lt in
-      let same = fit_length l.before.locals (S j).locals l.fits.locals in
+      let same = each_length p.passes l.before.locals (S j).locals l.fits.locals in
       omega (arith, long, same)
 
   -- by a frame
@@ -157,13 +157,13 @@ module _ (names new_names : Names) (states : List State) (first : ℕ) (form : T
   led_by_state j lt is = record {
     before = S j;
     state_is = is;
-    fits = state_itself (S j);
+    fits = state_same p.flow (S j);
     low = S_low names new_names states first form named b b' p j lt;
     same = λ none. refl;
     into = λ i within e falls. fits_branch i j within lt (inl (falls_from i within falls, e ∙ sym (add-one i)));
     begins = λ e.
-        subst (λ k. FitState (entry_of b) (S k)) (sym e)
-        (there_fit (Some (entry_of b)) (state_of names b 0) (entry_of b) (S 0) refl (state_of_b 0 (subst (λ k. k < length b.code) e lt)) p.checked.entry);
+        subst (λ k. StateBy p.passes (entry_of b) (S k)) (sym e)
+        (there_fit p.passes (Some (entry_of b)) (state_of names b 0) (entry_of b) (S 0) refl (state_of_b 0 (subst (λ k. k < length b.code) e lt)) p.flows.entry);
   }
 
   pub led_by_frame : (j : ℕ) (s : State) → j < length b.code → Asked (lead j) s → Led j
@@ -198,7 +198,7 @@ module _ (names new_names : Names) (states : List State) (first : ℕ) (form : T
         low = A_low names new_names states first form named b b' p i lt;
         same = next;
         into = λ k also same again.
-            subst (λ t. FitState t (After i lt)) (after_one i k lt also (omega (arith, same))) (state_itself (After i lt));
+            subst (λ t. StateBy p.passes t (After i lt)) (after_one i k lt also (omega (arith, same))) (state_same p.flow (After i lt));
         begins = λ e. absurd (omega (arith, e));
       }
         where
@@ -363,11 +363,11 @@ module _ (names new_names : Names) (states : List State) (first : ℕ) (form : T
       by None e = record {
         before = entry_of b;
         state_is = ap N past ∙ begun_next names new_names states first form named b b' p begun.last (moved (entry_of b)) begun.store (ap F (sym past) ∙ e);
-        fits = there_fit (Some (entry_of b)) (state_of names b 0) (entry_of b) (S 0) refl (state_of_b 0 some) p.checked.entry;
+        fits = there_fit p.passes (Some (entry_of b)) (state_of names b 0) (entry_of b) (S 0) refl (state_of_b 0 some) p.flows.entry;
         low = omega arith;
         same = λ none. same_Some (entry_of b) (S 0) (sym (first_state names b none) ∙ state_of_b 0 some);
         into = λ i within e falls. absurd (no_zero i e);
-        begins = λ e. state_itself (entry_of b);
+        begins = λ e. state_same p.flow (entry_of b);
       }
         where
           begun : IsBegun names new_names states first form named b b' p form.fetch

@@ -17,7 +17,7 @@ use Rattle.jc_methods.specs.declared.body.Body.{Body}
 use Rattle.jc_methods.specs.declared.body.FrameAt.{FrameAt}
 use Rattle.jc_methods.specs.declared.body.What.{What}
 use Rattle.jc_methods.specs.declared.probe_members.Fetch.{Fetch}
-use Rattle.jc_methods.specs.VerificationTypes.{Names, TypeState, type_state, type_state_at}
+use Rattle.jc_methods.specs.VerificationTypes.{Names, VerificationType, TypeState, type_state, type_state_at}
 use Rattle.jc_kinds.specs.States.{frames_of, frame_at}
 use Rattle.jc_kinds.specs.Checked.{Checked, HasFrame}
 use Rattle.jc_kinds.specs.Answers.{AreStates}
@@ -36,6 +36,8 @@ use Rattle.jc_emit.specs.Added.{giver_of}
 use Rattle.jc_emit.specs.Twin.{Twin, IsSameMethod, NamesProbes, KeepsUses}
 use Rattle.jc_emit.specs.Straddling.{NoneStraddles}
 use Rattle.jc_emit.specs.Items.{Item, insn_of, image, segment_size, lead_of, land_of, image_of, test_part, image_part, twin_items}
+use Rattle.jc_kinds.specs.Flows.{FlowsBy, IsFlow}
+use Rattle.jc_emit.proofs.FlowLaws.{kind_flow, kind_flows}
 use Rattle.jc_emit.proofs.PiecesLaws.{HasAt}
 use Rattle.jc_emit.proofs.BuiltLaws.{length_twin}
 use Rattle.jc_emit.proofs.EndsLaws.{image_past}
@@ -53,9 +55,13 @@ use Rattle.jc_methods.proofs.SlotsLaws.{no_slots}
 use Rattle.jc_kinds_after.specs.After as after
 use Rattle.jc_emit.specs.Marks as marks
 
-pub record Premises (names new_names : Names) (states : List State) (first : ℕ) (form : TwinForm) (named : TwinPlaces) (b b' : Body) : Type 0 where
+pub record Premises (names new_names : Names) (states : List State) (first : ℕ) (form : TwinForm) (named : TwinPlaces) (b b' : Body) : Type 1 where
   pub well : IsWellMadeOfAnySize b
   pub checked : Checked names b
+  -- a relation that twins keep, along which the body flows
+  pub passes : VerificationType → VerificationType → Type 0
+  pub flow : IsFlow passes
+  pub flows : FlowsBy passes names b
   pub are : AreStates names b states
   pub free : NoneStraddles b
   pub method : IsSameMethod b b'
@@ -70,16 +76,19 @@ pub record Premises (names new_names : Names) (states : List State) (first : ℕ
   pub max_locals : b'.max_locals ≡ b.max_locals + 1
 
 -- with the places of the function
-pub premises : (names new_names : Names) (states : List State) (fetch : Fetch) (class : List ℕ) (bootstrap first : ℕ) (b b' : Body) → IsWellMadeOfAnySize b
-    → Checked names b → AreStates names b states → NoneStraddles b
+abbrev pub premises_by : {S : VerificationType → VerificationType → Type 0} → IsFlow S → (names new_names : Names) (states : List State) (fetch : Fetch)
+    (class : List ℕ) (bootstrap first : ℕ) (b b' : Body) → IsWellMadeOfAnySize b → Checked names b → FlowsBy S names b → AreStates names b states → NoneStraddles b
     → (t : Twin names new_names states fetch (giver_of fetch class bootstrap) first b b') → Premises names new_names states first t.form t.places b b'
-premises names new_names states fetch class bootstrap first b b' well checked are free t =
+premises_by {S} flow names new_names states fetch class bootstrap first b b' well checked flows are free t =
     let images = images_known b first t.form t.places b'.code t.marks well.code t.code in
     let lands = lands_known b first t.form t.places b'.code t.marks well.code t.code in
     let leads = leads_known b first t.form t.places b'.code t.marks well.code t.code in
     record {
       well = well;
       checked = checked;
+      passes = S;
+      flow = flow;
+      flows = flows;
       are = are;
       free = free;
       method = t.method;
@@ -100,6 +109,13 @@ premises names new_names states fetch class bootstrap first b b' well checked ar
       max_stack = t.max_stack;
       max_locals = t.max_locals;
     }
+
+-- along the relation of the kind check
+abbrev pub premises : (names new_names : Names) (states : List State) (fetch : Fetch) (class : List ℕ) (bootstrap first : ℕ) (b b' : Body) → IsWellMadeOfAnySize b
+    → Checked names b → AreStates names b states → NoneStraddles b
+    → (t : Twin names new_names states fetch (giver_of fetch class bootstrap) first b b') → Premises names new_names states first t.form t.places b b'
+premises names new_names states fetch class bootstrap first b b' well checked are free t =
+    premises_by kind_flow names new_names states fetch class bootstrap first b b' well checked (kind_flows names b checked) are free t
 
 -- ---- instructions
 

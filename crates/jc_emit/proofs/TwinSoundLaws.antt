@@ -14,13 +14,10 @@ use Rattle.jc_methods.specs.VerificationTypes.{Names, TypeState, type_state, slo
 use Rattle.jc_kinds_after.specs.Table.{table, forms_at}
 use Rattle.jc_kinds_after.specs.After.{insn_at, ground_of, returns_of, after_of}
 use Rattle.jc_kinds.specs.States.{frames_of, frame_at, state_of}
-use Rattle.jc_kinds.specs.Fits.{FitEach, FitsThere}
 use Rattle.jc_kinds.specs.Checked.{JumpsTo, HasFrame}
 use Rattle.jc_kinds_after.specs.Shift.{with_slot, shifted}
 use Rattle.jc_kinds_after.proofs.ApplyLaws.{after_is}
 use Rattle.jc_bytes.proofs.BooleanLaws.{which_in, none_in, first_in, later_in, of_map}
-use Rattle.jc_kinds.proofs.EntryShiftLaws.{fits_shift}
-use Rattle.jc_kinds.proofs.WalkLaws.{state_itself}
 use Rattle.jc_plan.specs.declared.branch.Branch.{Branch}
 use Rattle.jc_plan.specs.Edges.{branches_by}
 use Rattle.jc_plan.specs.Probed.{probe_of}
@@ -28,6 +25,8 @@ use Rattle.jc_plan.specs.Plan.{lead_probe}
 use Rattle.jc_bytes.proofs.FirstSeenLaws.{first_seen_listed}
 use Rattle.jc_bytes.proofs.ListLaws.{each_in}
 use Rattle.jc_emit.specs.Marks.{TwinPlaces}
+use Rattle.jc_kinds.specs.Flows.{EachBy, ThereBy}
+use Rattle.jc_emit.proofs.FlowLaws.{each_same, state_same, state_shift, fit_there}
 use Rattle.jc_emit.proofs.PlacedLaws.{flow_push_by, no_fall_goto, never, only, inverse_targets, placed_targets, no_targets, goto_stops, switch_stops}
 use Rattle.jc_methods.proofs.PlacedInsnLaws.{targets_placed}
 use Rattle.jc_emit.proofs.StateLaws.{slots-renamed}
@@ -44,7 +43,7 @@ use Rattle.jc_emit.proofs.StepLaws.{moves_nothing}
 use Rattle.jc_emit.proofs.ConditionalBranchLaws.{left_is}
 use Rattle.jc_emit.proofs.TwinPremisesLaws.{Premises, stands, code_long, asked_frame, asked_has, frame_asked, old_at, leads_grow}
 use Rattle.jc_emit.proofs.TwinPlacesLaws.{no_frame, narrow, tests_size, asked_piece, arms_switch, arms_are}
-use Rattle.jc_emit.proofs.TwinStatesLaws.{fit_there, frame_state_is, next_state, fits_same, after_b, A, image_after, A_low, S_long, goes, next_is, probe_runs, with_array, with_id, with_one}
+use Rattle.jc_emit.proofs.TwinStatesLaws.{frame_state_is, next_state, after_b, A, image_after, A_low, S_long, goes, next_is, probe_runs, with_array, with_id, with_one}
 use Rattle.jc_emit.proofs.TwinLeadsLaws.{slot_flow, placed_flow, framed, fits_branch, landing_frame, stopped_frame, inverse_frame, wide_frame, all_led, all_landed, all_imaged}
 use Rattle.jc_methods.specs.declared.insn.Insn.TheVariants as insns
 use Rattle.jc_methods.specs.declared.insn.Flow.TheVariants as flows
@@ -93,24 +92,32 @@ module _ (names new_names : Names) (states : List State) (first : ℕ) (form : T
     pub state_is : N q ≡ Some before
     pub after : TypeState
     pub after_is : after_of b' q before ≡ Some after
-    pub next : FallsThrough insn → FitsThere (Some after) (N (q + 1))
+    pub next : FallsThrough insn → ThereBy p.passes (Some after) (N (q + 1))
     pub stops : (FallsThrough insn → ⊥) → q + 1 < length b'.code → HasFrame b' (q + 1)
-    pub jumps : (r : ℕ) → Contains (targets_of insn) r → HasFrame b' r × FitsThere (Some after) (N r)
+    pub jumps : (r : ℕ) → Contains (targets_of insn) r → HasFrame b' r × ThereBy p.passes (Some after) (N r)
 
   -- the local variables there fit those before the instruction to whose part it belongs
   abbrev pub Near : ℕ → TypeState → Type 0
-  Near i s = FitEach s.locals (moved (S i)).locals
+  Near i s = EachBy p.passes s.locals (moved (S i)).locals
+
+  -- the state before an item: that before the instruction, at its image, and for the rest one with what a probe has pushed
+  abbrev pub IsStateOf : Item → TypeState → Type 0
+  IsStateOf (image insn i early) s = s ≡ moved (S i)
+  IsStateOf (probe_id id at late) s = (X : TypeState) × (s ≡ with_array names new_names states first form named b b' p X)
+  IsStateOf (probe_one id at late) s = (X : TypeState) × (s ≡ with_id names new_names states first form named b b' p X)
+  IsStateOf (probe_store id at late) s = (X : TypeState) × (s ≡ with_one names new_names states first form named b b' p X)
+  IsStateOf x s = (X : TypeState) × (s ≡ moved X)
 
   abbrev pub Fine : ℕ → ℕ → Item → Type 0
-  Fine i q x = (w : Sound q) × Near i w.before
+  Fine i q x = (w : Sound q) × Near i w.before × IsStateOf x w.before
 
-  pub same_fits : (o : Option TypeState) (s : TypeState) → o ≡ Some s → FitsThere (Some s) o
-  same_fits o s e = fit_there o s s e (state_itself s)
+  pub same_fits : (o : Option TypeState) (s : TypeState) → o ≡ Some s → ThereBy p.passes (Some s) o
+  same_fits o s e = fit_there p.passes o s s e (state_same p.flow s)
 
   -- one that goes on
   going : (i q : ℕ) (x : Item) (s t : TypeState) → slice_get items q ≡ Some x → flow_of (insn_of named v x) ≡ flows.GoesOn → N q ≡ Some s
-      → after_of b' q s ≡ Some t → FitsThere (Some t) (N (q + 1)) → Near i s → Fine i q x
-  going i q x s t here flow before after next near = (
+      → after_of b' q s ≡ Some t → ThereBy p.passes (Some t) (N (q + 1)) → Near i s → IsStateOf x s → Fine i q x
+  going i q x s t here flow before after next near is = (
     record {
       insn = insn_of named v x;
       stands = stands names new_names states first form named b b' p q x here;
@@ -123,22 +130,23 @@ module _ (names new_names : Names) (states : List State) (first : ℕ) (form : T
       jumps = λ r c. absurd (none_in r (subst (λ l. Contains l r) (no_targets (insn_of named v x) (inl flow)) c));
     },
     near,
+    is,
   )
 
   pub probe_fine : (i q id at : ℕ) (late : Bool) (X : TypeState) → HasAt items q (probe id at late) → N q ≡ Some (moved X)
       → slots X.stack ≤ b.max_stack → v ≤ length X.locals → Near i (moved X)
-      → FitsThere (Some (moved X)) (N (q + 1 + 1 + 1 + 1)) → Each (Fine i) q (probe id at late)
+      → ThereBy p.passes (Some (moved X)) (N (q + 1 + 1 + 1 + 1)) → Each (Fine i) q (probe id at late)
   probe_fine i q id at late X h before low long near last =
       let r = probe_runs names new_names states first form named b b' p q id at late X h before low long in
       let X1 = with_array names new_names states first form named b b' p X in
       let X2 = with_id names new_names states first form named b b' p X in
       let X3 = with_one names new_names states first form named b b' p X in (
-        going i q (probe_array id at late) (moved X) X1 h.0 refl before r.after0 (same_fits (N (q + 1)) X1 r.state1) near,
+        going i q (probe_array id at late) (moved X) X1 h.0 refl before r.after0 (same_fits (N (q + 1)) X1 r.state1) near (X, refl),
         (
-          going i (q + 1) (probe_id id at late) X1 X2 h.1.0 (flow_push_by named.integer id) r.state1 r.after1 (same_fits (N (q + 1 + 1)) X2 r.state2) near,
+          going i (q + 1) (probe_id id at late) X1 X2 h.1.0 (flow_push_by named.integer id) r.state1 r.after1 (same_fits (N (q + 1 + 1)) X2 r.state2) near (X, refl),
           (
-            going i (q + 1 + 1) (probe_one id at late) X2 X3 h.1.1.0 refl r.state2 r.after2 (same_fits (N (q + 1 + 1 + 1)) X3 r.state3) near,
-            (going i (q + 1 + 1 + 1) (probe_store id at late) X3 (moved X) h.1.1.1.0 refl r.state3 r.after3 last near, tt),
+            going i (q + 1 + 1) (probe_one id at late) X2 X3 h.1.1.0 refl r.state2 r.after2 (same_fits (N (q + 1 + 1 + 1)) X3 r.state3) near (X, refl),
+            (going i (q + 1 + 1 + 1) (probe_store id at late) X3 (moved X) h.1.1.1.0 refl r.state3 r.after3 last near (X, refl), tt),
           ),
         ),
       )
@@ -154,7 +162,7 @@ module _ (names new_names : Names) (states : List State) (first : ℕ) (form : T
 
   hop_fine : (i q to at : ℕ) (due : Option ℕ) (X : TypeState) → slice_get items q ≡ Some (hop to at due) → N q ≡ Some (moved X)
       → slots X.stack ≤ b.max_stack → Near i (moved X)
-      → HasFrame b' to × FitsThere (Some (moved X)) (N to) → (q + 1 < length b'.code → HasFrame b' (q + 1)) → Fine i q (hop to at due)
+      → HasFrame b' to × ThereBy p.passes (Some (moved X)) (N to) → (q + 1 < length b'.code → HasFrame b' (q + 1)) → Fine i q (hop to at due)
   hop_fine i q to at due X here before low near there stop = (
     record {
       insn = goto to;
@@ -165,15 +173,16 @@ module _ (names new_names : Names) (states : List State) (first : ℕ) (form : T
       after_is = goto_after q to at due X here low;
       next = λ falls. absurd (no_fall_goto to falls);
       stops = λ halts lt. stop lt;
-      jumps = λ r c. ⊎_elim (λ same. subst (λ k. HasFrame b' k × FitsThere (Some (moved X)) (N k)) same there) (λ more. absurd (none_in r more)) (which_in to ([]) r c);
+      jumps = λ r c. ⊎_elim (λ same. subst (λ k. HasFrame b' k × ThereBy p.passes (Some (moved X)) (N k)) same there) (λ more. absurd (none_in r more)) (which_in to ([]) r c);
     },
     near,
+    (X, refl),
   )
 
   -- a probe and the goto behind it
   hop_part_fine : (i q id to : ℕ) (X : TypeState) → HasAt items q (hop_part (land_of b first form) (Some id) to) → N q ≡ Some (moved X)
       → slots X.stack ≤ b.max_stack → v ≤ length X.locals → Near i (moved X)
-      → HasFrame b' (land to) × FitsThere (Some (moved X)) (N (land to)) → (q + 5 < length b'.code → HasFrame b' (q + 5))
+      → HasFrame b' (land to) × ThereBy p.passes (Some (moved X)) (N (land to)) → (q + 5 < length b'.code → HasFrame b' (q + 5))
       → Each (Fine i) q (hop_part (land_of b first form) (Some id) to)
   hop_part_fine i q id to X h before low long near there stop =
       let front = has_front items q (probe id to true) (hop (land to) to None ∷ []) h in
@@ -194,24 +203,24 @@ module _ (names new_names : Names) (states : List State) (first : ℕ) (form : T
   -- ---- where the instruction goes on
 
   target_jump : (i t : ℕ) (lt : i < length b.code) → Contains (targets_of (old i)) t
-      → HasFrame b' (land t) × FitsThere (Some (moved (After i lt))) (N (land t))
+      → HasFrame b' (land t) × ThereBy p.passes (Some (moved (After i lt))) (N (land t))
   target_jump i t lt c =
       let within = each_in (λ to. to < length b.code) (targets_of (old i)) t (p.well.code.places i (insns.Simple 0) lt) c in
       let jumps : JumpsTo b i t = record { insn = old i; stands = old_at names new_names states first form named b b' p i lt; target = c } in
       let frame = framed names new_names states first form named b b' p t within (inl (i, jumps)) in
       let a = landing_frame names new_names states first form named b b' p t frame in (
         asked_has names new_names states first form named b b' p (land t) a.0 a.1,
-        fit_there (N (land t)) (moved (After i lt)) (moved (S t)) (all_landed names new_names states first form named b b' p t within)
-            (fits_shift (image_of b first form) v (After i lt) (S t) (fits_branch names new_names states first form named b b' p i t lt within (inr jumps))),
+        fit_there p.passes (N (land t)) (moved (After i lt)) (moved (S t)) (all_landed names new_names states first form named b b' p t within)
+            (state_shift p.flow (image_of b first form) v (After i lt) (S t) (fits_branch names new_names states first form named b b' p i t lt within (inr jumps))),
       )
 
   within_next : (i : ℕ) → i < length b.code → FallsThrough (old i) → suc i < length b.code
   within_next i lt falls = let w = next_within b first form p.well.code i lt falls in omega (arith, w)
 
-  lead_target : (i : ℕ) (lt : i < length b.code) → FallsThrough (old i) → FitsThere (Some (moved (After i lt))) (N (lead (suc i)))
+  lead_target : (i : ℕ) (lt : i < length b.code) → FallsThrough (old i) → ThereBy p.passes (Some (moved (After i lt))) (N (lead (suc i)))
   lead_target i lt falls =
       let l = all_led names new_names states first form named b b' p (suc i) (within_next i lt falls) in
-      fit_there (N (lead (suc i))) (moved (After i lt)) (moved l.before) l.state_is (fits_shift (image_of b first form) v (After i lt) l.before (l.into i lt refl falls))
+      fit_there p.passes (N (lead (suc i))) (moved (After i lt)) (moved l.before) l.state_is (state_shift p.flow (image_of b first form) v (After i lt) l.before (l.into i lt refl falls))
 
   within_code : (i : ℕ) → lead (suc i) < length b'.code → suc i < length b.code
   within_code i short =
@@ -235,7 +244,7 @@ module _ (names new_names : Names) (states : List State) (first : ℕ) (form : T
 
   left_near : (i : ℕ) (lt : i < length b.code) → (flow_of (old i) ≡ flows.Branches) ⊎ (flow_of (old i) ≡ flows.Switches)
       → Near i (moved (After i lt))
-  left_near i lt e = subst (λ s. Near i (moved s)) (sym (left i lt e)) (fits_same (moved (S i)).locals)
+  left_near i lt e = subst (λ s. Near i (moved s)) (sym (left i lt e)) (each_same p.flow (moved (S i)).locals)
 
   left_long : (i : ℕ) (lt : i < length b.code) → (flow_of (old i) ≡ flows.Branches) ⊎ (flow_of (old i) ≡ flows.Switches)
       → v ≤ length (After i lt).locals
@@ -245,9 +254,9 @@ module _ (names new_names : Names) (states : List State) (first : ℕ) (form : T
 
   -- one that leads to a list of places
   leading : (i : ℕ) (lt : i < length b.code) (new : Insn) (early : Option ℕ) → slice_get items (q_of i) ≡ Some (image new i early)
-      → (FallsThrough new → FitsThere (Some (moved (After i lt))) (N (q_of i + 1)))
+      → (FallsThrough new → ThereBy p.passes (Some (moved (After i lt))) (N (q_of i + 1)))
       → ((FallsThrough new → ⊥) → q_of i + 1 < length b'.code → HasFrame b' (q_of i + 1))
-      → ((r : ℕ) → Contains (targets_of new) r → HasFrame b' r × FitsThere (Some (moved (After i lt))) (N r))
+      → ((r : ℕ) → Contains (targets_of new) r → HasFrame b' r × ThereBy p.passes (Some (moved (After i lt))) (N r))
       → Fine i (q_of i) (image new i early)
   leading i lt new early here next stop jumps = (
     record {
@@ -261,7 +270,8 @@ module _ (names new_names : Names) (states : List State) (first : ℕ) (form : T
       stops = stop;
       jumps = jumps;
     },
-    fits_same (moved (S i)).locals,
+    each_same p.flow (moved (S i)).locals,
+    refl,
   )
 
   -- ---- conditional jumps
@@ -269,11 +279,11 @@ module _ (names new_names : Names) (states : List State) (first : ℕ) (form : T
   -- a conditional jump that leads elsewhere, and falls through
   testing : (i : ℕ) (lt : i < length b.code) (new : Insn) (to : ℕ) → slice_get items (q_of i) ≡ Some (image new i None)
       → flow_of new ≡ flows.Branches → targets_of new ≡ to ∷ []
-      → FitsThere (Some (moved (After i lt))) (N (q_of i + 1)) → HasFrame b' to × FitsThere (Some (moved (After i lt))) (N to)
+      → ThereBy p.passes (Some (moved (After i lt))) (N (q_of i + 1)) → HasFrame b' to × ThereBy p.passes (Some (moved (After i lt))) (N to)
       → Fine i (q_of i) (image new i None)
   testing i lt new to here flow one next there =
       leading i lt new None here (λ falls. next) (λ halts. absurd (halts (inr flow)))
-      (λ r c. only to r (λ k. HasFrame b' k × FitsThere (Some (moved (After i lt))) (N k)) there (subst (λ l. Contains l r) one c))
+      (λ r c. only to r (λ k. HasFrame b' k × ThereBy p.passes (Some (moved (After i lt))) (N k)) there (subst (λ l. Contains l r) one c))
 
   inverse_flow : (i x : ℕ) → i < length b.code → flow_of (old i) ≡ flows.Branches → flow_of (inverse_jump x (old i)) ≡ flows.Branches
   inverse_flow i x lt e =
@@ -310,12 +320,12 @@ module _ (names new_names : Names) (states : List State) (first : ℕ) (form : T
           differ x = cc
 
   to_target : (i : ℕ) (lt : i < length b.code) → flow_of (old i) ≡ flows.Branches
-      → HasFrame b' (land (jump_target (old i))) × FitsThere (Some (moved (After i lt))) (N (land (jump_target (old i))))
+      → HasFrame b' (land (jump_target (old i))) × ThereBy p.passes (Some (moved (After i lt))) (N (land (jump_target (old i))))
   to_target i lt e =
       target_jump i (jump_target (old i)) lt (subst (λ l. Contains l (jump_target (old i))) (sym (tests_target (old i) e)) (first_in (jump_target (old i)) ([])))
 
   to_next : (i id : ℕ) (lt : i < length b.code) → flow_of (old i) ≡ flows.Branches → late_probe b first i ≡ Some id
-      → HasFrame b' (lead (suc i)) × FitsThere (Some (moved (After i lt))) (N (lead (suc i)))
+      → HasFrame b' (lead (suc i)) × ThereBy p.passes (Some (moved (After i lt))) (N (lead (suc i)))
   to_next i id lt e some = (
     asked_has names new_names states first form named b b' p (lead (suc i)) (state_at states (suc i)) (inverse_frame names new_names states first form named b b' p i id lt some),
     lead_target i lt (inr e),
@@ -342,7 +352,7 @@ module _ (names new_names : Names) (states : List State) (first : ℕ) (form : T
       let one = ap (wide_by flows.Branches) w in
       let place : lead (suc i) ≡ q_of i + 1 = omega (arith, size, one) in (
         testing i lt (with_places (land_of b first form) (old i)) (land (jump_target (old i))) h.0 (placed_flow (old i) (land_of b first form) e) (placed_targets (old i) (land_of b first form) e)
-            (subst (λ k. FitsThere (Some (moved (After i lt))) (N k)) place (lead_target i lt (inr e))) (to_target i lt e),
+            (subst (λ k. ThereBy p.passes (Some (moved (After i lt))) (N k)) place (lead_target i lt (inr e))) (to_target i lt e),
         tt,
       )
   plain_fine true i lt w e none h =
@@ -362,10 +372,10 @@ module _ (names new_names : Names) (states : List State) (first : ℕ) (form : T
       let at_hop = behind_image i lt new h.0 flow none_here in
       let two : q_of i + 1 + 1 ≡ q_of i + 2 = omega arith in (
         testing i lt new (q_of i + 2) h.0 flow (inverse_targets (with_places (land_of b first form) (old i)) (q_of i + 2) placed) (same_fits (N (q_of i + 1)) (moved (After i lt)) at_hop)
-            (to_behind i lt e w, subst (λ k. FitsThere (Some (moved (After i lt))) (N k)) place (lead_target i lt (inr e))),
+            (to_behind i lt e w, subst (λ k. ThereBy p.passes (Some (moved (After i lt))) (N k)) place (lead_target i lt (inr e))),
         (
           hop_fine i (q_of i + 1) to (jump_target (old i)) None (After i lt) hop_here at_hop (A_low names new_names states first form named b b' p i lt) (left_near i lt (inl e))
-              (subst (λ k. HasFrame b' k × FitsThere (Some (moved (After i lt))) (N k)) (sym to_is) (to_target i lt e)) (λ short. subst (HasFrame b') (sym two) (to_behind i lt e w)),
+              (subst (λ k. HasFrame b' k × ThereBy p.passes (Some (moved (After i lt))) (N k)) (sym to_is) (to_target i lt e)) (λ short. subst (HasFrame b') (sym two) (to_behind i lt e w)),
           tt,
         ),
       )
@@ -384,7 +394,7 @@ module _ (names new_names : Names) (states : List State) (first : ℕ) (form : T
       let end : lead (suc i) ≡ q_of i + 1 + 5 = omega (arith, size, one) in
       let next = to_next i id lt e some in (
         testing i lt new (lead (i + 1)) h.0 flow (inverse_targets (old i) (lead (i + 1)) e) (same_fits (N (q_of i + 1)) (moved (After i lt)) at_probe)
-            (subst (λ k. HasFrame b' k × FitsThere (Some (moved (After i lt))) (N k)) up next),
+            (subst (λ k. HasFrame b' k × ThereBy p.passes (Some (moved (After i lt))) (N k)) up next),
         hop_part_fine i (q_of i + 1) id (jump_target (old i)) (After i lt) h.1 at_probe (A_low names new_names states first form named b b' p i lt)
             (left_long i lt (inl e)) (left_near i lt (inl e)) (to_target i lt e)
             (λ short. subst (HasFrame b') end next.0),
@@ -415,7 +425,7 @@ module _ (names new_names : Names) (states : List State) (first : ℕ) (form : T
             (to_behind i lt e w, same_fits (N (q_of i + 2)) (moved (After i lt)) (state_left i id lt e w some)),
         (
           hop_fine i (q_of i + 1) to (i + 1) (lead_probe b first (i + 1)) (After i lt) hop_here at_hop (A_low names new_names states first form named b b' p i lt) (left_near i lt (inl e))
-              (subst (λ k. HasFrame b' k × FitsThere (Some (moved (After i lt))) (N k)) (up ∙ sym to_is) next) (λ short. subst (HasFrame b') two (to_behind i lt e w)),
+              (subst (λ k. HasFrame b' k × ThereBy p.passes (Some (moved (After i lt))) (N k)) (up ∙ sym to_is) next) (λ short. subst (HasFrame b') two (to_behind i lt e w)),
           hop_part_fine i (q_of i + 1 + 1) id (jump_target (old i)) (After i lt) h.1.1 at_probe
               (A_low names new_names states first form named b b' p i lt) (left_long i lt (inl e)) (left_near i lt (inl e)) (to_target i lt e)
               (λ short. subst (HasFrame b') end next.0),
@@ -459,12 +469,12 @@ module _ (names new_names : Names) (states : List State) (first : ℕ) (form : T
       by more false e o is = ⊎_elim (λ l. inl l) (λ m. inr (m.0, m.1, later_in x xs m.0 m.2, m.3, m.4)) more
 
   switch_target : (i t : ℕ) (lt : i < length b.code) → Contains (targets_of (old i)) t
-      → HasFrame b' (whole i t) × FitsThere (Some (moved (After i lt))) (N (whole i t))
+      → HasFrame b' (whole i t) × ThereBy p.passes (Some (moved (After i lt))) (N (whole i t))
   switch_target i t lt c =
-      ⊎_elim (λ e. subst (λ k. HasFrame b' k × FitsThere (Some (moved (After i lt))) (N k)) (sym e) (target_jump i t lt c))
+      ⊎_elim (λ e. subst (λ k. HasFrame b' k × ThereBy p.passes (Some (moved (After i lt))) (N k)) (sym e) (target_jump i t lt c))
       (λ m.
       let a = arm_asked i lt m.0 m.1 m.2 m.3 in
-      subst (λ k. HasFrame b' (whole i k) × FitsThere (Some (moved (After i lt))) (N (whole i k))) m.4 (a.0, same_fits (N (whole i (to_of m.0))) (moved (After i lt)) a.1))
+      subst (λ k. HasFrame b' (whole i k) × ThereBy p.passes (Some (moved (After i lt))) (N (whole i k))) m.4 (a.0, same_fits (N (whole i (to_of m.0))) (moved (After i lt)) a.1))
       (arm_case (q_of i + 1) t (arms_at b.code i))
 
   -- a frame stands where the arms, or what is left of them, begin
@@ -550,7 +560,7 @@ module _ (names new_names : Names) (states : List State) (first : ℕ) (form : T
       let size = size_is b first form i flows.GoesOn e in
       let place : lead (suc i) ≡ q_of i + 1 = omega (arith, size) in
       let flow = slot_flow v (old i) e in (
-        leading i lt (with_slot v (old i)) None h.0 (λ falls. subst (λ k. FitsThere (Some (moved (After i lt))) (N k)) place (lead_target i lt (inl e))) (λ halts. absurd (halts (inl flow)))
+        leading i lt (with_slot v (old i)) None h.0 (λ falls. subst (λ k. ThereBy p.passes (Some (moved (After i lt))) (N k)) place (lead_target i lt (inl e))) (λ halts. absurd (halts (inl flow)))
             (λ r c. absurd (none_in r (subst (λ l. Contains l r) (no_targets (with_slot v (old i)) (inl flow)) c))),
         tt,
       )
@@ -562,7 +572,7 @@ module _ (names new_names : Names) (states : List State) (first : ℕ) (form : T
         leading i lt new (early_probe b first i) h.0 (λ falls. absurd (stops falls)) (λ halts short. alone i lt flows.Jumps e (λ x. cc) (λ x. cc) (omega (arith, size)) short)
             (λ r c.
             let m = of_map (land_of b first form) (targets_of (old i)) r (subst (λ l. Contains l r) (targets_placed (land_of b first form) (old i)) c) in
-            subst (λ k. HasFrame b' k × FitsThere (Some (moved (After i lt))) (N k)) (sym m.2) (target_jump i m.0 lt m.1)),
+            subst (λ k. HasFrame b' k × ThereBy p.passes (Some (moved (After i lt))) (N k)) (sym m.2) (target_jump i m.0 lt m.1)),
         tt,
       )
   main_fine i flows.Switches lt e h =
@@ -574,7 +584,7 @@ module _ (names new_names : Names) (states : List State) (first : ℕ) (form : T
             (λ halts short. arms_frame i lt e (q_of i + 1) (arms_at b.code i) (arms_by_list b i) (λ y d. refl) (λ y d. d) end short)
             (λ r c.
             let m = of_map (whole i) (targets_of (old i)) r (subst (λ l. Contains l r) (targets_placed (whole i) (old i)) c) in
-            subst (λ k. HasFrame b' k × FitsThere (Some (moved (After i lt))) (N k)) (sym m.2) (switch_target i m.0 lt m.1)),
+            subst (λ k. HasFrame b' k × ThereBy p.passes (Some (moved (After i lt))) (N k)) (sym m.2) (switch_target i m.0 lt m.1)),
         arms_fine i lt e (q_of i + 1) (arms_at b.code i) (arms_by_list b i) (λ y d. refl) (λ y d. d) end h.1,
       )
   main_fine i flows.Returns lt e h =

@@ -1,5 +1,5 @@
 -- The states of a twin, from its first instruction on.
-use Rattle.std.proofs.Common.{true≢false, ◌≡◌, inl, inr, ℕ, zero, suc, pos, ◌+◌, ◌<◌, ◌≤◌, Bool, true, false, List, [], ◌∷◌, ◌++◌, length, map, Option, Some, None, option_and_then, refl, sym, ap, ◌∙◌, subst, arith, add-one, get_or, nat_le, if◌then◌else◌, append_assoc, append-nil}
+use Rattle.std.proofs.Common.{true≢false, ◌≡◌, inl, ℕ, zero, suc, pos, ◌+◌, ◌<◌, ◌≤◌, Bool, true, false, List, [], ◌∷◌, ◌++◌, length, map, Option, Some, None, option_and_then, refl, sym, ap, ◌∙◌, subst, arith, add-one, get_or, nat_le, if◌then◌else◌, append_assoc, append-nil}
 use Rattle.std.proofs.lemmas.Option.{none-some, same_Some}
 use Rattle.std.specs.List.{sum_by}
 use Rattle.std.proofs.lemmas.List.Sums.{sum_by-cons}
@@ -28,7 +28,6 @@ use Rattle.jc_kinds_after.specs.Step.{kind, moves, apply, put_local, with_stack,
 use Rattle.jc_kinds_after.specs.Table.{form as one_form, one, table, forms_at}
 use Rattle.jc_kinds_after.specs.After.{insn_at, ground_of, returns_of, step_of, member_step, constant_step, class_step, after_of}
 use Rattle.jc_kinds.specs.States.{frames_of, frame_at, or_else, state_of, after_at}
-use Rattle.jc_kinds.specs.Fits.{Fits, IsNullOrObject, FitEach, FitState, FitsThere}
 use Rattle.jc_kinds_after.specs.Shift.{renamed, probes, shifted}
 use Rattle.jc_kinds.specs.StateShift.{IsStraddled}
 use Rattle.jc_methods.proofs.FlowLaws.{falls_decided}
@@ -60,35 +59,6 @@ use Rattle.jc_kinds_after.proofs.LeaveLaws.{insn_of as step_at}
 use Rattle.jc_kinds_after.proofs.ApplyLaws.{after_is}
 use Rattle.jc_emit.specs.Sizes as sizes
 
--- ---- what fits
-
-pub fits_same : (xs : List VerificationType) → FitEach xs xs
-fits_same [] = tt
-fits_same (x ∷ xs) = (inr (inl refl), fits_same xs)
-
-fits_on : (a b c : VerificationType) → Fits a b → Fits b c → Fits a c
-fits_on a b c f (inl e) = inl e
-fits_on a b c f (inr (inl e)) = subst (Fits a) e f
-fits_on a b c (inl e) (inr (inr g)) = absurd (no_top (subst IsNullOrObject e g.0))
-  where
-    no_top : IsNullOrObject top → ⊥
-    no_top x = x
-fits_on a b c (inr (inl e)) (inr (inr g)) = inr (inr (subst IsNullOrObject (sym e) g.0, g.1))
-fits_on a b c (inr (inr f)) (inr (inr g)) = inr (inr (f.0, g.1))
-
-pub all_fit_on : (xs ys zs : List VerificationType) → FitEach xs ys → FitEach ys zs → FitEach xs zs
-all_fit_on [] [] zs f g = g
-all_fit_on [] (y ∷ ys) zs f g = absurd f
-all_fit_on (x ∷ xs) [] zs f g = absurd f
-all_fit_on (x ∷ xs) (y ∷ ys) [] f g = absurd g
-all_fit_on (x ∷ xs) (y ∷ ys) (z ∷ zs) f g = (fits_on x y z f.0 g.0, all_fit_on xs ys zs f.1 g.1)
-
-pub fit_length : (xs ys : List VerificationType) → FitEach xs ys → length xs ≡ length ys
-fit_length [] [] f = refl
-fit_length [] (y ∷ ys) f = absurd f
-fit_length (x ∷ xs) [] f = absurd f
-fit_length (x ∷ xs) (y ∷ ys) f = ap suc (fit_length xs ys f.1)
-
 -- ---- states by their places
 
 pub frame_state_is : (names : Names) (b : Body) (i : ℕ) (t : TypeState) → frame_at (frames_of names b) i ≡ Some t → state_of names b i ≡ Some t
@@ -115,12 +85,6 @@ next_state names b i insn s t none is falls before after =
 pub after_there : (names : Names) (b : Body) (i : ℕ) (s t : TypeState) → state_of names b i ≡ Some s → after_of b i s ≡ Some t
     → after_at names b i ≡ Some t
 after_there names b i s t before after = ap (option_and_then (after_of b i)) before ∙ after
-
-pub there_fit : (o u : Option TypeState) (s t : TypeState) → o ≡ Some s → u ≡ Some t → FitsThere o u → FitState s t
-there_fit o u s t e f h = subst (λ x. FitsThere (Some s) x) f (subst (λ x. FitsThere x u) e h)
-
-pub fit_there : (o : Option TypeState) (s t : TypeState) → o ≡ Some t → FitState s t → FitsThere (Some s) o
-fit_there o s t e h = subst (λ x. FitsThere (Some s) x) (sym e) h
 
 is_some_value : (o : Option TypeState) → IsSome o → (t : TypeState) × (o ≡ Some t)
 is_some_value None h = absurd (true≢false (sym h))

@@ -65,17 +65,17 @@ module _ (b : Body) (fs gs : List FrameAt) where
   jumps : (i j : ℕ) → JumpsTo one i j → JumpsTo other i j
   jumps i j jump = record { insn = jump.insn; stands = jump.stands; target = jump.target }
 
-  goes : (i : ℕ) → GoesOnFrom one i → GoesOnFrom other i
+  pub goes : (i : ℕ) → GoesOnFrom one i → GoesOnFrom other i
   goes i go = record { insn = go.insn; stands = go.stands; falls = go.falls }
 
-  leads : (i j : ℕ) → LeadsTo one i j → LeadsTo other i j
+  pub leads : (i j : ℕ) → LeadsTo one i j → LeadsTo other i j
   leads i j (inl next) = inl (goes i next.0, next.1)
   leads i j (inr jump) = inr (jumps i j jump)
 
   falls : (j : ℕ) → FallsInto one j → FallsInto other j
   falls j fall = (fall.0, fall.1, goes fall.0 fall.2)
 
-  guarded : (h : Handler) (i : ℕ) → Guards one h i → Guards other h i
+  pub guarded : (h : Handler) (i : ℕ) → Guards one h i → Guards other h i
   guarded h i guard = record { row = guard.row; start = guard.start; end = guard.end }
 
 needs : (b : Body) (fs gs : List FrameAt) (j : ℕ) → NeedsFrame (record b { frames = fs }) j → NeedsFrame (record b { frames = gs }) j

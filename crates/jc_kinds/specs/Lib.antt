@@ -12,3 +12,4 @@ pub mod Guarded
 pub mod Rows
 pub mod StateSequence
 pub mod StateShift
+pub mod Flows

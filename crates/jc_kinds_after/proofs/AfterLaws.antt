@@ -371,7 +371,7 @@ new_class_image v uses news insn other (led to is) same = ap (λ (x : Insn). new
 new_class_image v uses news insn other (inverted op to elsewhere is test new) same =
     ap (λ (x : Insn). new_class news (Some x)) new ∙ ap (λ (x : Insn). new_class uses (Some x)) (sym is)
 
-classes_stay : (v : ℕ) (image : ℕ → ℕ) (b new : Body) → HasImages v image b new → (k : ℕ)
+pub classes_stay : (v : ℕ) (image : ℕ → ℕ) (b new : Body) → HasImages v image b new → (k : ℕ)
     → new_class new.uses (insn_at new (image k)) ≡ new_class b.uses (insn_at b k)
 classes_stay v image b new h k = by (insn_at b k) refl
   where

@@ -24,7 +24,7 @@ use Rattle.jc_kinds_after.proofs.DoesLaws.{there_later}
 -- ---- one entry more
 
 -- what stands at a place, with an entry behind the others: the first one says it
-used_before : (uses : List Use) (u : Use) (place : ℕ) (what : What) → what_used uses place ≡ Some what → what_used (uses ++ u ∷ []) place ≡ Some what
+pub used_before : (uses : List Use) (u : Use) (place : ℕ) (what : What) → what_used uses place ≡ Some what → what_used (uses ++ u ∷ []) place ≡ Some what
 used_before [] u place what e = absurd (none-some what e)
 used_before (v ∷ uses) u place what e = by (nat_eq v.place place) (used_before uses u place what) e
   where
@@ -34,7 +34,7 @@ used_before (v ∷ uses) u place what e = by (nat_eq v.place place) (used_before
     by true more e = e
     by false more e = more e
 
-used_last : (uses : List Use) (u : Use) (place : ℕ) → what_used uses place ≡ None
+pub used_last : (uses : List Use) (u : Use) (place : ℕ) → what_used uses place ≡ None
     → what_used (uses ++ u ∷ []) place ≡ cond (nat_eq u.place place) (Some u.what) None
 used_last [] u place e = refl
 used_last (v ∷ uses) u place e = by (nat_eq v.place place) (used_last uses u place) e

@@ -38,7 +38,7 @@ use Rattle.jc_machine_model.specs.Step.{named_init, is_init_method, new_frame}
 use Rattle.jc_machine_model.specs.Fits.{made_in, nothing_made, IsOfBy, AreOfBy, AreInSlotsBy, IsStackBy, IsThere, IsThereInSlot, FitsTopBy, StandsAtCall, parameter_count}
 use Rattle.jc_machine_model.proofs.BeginLaws.{each_replicate}
 use Rattle.jc_machine_model.proofs.PairLaws.{begin_pairs}
-use Rattle.jc_machine_laws.specs.Flows.{EachBy}
+use Rattle.jc_kinds.specs.Flows.{EachBy}
 use Rattle.jc_machine_laws.specs.Typings.{TakesBy, IsFlowing}
 use Rattle.jc_machine_laws.proofs.TypedLaws.{References, HoldingTyping, held_in, holds_in, references_in}
 use Rattle.jc_machine_laws.proofs.LocalLaws.{slots_append, slots_length, all_top}

@@ -43,7 +43,7 @@ abbrev thread_with : Entry → List ℤ → Linked → Option Body → Thread
 thread_with entry numbers c o = elim o [ None ↦ stuck entry 0 | Some b ↦ thread_in entry numbers c b ]
 
 module _ (p : Program) where
-  same_located : (method : Entry) (place : ℕ) → located (frameless p) method place ≡ option_map frameless_insn (located p method place)
+  pub same_located : (method : Entry) (place : ℕ) → located (frameless p) method place ≡ option_map frameless_insn (located p method place)
   same_located method place =
       ap (option_and_then (insn_at method place)) (same_class_at p method.class) ∙ by (class_at p method.class)
     where
@@ -64,7 +64,7 @@ module _ (p : Program) where
       by None = refl
       by (Some c) = ap (located_in_class method.class place (frameless_class c)) (same_body_at c method.method) ∙ in_class c (slice_get c.bodies method.method)
 
-  same_at : (o : Option LocatedInsn) → operation_at (frameless p) (option_map frameless_insn o) ≡ operation_at p o
+  pub same_at : (o : Option LocatedInsn) → operation_at (frameless p) (option_map frameless_insn o) ≡ operation_at p o
   same_at None = refl
   same_at (Some i) = same_operation p i.at i.insn
 

@@ -36,7 +36,7 @@ use Rattle.jc_machine_model.specs.Step.{catches, handles, handler_in, handler_of
 use Rattle.jc_machine_model.specs.Fits.{IsOfBy, IsInSlotBy, AreInSlotsBy, AreOfBy, IsStackBy, IsThere, AreThereIn, KeepsPairs, StandsInBy, StandsIn, made_in}
 use Rattle.jc_machine_model.specs.Fits.{FitsTopBy, FitEachWaitingBy, FitsRunningBy, FitsThreadBy}
 use Rattle.jc_machine_model.proofs.BeginLaws.{all_at}
-use Rattle.jc_machine_laws.specs.Flows.{EachBy, StateBy, ThereBy, FlowsBy}
+use Rattle.jc_kinds.specs.Flows.{EachBy, StateBy, ThereBy, FlowsBy}
 use Rattle.jc_machine_laws.specs.Typings.{IsFlowing}
 use Rattle.jc_machine_laws.proofs.TypedLaws.{HoldingTyping, held_in}
 use Rattle.jc_machine_laws.proofs.LocalLaws.{to_slot, from_slot}

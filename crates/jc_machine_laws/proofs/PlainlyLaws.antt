@@ -21,7 +21,7 @@ use Rattle.jc_machine_model.specs.Heap.{HeapObject}
 use Rattle.jc_machine_model.specs.Objects.{thrown_of}
 use Rattle.jc_machine_model.specs.Fits.{IsReference, IsOfBy, any_reference, plainly}
 use Rattle.jc_machine_model.proofs.BeginLaws.{all_at}
-use Rattle.jc_machine_laws.specs.Flows.{EachBy, ThereBy, FlowsBy}
+use Rattle.jc_kinds.specs.Flows.{EachBy, ThereBy, FlowsBy}
 use Rattle.jc_machine_laws.specs.Typings.{IsHolding, IsFlowing}
 use Rattle.jc_machine_laws.proofs.TypedLaws.{HoldingTyping}
 

@@ -97,16 +97,16 @@ stream_type : field_type_in (codes "Ljava/io/PrintStream;") ≡ Some (Object (co
 unfolding types_from
 stream_type = refl
 
-asked : method_step opcode.invokestatic [] (method_type_in fetch_type) ≡ kinds.moves
+pub asked : method_step opcode.invokestatic [] (method_type_in fetch_type) ≡ kinds.moves
     (form (wants.Long ∷ wants.Reference ∷ wants.Int ∷ []) (kind (verification.object data_type) ∷ []) ∷ [])
 unfolding types_from rest_from
 asked = refl
 
-built_by : method_step opcode.invokespecial (codes "<init>") (method_type_in (codes "()V")) ≡ kinds.builds (form [] [])
+pub built_by : method_step opcode.invokespecial (codes "<init>") (method_type_in (codes "()V")) ≡ kinds.builds (form [] [])
 unfolding types_from rest_from
 built_by = refl
 
-printed_step : (name desc : List ℕ) (printed : Printed) → printed_by desc ≡ Some printed
+pub printed_step : (name desc : List ℕ) (printed : Printed) → printed_by desc ≡ Some printed
     → method_step opcode.invokevirtual name (method_type_in desc) ≡ kinds.moves (form (printed_wants printed) [] ∷ [])
 unfolding types_from rest_from printed_wants
 printed_step name desc printed e =

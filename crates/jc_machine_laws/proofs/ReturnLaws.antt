@@ -62,7 +62,7 @@ after_is program f c b insn k h =
     (subst (λ o. is_some o ≡ true) (after_there program f c b insn k h)
     (h.whole.checked.after f.place (slice_get_within b.code f.place insn h.insn_is)))
 
-applied_at : (program : Program) (f : Frame) (c : Linked) (b : Body) (insn : Insn) (k t : TypeState) → Here program f c b insn k
+pub applied_at : (program : Program) (f : Frame) (c : Linked) (b : Body) (insn : Insn) (k t : TypeState) → Here program f c b insn k
     → after_of b f.place k ≡ Some t → apply (ground_of b f.place) (step_of b.uses (returns_of b) insn) k ≡ Some t
 unfolding after_of
 applied_at program f c b insn k t h e = ap (option_and_then (λ i. apply (ground_of b f.place) (step_of b.uses (returns_of b) i) k)) (sym h.insn_is) ∙ e

@@ -1,4 +1,3 @@
-pub mod Flows
 pub mod Typings
 pub mod Laws
 pub mod Frameless

@@ -26,7 +26,7 @@ use Rattle.jc_machine_model.specs.Profile.{made_class, array_operation}
 use Rattle.jc_machine_model.specs.Objects.{thrown_of}
 use Rattle.jc_machine_model.specs.Step.{located, operation_at, catches}
 use Rattle.jc_machine_model.specs.Fits.{Typing, IsReference, IsOfBy}
-use Rattle.jc_machine_laws.specs.Flows.{FlowsBy}
+use Rattle.jc_kinds.specs.Flows.{FlowsBy}
 
 -- ---- heaps
 

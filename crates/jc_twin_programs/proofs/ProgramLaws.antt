@@ -39,14 +39,14 @@ module _ (names new_names : Names) (b : Body) (frames : List FrameAt) (same : ma
       let m = of_map (type_state_at other_names) others (type_state_at old_names h.0) (subst (λ l. Contains l (type_state_at old_names h.0)) (sym e) (in_map (type_state_at old_names) olds h.0 h.1)) in
       (m.0, m.1, sym (ap (λ (f : TypeStateAt). f.at) m.2) ∙ h.2)
 
-  state_same : (i : ℕ) → state_of new_names new i ≡ state_of names b i
+  pub state_same : (i : ℕ) → state_of new_names new i ≡ state_of names b i
   unfolding state_of after_of
   state_same zero = ap (λ l. or_else (frame_at l 0) (Some (entry_of b))) same
   state_same (suc i) =
       ap (λ l. or_else (frame_at l (suc i)) (if falls_at (insn_at b i) then option_and_then (after_of b i) (state_of new_names new i) else None)) same
       ∙ ap (λ s. or_else (frame_at (map (type_state_at names) b.frames) (suc i)) (if falls_at (insn_at b i) then option_and_then (after_of b i) s else None)) (state_same i)
 
-  after_same : (i : ℕ) → after_at new_names new i ≡ after_at names b i
+  pub after_same : (i : ℕ) → after_at new_names new i ≡ after_at names b i
   unfolding after_of
   after_same i = ap (option_and_then (after_of b i)) (state_same i)
 

@@ -6,6 +6,7 @@ use Rattle.jc_methods.specs.declared.body.Handler.{Handler}
 use Rattle.jc_methods.specs.VerificationTypes.{Names, VerificationType, TypeState}
 use Rattle.jc_methods.specs.EntryState.{entry_of}
 use Rattle.jc_kinds.specs.States.{state_of, after_at}
+use Rattle.jc_kinds_after.specs.Shift.{renamed}
 use Rattle.jc_kinds.specs.Checked.{LeadsTo, Guards, at_handler}
 
 -- as many, and each stands in the relation to the one in its place
@@ -31,3 +32,10 @@ pub record FlowsBy (S : VerificationType → VerificationType → Type 0) (names
   pub branches : (i j : ℕ) → LeadsTo b i j → ThereBy S (after_at names b i) (state_of names b j)
   -- the local variables before a guarded instruction, with the row's one reference, at the handler
   pub handlers : (h : Handler) (i : ℕ) → Guards b h i → i < length b.code → ThereBy S (at_handler b h (state_of names b i)) (state_of names b h.target)
+
+-- A relation that twins keep: each type stands in it to itself, it goes on from type to type, and it stays where the places of `new`
+-- are named by their images.
+pub record IsFlow (S : VerificationType → VerificationType → Type 0) : Type 0 where
+  pub same : (a : VerificationType) → S a a
+  pub on : (a b c : VerificationType) → S a b → S b c → S a c
+  pub stays_renamed : (image : ℕ → ℕ) (a b : VerificationType) → S a b → S (renamed image a) (renamed image b)
