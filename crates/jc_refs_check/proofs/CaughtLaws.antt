@@ -12,30 +12,8 @@ use Rattle.jc_methods.specs.declared.body.What.TheVariants as whats
 use Rattle.jc_methods.specs.VerificationTypes.{Names, Grows}
 use Rattle.jc_methods.specs.WellMade.{what_used}
 use Rattle.jc_methods.proofs.MetNamesLaws.{name_grows}
+use Rattle.jc_kinds_after.proofs.UsesLaws.{used_before, used_last}
 use Rattle.jc_refs_check.specs.Unguarded.{IsNumberOf, SaysClass, AreUsedClasses}
-
--- ---- one entry more
-
--- what stands at a place, with an entry behind the others: the first one says it
-used_before : (uses : List Use) (u : Use) (place : ℕ) (what : What) → what_used uses place ≡ Some what → what_used (uses ++ u ∷ []) place ≡ Some what
-used_before [] u place what e = absurd (none-some what e)
-used_before (v ∷ uses) u place what e = by (nat_eq v.place place) (used_before uses u place what) e
-  where
-    by : (b : Bool) → (what_used uses place ≡ Some what → what_used (uses ++ u ∷ []) place ≡ Some what)
-        → cond b (Some v.what) (what_used uses place) ≡ Some what
-        → cond b (Some v.what) (what_used (uses ++ u ∷ []) place) ≡ Some what
-    by true more e = e
-    by false more e = more e
-
-used_last : (uses : List Use) (u : Use) (place : ℕ) → what_used uses place ≡ None → what_used (uses ++ u ∷ []) place ≡ cond (nat_eq u.place place) (Some u.what) None
-used_last [] u place e = refl
-used_last (v ∷ uses) u place e = by (nat_eq v.place place) (used_last uses u place) e
-  where
-    by : (b : Bool) → (what_used uses place ≡ None → what_used (uses ++ u ∷ []) place ≡ cond (nat_eq u.place place) (Some u.what) None)
-        → cond b (Some v.what) (what_used uses place) ≡ None
-        → cond b (Some v.what) (what_used (uses ++ u ∷ []) place) ≡ cond (nat_eq u.place place) (Some u.what) None
-    by true more e = absurd (none-some v.what (sym e))
-    by false more e = more e
 
 -- ---- what is said of a place
 

@@ -21,7 +21,7 @@ use Rattle.jc_refs_check.specs.declared.guards.Guard.{Guard}
 use Rattle.jc_refs_check.specs.Suits.{object_class}
 use Rattle.jc_refs_check.specs.Classes.{name_at}
 use Rattle.jc_refs_check.specs.HeldTypes.{EachSays}
-use Rattle.jc_refs_check.specs.Unguarded.{object_of, class_at, classes_of, AreNumberedClasses, wanted_of, wanted_at, IsGuardOf, AreGuards, AreWanted}
+use Rattle.jc_refs_check.specs.Unguarded.{object_of, class_at, classes_of, AreNumberedClasses, wanted_of, wanted_at, IsGuardOf, AreSortedGuards, AreWanted}
 use Rattle.jc_refs_check.proofs.MemberTypeLaws.{one_at}
 
 -- ---- rows
@@ -39,7 +39,7 @@ each_among R xs ys y all there =
     (one.0, stands_in xs p.0 one.0 one.1, one.2)
 
 pub guards_made : (b : Body) (guards sorted : List Guard) → EachSays (IsGuardOf b) b.handlers guards → IsPermutation guards sorted
-    → IsNonDecreasingBy (λ (g : Guard). g.start) sorted → AreGuards b sorted
+    → IsNonDecreasingBy (λ (g : Guard). g.start) sorted → AreSortedGuards b sorted
 guards_made b guards sorted says same starts = record {
   starts = starts;
   among = λ g there. each_among (IsGuardOf b) b.handlers guards g says (Contains-permutation sorted guards g (IsPermutation-sym guards sorted same) there);

@@ -18,7 +18,7 @@ use Rattle.jc_kinds.specs.Frames.{frame_in}
 use Rattle.jc_kinds.specs.Guarded.{local_at}
 use Rattle.jc_kinds.proofs.FrameLaws.{frame_numbered}
 use Rattle.jc_kinds.proofs.WalkLaws.{frame_is}
-use Rattle.jc_machine_laws.specs.Flows.{EachBy}
+use Rattle.jc_kinds.specs.Flows.{EachBy}
 use Rattle.jc_refs_check.specs.Suits.{object_class, is_throwable_below, class_suits, suits, SuitsAsReference}
 use Rattle.jc_refs_check.specs.RefsOk.{HandlerSuits}
 use Rattle.jc_refs_check.specs.Classes.{name_at}

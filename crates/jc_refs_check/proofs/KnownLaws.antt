@@ -1,8 +1,8 @@
 -- What is known of a class decides which classes it suits.
-use Rattle.std.proofs.Common.{◌≡◌, ℕ, Bool, true, false, ◌||◌, List, Option, Some, None, codes, cond, refl, sym, ◌∙◌, ap, ap₂, subst, if◌then◌else◌}
+use Rattle.std.proofs.Common.{◌≡◌, ℕ, Bool, true, false, ◌||◌, List, Option, Some, None, codes, refl, sym, ◌∙◌, ap, if◌then◌else◌}
 use Rattle.std.specs.Str.{bytes_eq}
 use Rattle.jc_programs.specs.declared.run_end.Thrown.{Thrown}
-use Rattle.jc_programs.specs.Throwables.{name_of, thrown_named, is_named_in}
+use Rattle.jc_programs.specs.Throwables.{thrown_named, is_named_in}
 use Rattle.jc_machine_code.specs.declared.operation.PrimitiveType.TheVariants as primitives
 use Rattle.jc_refs_check.specs.declared.known.Known.{Known}
 use Rattle.jc_refs_check.specs.declared.known.Known.TheVariants as known

@@ -14,6 +14,7 @@ pub mod GuardLaws
 pub mod CaughtLaws
 pub mod UntakenLaws
 pub mod RowsLaws
+pub mod FurtherLaws
 pub mod HandlerLaws
 pub mod UnguardedLaws
 pub mod MethodLaws

@@ -1,8 +1,7 @@
 -- The types of members, by lists of names that grow.
-use Rattle.std.proofs.Common.{◌≡◌, ℕ, zero, suc, ◌+◌, ◌<◌, ◌≤◌, true, false, List, [], ◌∷◌, ◌++◌, length, map, take, get_or, Option, Some, None, is_some, Bor, HoldsAt, MatchOption, option_map, option_and_then, option_copied, refl, sym, ◌∙◌, ap, ap₂, subst, arith}
+use Rattle.std.proofs.Common.{◌≡◌, ℕ, zero, suc, ◌+◌, ◌<◌, ◌≤◌, false, List, [], ◌∷◌, ◌++◌, length, map, take, get_or, Option, Some, None, is_some, Bor, HoldsAt, MatchOption, option_map, option_and_then, option_copied, refl, sym, ◌∙◌, ap, ap₂, subst, arith}
 use Rattle.std.specs.List.{AllByRecursion, slice_get}
 use Rattle.std.proofs.lemmas.List.{take_more, take_all, map-append}
-use Rattle.std.proofs.lemmas.Option.{none-some, same_Some}
 use Rattle.jc_bytes.specs.Descriptor.{FieldType, DescribesField, IsFieldDescriptor, MethodType, DescribesMethod}
 use Rattle.jc_bytes.proofs.EachLaws.{all_push}
 use Rattle.jc_methods.specs.declared.kind.Kind.{Kind}
@@ -26,7 +25,7 @@ use Rattle.jc_programs.specs.Members.{class_at, body_of}
 use Rattle.jc_refs_check.specs.declared.members.ProgramTypes.{ProgramTypes}
 use Rattle.jc_refs_check.specs.declared.members.Signature.{Signature}
 use Rattle.jc_refs_check.specs.declared.members.MemberTypes.{MemberTypes}
-use Rattle.jc_refs_check.specs.HeldTypes.{IsNumberedResult, IsNumberedSignature, IsSignatureOf, IsTypeOf, EachSays, AreTypesOf, SaysMethod, SaysField, has_field, AreTypes}
+use Rattle.jc_refs_check.specs.HeldTypes.{IsNumberedResult, IsSignatureOf, IsTypeOf, EachSays, AreTypesOf, SaysMethod, SaysField, has_field, AreTypes}
 
 -- ---- what is numbered says the same when there are more names
 

@@ -1,19 +1,15 @@
 -- A method that is checked is one of a program: it is well made, and passes the kind check.
-use Rattle.std.proofs.Common.{◌≡◌, ℕ, ◌++◌, length, map, List, [], ◌∷◌, Some, refl, sym, ◌∙◌, ap, subst, arith}
-use Rattle.std.specs.List.{All, slice_get}
+use Rattle.std.proofs.Common.{◌≡◌, ℕ, length}
+use Rattle.std.specs.List.{All}
 use Rattle.std.proofs.lemmas.List.Elements.{All-contains}
 use Rattle.jc_bytes.proofs.BooleanLaws.{stands_in}
-use Rattle.jc_methods.specs.declared.body.Body.{Body}
-use Rattle.jc_methods.specs.declared.kind.Kind.{Kind}
-use Rattle.jc_methods.specs.VerificationTypes.{Names, AreNumberedFrames, Grows, IsNumbered, verification_type}
+use Rattle.jc_methods.specs.VerificationTypes.{Names, AreNumberedFrames, Grows}
 use Rattle.jc_methods.specs.declared.kind.Kind.TheVariants as kinds
 use Rattle.jc_methods.specs.WellMade.{IsWellMade, IsKind}
-use Rattle.jc_methods.proofs.NumberedLaws.{grown_count, frames_numbered, number_kept, numbers_kept}
-use Rattle.jc_methods.proofs.SeenLaws.{held_stays, kinds_stay}
+use Rattle.jc_methods.proofs.NumberedLaws.{grown_count, frames_numbered}
 use Rattle.jc_methods.proofs.MetNamesLaws.{grows_both}
-use Rattle.jc_programs.specs.declared.program.Linked.{Linked}
 use Rattle.jc_kinds.specs.Checked.{Checked}
-use Rattle.jc_machine_model.specs.Programs.{IsProgramBody, IsLinked, IsProgram}
+use Rattle.jc_machine_model.specs.Programs.{IsProgramBody, IsLinked}
 use Rattle.jc_refs_check.specs.declared.operands.CheckedMethod.{CheckedMethod}
 use Rattle.jc_refs_check.specs.KindNeeds.{IsCheckedMethod}
 use Rattle.jc_machine_model.specs.Profile.{made_class, make_operation}

@@ -1,6 +1,6 @@
 -- The descriptors on which operations hang.
-use Rattle.std.proofs.Common.{◌≡◌, inl, inr, ℕ, zero, suc, ◌-◌, Bool, true, false, ◌&&◌, not, cond, List, [], ◌∷◌, get_or, Option, Some, None, is_some, nat_eq, nat_le, nat_lt, refl, sym, ◌∙◌, ap, subst}
-use Rattle.std.specs.Prelude.{slice_get, ⊤, position, bytes_eq, option_map, option_and_then}
+use Rattle.std.proofs.Common.{◌≡◌, inl, inr, ℕ, ◌-◌, Bool, true, false, ◌&&◌, not, cond, List, [], ◌∷◌, get_or, Option, Some, None, is_some, nat_eq, nat_le, nat_lt, refl, sym, ◌∙◌, ap, subst}
+use Rattle.std.specs.Prelude.{slice_get, ⊤, position, bytes_eq, option_and_then}
 use Rattle.std.proofs.lemmas.Bool.{and_parts}
 use Rattle.std.proofs.lemmas.List.Elements.{All-contains}
 use Rattle.std.proofs.lemmas.List.Quantifiers.{position-Some}
@@ -24,15 +24,14 @@ use Rattle.jc_programs.specs.declared.program.StaticField.{StaticField}
 use Rattle.jc_programs.specs.declared.program.ProbeInit.{ProbeInit}
 use Rattle.jc_programs.specs.declared.run_end.Entry.{Entry}
 use Rattle.jc_programs.specs.declared.run_end.Thrown.{Thrown}
-use Rattle.jc_programs.specs.declared.run_end.Thrown.TheVariants as thrown
 use Rattle.jc_programs.specs.Members.{class_named, class_at, static_named}
-use Rattle.jc_programs.specs.Throwables.{name_of, thrown_named}
+use Rattle.jc_programs.specs.Throwables.{name_of}
 use Rattle.jc_kinds_after.specs.After.{class_in, new_class}
 use Rattle.jc_machine_model.specs.Fits.{made_in}
 use Rattle.jc_machine_model.specs.Step.{located_in_body, located_in_class, operation_at}
 use Rattle.jc_machine_model.specs.Methods.{is_enterable}
 use Rattle.jc_machine_model.specs.Values.{Value, ComputationalType, computational_type}
-use Rattle.jc_machine_model.specs.Operations.{FieldAt, Printed, Operation, pushes, computes, tests, jumps, makes_array, measures, gets, puts, invokes, builds, casts, returns, returns_nothing, throws_top, outside}
+use Rattle.jc_machine_model.specs.Operations.{FieldAt, Printed, Operation, pushes, computes, tests, jumps, makes_array, measures, gets, puts, builds, casts, returns, returns_nothing, throws_top, outside}
 use Rattle.jc_machine_model.specs.Profile.{Location, in_init, init_of, what_at, given_of, given_by, computed_operation, constant_operation, long_operation, may_name_field, field_operation, declared_field, linked_field, is_print_stream, field_named, may_name_method, callee_named, entered_if, body_entered, class_entered, method_entered, is_fetch, init_call, printed_by, print_operation, made_class, build_operation, call_named, member_operation, make_operation, cast_operation, class_operation, array_operation, elements_of, read_operation, write_operation, return_operation, simple_operation, local_type, load_operation, store_operation, local_operation, operation_of}
 use Rattle.jc_machine_code.specs.declared.operation.Operation.{Operation as ShownOperation}
 use Rattle.jc_machine_code.specs.declared.operation.Operation.TheVariants as shown

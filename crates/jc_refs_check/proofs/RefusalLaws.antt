@@ -1,7 +1,7 @@
 -- The first instruction at which the check fails.
-use Rattle.std.proofs.Common.{◌≡◌, ◌⊎◌, inl, inr, ⊎_elim, ℕ, zero, suc, ◌<◌, Bool, true, false, List, [], ◌∷◌, length, Option, Some, None, refl, sym, ◌∙◌, ap, ap₂, subst, arith}
+use Rattle.std.proofs.Common.{◌≡◌, ◌⊎◌, inl, inr, ⊎_elim, ℕ, true, length, Some, refl, sym, ◌∙◌, ap, ap₂, subst, arith}
 use Rattle.std.specs.Prelude.{⊤, IfOk, IfErr, MatchResult, Result, Ok, Err, slice_get}
-use Rattle.std.proofs.lemmas.Bool.{cases_lt, cases_eq}
+use Rattle.std.proofs.lemmas.Bool.{cases_lt}
 use Rattle.std.proofs.lemmas.Option.{slice_get_within}
 use Rattle.jc_bytes.specs.Failing.{Said}
 use Rattle.jc_bytes.specs.declared.fail.Fail.{Fail}
@@ -16,7 +16,7 @@ use Rattle.jc_refs_check.specs.declared.ref_refusal.RefRefusal.{RefRefusal}
 use Rattle.jc_refs_check.specs.RefsOk.{IsSuited, IsEntered, RefsOk, StandsBefore, FirstRefFault}
 use Rattle.jc_refs_check.specs.Answers.{ref_refusal_of, IsRefRefusal}
 use Rattle.jc_refs_check.proofs.CheckingLaws.{said_more}
-use Rattle.jc_refs_check.specs.MethodAnswers.{IsMethodRefusal, method_entry, AreMethodsOk, IsClassRefusal, AreClassesOk}
+use Rattle.jc_refs_check.specs.MethodAnswers.{method_entry, IsClassRefusal, AreClassesOk}
 
 some_is : {X : Type 0} (x y : X) → Some x ≡ Some y → x ≡ y
 some_is x y e = cc

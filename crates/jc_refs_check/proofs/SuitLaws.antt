@@ -1,5 +1,5 @@
 -- Types that are kept suit where those that they stand for do.
-use Rattle.std.proofs.Common.{◌≡◌, ◌≢◌, ◌↔◌, ℕ, zero, suc, ◌+◌, ◌<◌, ◌≤◌, Bool, false, true, not, ◌&&◌, ◌||◌, List, [], ◌∷◌, length, map, drop, get_or, refl, sym, ◌∙◌, ap, ap₂, arith}
+use Rattle.std.proofs.Common.{◌≡◌, ◌≢◌, ℕ, zero, suc, ◌+◌, ◌<◌, ◌≤◌, Bool, false, true, not, ◌&&◌, ◌||◌, List, [], ◌∷◌, length, map, drop, get_or, refl, sym, ◌∙◌, ap, ap₂, arith}
 use Rattle.std.specs.List.{AllByRecursion}
 use Rattle.std.proofs.lemmas.Bool.{and_right, and_parts, eq-eqb}
 use Rattle.std.proofs.lemmas.List.{drop_more, drop_all}
@@ -9,7 +9,7 @@ use Rattle.jc_methods.specs.declared.kind.State.{State}
 use Rattle.jc_methods.specs.VerificationTypes.{Names, VerificationType, verification_type, type_state, IsNumbered}
 use Rattle.jc_methods.specs.VerificationTypes as verification
 use Rattle.jc_kinds_after.specs.Wants.{is_anything}
-use Rattle.jc_machine_laws.specs.Flows.{EachBy, StateBy}
+use Rattle.jc_kinds.specs.Flows.{EachBy, StateBy}
 use Rattle.jc_refs_check.specs.Suits.{suits, SuitsAsReference}
 use Rattle.jc_refs_check.proofs.KnownLaws.{class_itself}
 use Rattle.jc_refs_check.specs.KindSuits.{reference_suits, kind_suits, kinds_suit, state_suits}

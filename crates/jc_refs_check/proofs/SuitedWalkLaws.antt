@@ -2,7 +2,7 @@
 use Rattle.std.proofs.Common.{◌≡◌, inl, inr, ⊎_elim, ℕ, zero, suc, ◌+◌, ◌<◌, Bool, true, false, List, [], ◌∷◌, ◌++◌, length, get_or, Option, Some, None, unwrap_or, refl, sym, ◌∙◌, ap, subst, arith, add-one}
 use Rattle.std.specs.Option.{option_and_then, option_map, IfSome}
 use Rattle.std.specs.Prelude.{IsSome}
-use Rattle.std.specs.List.{Contains, All, AllByRecursion, list_all, slice_get}
+use Rattle.std.specs.List.{Contains, All, list_all, slice_get}
 use Rattle.std.proofs.lemmas.Bool.{cases_lt, true≢false}
 use Rattle.std.proofs.lemmas.List.{length_push, append-nil}
 use Rattle.std.proofs.lemmas.List.Elements.{All-contains, All-from_recursion}
@@ -12,13 +12,13 @@ use Rattle.jc_bytes.proofs.ListLaws.{put_cases}
 use Rattle.jc_methods.specs.declared.kind.State.{State}
 use Rattle.jc_methods.specs.declared.body.Body.{Body}
 use Rattle.jc_methods.specs.declared.insn.Insn.{Insn}
-use Rattle.jc_methods.specs.Flow.{targets_of, falls_at}
+use Rattle.jc_methods.specs.Flow.{targets_of}
 use Rattle.jc_methods.specs.InsnUse.{LeadsWithin}
-use Rattle.jc_methods.specs.VerificationTypes.{Names, VerificationType, TypeState, type_state, IsNumberedState, AreNumberedFrames, Grows}
+use Rattle.jc_methods.specs.VerificationTypes.{Names, VerificationType, TypeState, type_state, AreNumberedFrames, Grows}
 use Rattle.jc_methods.specs.EntryState.{entry_of}
 use Rattle.jc_methods.specs.WellMade.{IsWellMade}
 use Rattle.jc_methods.proofs.FlowLaws.{goes_on_decided}
-use Rattle.jc_methods.proofs.MetNamesLaws.{grows_none, grows_both}
+use Rattle.jc_methods.proofs.MetNamesLaws.{grows_both}
 use Rattle.jc_methods.proofs.NumberedLaws.{seen_grown}
 use Rattle.jc_programs.specs.declared.program.Program.{Program}
 use Rattle.jc_programs.specs.declared.run_end.Entry.{Entry}
@@ -28,20 +28,18 @@ use Rattle.jc_kinds.specs.States.{state_of, after_at}
 use Rattle.jc_kinds.specs.Checked.{Checked, JumpsTo, LeadsTo}
 use Rattle.jc_kinds.specs.Checking.{branches}
 use Rattle.jc_kinds.specs.Frames.{frame_in}
-use Rattle.jc_kinds.specs.KindFits.{state_fits}
-use Rattle.jc_kinds.specs.StateSequence.{fits_there, fits_frame, passes, IsStep, IsKeptAt, kept_of}
+use Rattle.jc_kinds.specs.StateSequence.{fits_there, fits_frame, passes, IsKeptAt, kept_of}
 use Rattle.jc_kinds.proofs.FitsLaws.{state_decided}
 use Rattle.jc_kinds.proofs.CheckLaws.{leads_decided}
 use Rattle.jc_kinds.proofs.KindFitsLaws.{state_held_fits}
 use Rattle.jc_kinds_after.specs.Answers.{IsStateOf, IsWhole, LeavesState}
 use Rattle.jc_kinds.proofs.FrameLaws.{frame_made, frame_numbered}
 use Rattle.jc_kinds.proofs.WalkLaws.{all_true, all_false, frame_needed, frame_is, entry_is, falls_is, step_leads, kept_on}
-use Rattle.jc_machine_laws.specs.Flows.{EachBy, StateBy, ThereBy}
+use Rattle.jc_kinds.specs.Flows.{EachBy, StateBy, ThereBy}
 use Rattle.jc_refs_check.specs.Suits.{SuitsAsReference}
-use Rattle.jc_refs_check.specs.RefsOk.{OperandsSuit, BranchesSuit, EntrySuits}
-use Rattle.jc_refs_check.specs.KindSuits.{state_suits}
+use Rattle.jc_refs_check.specs.RefsOk.{OperandsSuit, BranchesSuit}
 use Rattle.jc_refs_check.specs.SuitedFlow.{suits_there, suits_frame}
-use Rattle.jc_refs_check.specs.SuitedWalk.{IsSuitedFlow, IsFirstFailing, IsSuitedWalk, IsWholeState, Leaves, suits_all, IsSuitedStep, IsUnsuitedStep}
+use Rattle.jc_refs_check.specs.SuitedWalk.{IsSuitedFlow, IsSuitedWalk, IsWholeState, Leaves, suits_all, IsSuitedStep, IsUnsuitedStep}
 use Rattle.jc_refs_check.proofs.SuitLaws.{suits_itself, state_to, state_back}
 
 -- ---- states that suit

@@ -23,7 +23,7 @@ use Rattle.jc_kinds.proofs.WalkLaws.{frame_needed}
 use Rattle.jc_refs_check.specs.declared.guards.Guard.{Guard}
 use Rattle.jc_refs_check.specs.RefsOk.{TakesCaught, HandlersSuit}
 use Rattle.jc_refs_check.specs.SuitedWalk.{IsFirstFailing}
-use Rattle.jc_refs_check.specs.Unguarded.{class_at, classes_of, class_before, wanted_of, wanted_at, IsUnsuited, IsUnsuitedIn, IsGuardOf, AreGuards, AreKeptStates, IsUntaken, FrameTakes}
+use Rattle.jc_refs_check.specs.Unguarded.{class_at, classes_of, class_before, wanted_of, wanted_at, IsUnsuited, IsUnsuitedIn, IsFrameFor, AreGuards, AreKeptStates, IsUntaken, FrameTakes}
 use Rattle.jc_refs_check.proofs.FrameNumberLaws.{stands_there}
 use Rattle.jc_refs_check.proofs.HandlerLaws.{handler_suits, handler_takes, handler_fails}
 
@@ -92,10 +92,10 @@ module _ (old names : Names) (b : Body) (states : List State) (rows : List Guard
           (inr (inl (h, there, refl))) e)
 
   -- what the handler's frame wants in a local variable
-  wanted_is : (h : Handler) (g : Guard) (f : State) (slot : ℕ) → IsGuardOf b h g → frame_in b.frames h.target ≡ Some f → wanted_at names b.frames g.frame slot ≡ wanted_of names (class_at slot f)
+  wanted_is : (h : Handler) (g : Guard) (f : State) (slot : ℕ) → IsFrameFor b.frames h.target g.frame → frame_in b.frames h.target ≡ Some f → wanted_at names b.frames g.frame slot ≡ wanted_of names (class_at slot f)
   wanted_is h g f slot is at =
-      let there = stands_there 0 b.code b.max_locals b.max_stack b.frames made.of_any_size.frames h.target g.frame is.frame f at in
-      ap (option_and_then (λ (x : FrameAt). wanted_of names (class_at slot x.state))) there.1 ∙ ap (λ (s : State). wanted_of names (class_at slot s)) there.2
+      let there = stands_there 0 b.code b.max_locals b.max_stack b.frames made.of_any_size.frames h.target is.count is.stands f at in
+      is.alike names slot ∙ ap (option_and_then (λ (x : FrameAt). wanted_of names (class_at slot x.state))) there.1 ∙ ap (λ (s : State). wanted_of names (class_at slot s)) there.2
 
   class_is : (slot i : ℕ) (s : State) → slice_get states i ≡ Some s → class_before (classes_of states slot) i ≡ class_at slot s
   class_is slot i s at = get_or-map (class_at slot) states i s None (slice_get_within states i s at) ∙ ap (class_at slot) (get_or_from_slice_get states i s s at)
@@ -108,20 +108,20 @@ module _ (old names : Names) (b : Body) (states : List State) (rows : List Guard
       let f = handler_frame h g.row in
       let s = state_there i lt in
       let k = kept i s.0 s.1 in
-      let row = guards.all h g.row in
+      let row = guards.guarding h i g.row g.start g.end in
       handler_suits old names b h i s.0 f.0 checked grown frames g (omega (arith, lt, few)) k.is f.1
       (λ slot room want wanted unsuited.
       none (inr (
         slot,
         (let n = k.well_made.locals in omega (arith, room, n)),
         record {
-          guard = row.0;
-          row = row.1;
+          guard = row.guard;
+          row = row.row;
           unsuited = record {
-            start = (let p = row.2.start in let q = g.start in omega (arith, p, q));
-            end = (let p = row.2.end in let q = g.end in omega (arith, p, q));
+            start = row.start;
+            end = row.end;
             want = want;
-            wanted = wanted_is h row.0 f.0 slot row.2 f.1 ∙ wanted;
+            wanted = wanted_is h row.guard f.0 slot row.frame f.1 ∙ wanted;
             unsuited = subst (λ (o : Option ℕ). IsUnsuited names o want) (sym (class_is slot i s.0 s.1)) unsuited;
           };
         },
@@ -143,7 +143,7 @@ module _ (old names : Names) (b : Body) (states : List State) (rows : List Guard
         end = (let p = from.2.end in let q = u.unsuited.end in omega (arith, p, q));
       } in
       handler_fails old names b h i s.0 f.0 checked grown frames g (omega (arith, lt, few)) k.is f.1 slot u.unsuited.want (let n = k.well_made.locals in omega (arith, room, n))
-      (sym (wanted_is h u.guard f.0 slot from.2 f.1) ∙ u.unsuited.wanted)
+      (sym (wanted_is h u.guard f.0 slot from.2.frame f.1) ∙ u.unsuited.wanted)
       (subst (λ (o : Option ℕ). IsUnsuited names o u.unsuited.want) (class_is slot i s.0 s.1) u.unsuited.unsuited) (suit h g)
 
   pub unguarded_is : (first : ℕ) → IsFirstOrBound (IsUnguardedAt names b states rows b.max_locals) (length states) first → IsFirstFailing (HandlersSuit old b) (length states) first

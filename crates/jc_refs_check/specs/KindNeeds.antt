@@ -4,7 +4,6 @@ use Rattle.std.specs.List.{list_all}
 use Rattle.jc_bytes.specs.Descriptor.{FieldType, DescribesField}
 use Rattle.jc_methods.specs.declared.body.Body.{Body}
 use Rattle.jc_methods.specs.EntryState.{held_of}
-use Rattle.jc_methods.specs.declared.kind.Kind.{Kind}
 use Rattle.jc_methods.specs.VerificationTypes.{Names, VerificationType, verification_type, object, IsNumbered, TypeState, Grows}
 use Rattle.jc_programs.specs.declared.program.Program.{Program}
 use Rattle.jc_programs.specs.declared.program.Linked.{Linked}

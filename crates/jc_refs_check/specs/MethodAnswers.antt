@@ -1,6 +1,5 @@
 -- What the check finds of a method and of a class.
-use Rattle.std.specs.Prelude.{◌≡◌, ⊤, ℕ, ◌<◌, length, true, Some, Result, Ok, Err, slice_get}
-use Rattle.jc_bytes.specs.declared.fail.Fail.{Fail}
+use Rattle.std.specs.Prelude.{◌≡◌, ℕ, ◌<◌, length, true, Some, slice_get}
 use Rattle.jc_bytes.specs.declared.fail.Fail.TheVariants as fails
 use Rattle.jc_methods.specs.declared.body.Body.{Body}
 use Rattle.jc_programs.specs.declared.program.Program.{Program}

@@ -1,11 +1,10 @@
 -- Which references an instruction needs: how many operands lie above each, and which classes will do (JVM Specification 6.5).
-use Rattle.std.specs.Prelude.{ℕ, ◌+◌, Bool, true, false, List, [], ◌∷◌, ◌++◌, length, Option, Some, None, is_some, codes, bytes_eq}
+use Rattle.std.specs.Prelude.{ℕ, ◌+◌, Bool, true, false, List, [], ◌∷◌, ◌++◌, length, Some, is_some, codes, bytes_eq}
 use Rattle.std.specs.List.{list_any}
 use Rattle.jc_bytes.specs.Descriptor.{FieldType, Byte, Char, Int, Long, Short, Boolean, Array, field_text}
 use Rattle.jc_methods.specs.EntryState.{held_of}
 use Rattle.jc_methods.specs.VerificationTypes.{VerificationType}
 use Rattle.jc_methods.specs.VerificationTypes as verification
-use Rattle.jc_programs.specs.declared.run_end.Thrown.{Thrown}
 use Rattle.jc_programs.specs.Throwables.{name_of, thrown_named}
 use Rattle.jc_machine_model.specs.Operations.{Printed, an_empty_line, Operation, reads, writes, measures, puts, invokes, builds, prints, fetches, returns, throws_top}
 use Rattle.jc_refs_check.specs.Suits.{object_class, class_suits}

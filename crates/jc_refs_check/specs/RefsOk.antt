@@ -16,7 +16,7 @@ use Rattle.jc_machine_model.specs.Methods.{is_enterable}
 use Rattle.jc_machine_model.specs.Operations.{Operation}
 use Rattle.jc_machine_model.specs.Step.{located, operation_at}
 use Rattle.jc_machine_model.specs.Fits.{made_in}
-use Rattle.jc_machine_laws.specs.Flows.{EachBy, ThereBy}
+use Rattle.jc_kinds.specs.Flows.{EachBy, ThereBy}
 use Rattle.jc_refs_check.specs.Suits.{class_suits, SuitsAsReference}
 use Rattle.jc_refs_check.specs.Needs.{Need, needs_of}
 

@@ -92,17 +92,62 @@ wanted_at names frames number slot = option_and_then (λ (f : FrameAt). wanted_o
 
 -- ---- rows
 
--- the row, with the number of its handler's frame
+-- the two frames want the same class in each local variable
+abbrev pub WantAlike : List FrameAt → (one other : ℕ) → Type 0
+WantAlike frames one other = (names : Names) (slot : ℕ) → wanted_at names frames one slot ≡ wanted_at names frames other slot
+
+-- for each of the first frames the number of one that isn't behind it and wants the same
+pub record AreAlike (frames : List FrameAt) (count : ℕ) (numbers : List ℕ) : Type 0 where
+  pub size : length numbers ≡ count
+  pub within : (k : ℕ) → k < count → slice_index numbers k ≤ k
+  pub each : (k : ℕ) → k < count → WantAlike frames (slice_index numbers k) k
+
+-- the number of a frame that wants what the frame at the instruction does, which has so many in front of it
+pub record IsFrameFor (frames : List FrameAt) (at number : ℕ) : Type 0 where
+  pub within : number ≤ length frames
+  pub count : ℕ
+  pub stands : StandsBehind frames at count
+  pub alike : WantAlike frames number count
+
+-- the row, with the number of a frame that wants what its handler's frame does
 pub record IsGuardOf (b : Body) (h : Handler) (g : Guard) : Type 0 where
   pub start : g.start ≡ h.start
   pub end : g.end ≡ h.end
-  pub frame : StandsBehind b.frames h.target g.frame
+  pub frame : IsFrameFor b.frames h.target g.frame
 
--- the rows by where they begin
-pub record AreGuards (b : Body) (guards : List Guard) : Type 0 where
+-- all rows by where they begin
+pub record AreSortedGuards (b : Body) (guards : List Guard) : Type 0 where
   pub starts : IsNonDecreasingBy (λ (g : Guard). g.start) guards
   pub among : (g : Guard) → Contains guards g → (h : Handler) × Contains b.handlers h × IsGuardOf b h g
   pub all : (h : Handler) → Contains b.handlers h → (g : Guard) × Contains guards g × IsGuardOf b h g
+
+-- one of the rows guards the instruction by the frame with a number
+pub record IsGuardedBy (guards : List Guard) (frame i : ℕ) : Type 0 where
+  pub guard : Guard
+  pub row : Contains guards guard
+  pub start : guard.start ≤ i
+  pub end : i < guard.end
+  pub same : guard.frame ≡ frame
+
+-- some of the rows, by where they begin, which guard what all of them guard
+pub record AreFurther (guards kept : List Guard) : Type 0 where
+  pub starts : IsNonDecreasingBy (λ (g : Guard). g.start) kept
+  pub among : (g : Guard) → Contains kept g → Contains guards g
+  pub guarding : (g : Guard) (i : ℕ) → Contains guards g → g.start ≤ i → i < g.end → IsGuardedBy kept g.frame i
+
+-- one of the rows guards the instruction, and has a frame that wants what the handler's does
+pub record IsGuardedFor (b : Body) (h : Handler) (guards : List Guard) (i : ℕ) : Type 0 where
+  pub guard : Guard
+  pub row : Contains guards guard
+  pub start : guard.start ≤ i
+  pub end : i < guard.end
+  pub frame : IsFrameFor b.frames h.target guard.frame
+
+-- rows by where they begin, which guard what the exception table guards
+pub record AreGuards (b : Body) (guards : List Guard) : Type 0 where
+  pub starts : IsNonDecreasingBy (λ (g : Guard). g.start) guards
+  pub among : (g : Guard) → Contains guards g → (h : Handler) × Contains b.handlers h × IsGuardOf b h g
+  pub guarding : (h : Handler) (i : ℕ) → Contains b.handlers h → h.start ≤ i → i < h.end → IsGuardedFor b h guards i
 
 -- if not, no row wants a class in the local variable
 abbrev pub AreWanted : Bool → Names → List FrameAt → ℕ → List Guard → Type 0

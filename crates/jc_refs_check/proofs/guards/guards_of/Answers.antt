@@ -1,25 +1,18 @@
-use Rattle.std.proofs.Common.{rules, ◌<◌, ◌≤◌, List, length, subst, arith}
-use Rattle.std.proofs.lemmas.List.{get_or_default}
-use Rattle.std.proofs.lemmas.List.Sorted.{IsNonDecreasingBy-from_sort_by_key}
-use Rattle.jc_methods.specs.declared.body.Handler.{Handler}
-use Rattle.jc_kinds.proofs.GuardLaws.{no_row, row_at}
+use Rattle.std.proofs.Common.{ℕ, ◌≤◌, List, length, sym, subst}
+use Rattle.std.specs.List.{All}
 use Rattle.jc_refs_check.specs.declared.guards.Guard.{Guard}
-use Rattle.jc_refs_check.specs.Unguarded.{IsGuardOf}
-use Rattle.jc_refs_check.proofs.MemberTypeLaws.{next_says, all_say}
-use Rattle.jc_refs_check.proofs.GuardLaws.{guards_made}
+use Rattle.jc_refs_check.specs.Unguarded.{AreFurther}
+use Rattle.jc_refs_check.proofs.FurtherLaws.{frames_within, further_made}
 use Rattle.jc_refs_check.proofs.guards.guards_of.Goals as goal
 
-pub taking-preserved : goal.taking-preserved
-taking-preserved c =
-    let b = c.args.body.now in let i = c.taking.row-index in let rows = c.as_slice-row-items.result.now in
-    let room : i < length b.handlers = subst (λ (l : List Handler). i < length l) c.as_slice-row-items.ensures (omega arith) in
-    next_says (IsGuardOf b) (IsGuardOf b) (λ h g is. is) b.handlers i (row_at b.handlers i) c.taking.guards.items c.push.new.self.items c.guard_of.result
-    room (get_or_default b.handlers i no_row (row_at b.handlers i) room) c.taking.invariant
-    (subst (λ (l : List Handler). IsGuardOf b (row_at l i) c.guard_of.result) c.as_slice-row-items.ensures c.guard_of.ensures) c.in_ok-push.ensures.items
+pub further_guards-requires-clause-within : goal.further_guards-requires-clause-within
+further_guards-requires-clause-within c =
+    let b = c.args.body.now in
+    subst (λ (n : ℕ). All (λ (g : Guard). g.frame ≤ n) c.deref.result.now) (sym c.len.ensures)
+    (subst (All (λ (g : Guard). g.frame ≤ length b.frames)) (sym c.deref.ensures.value) (frames_within b c.in_ok-sorted.sorted.items c.in_ok-sorted.ensures))
 
 pub returns : goal.returns
 returns c =
-    let b = c.args.body.now in let i = c.taking.row-index in let guards = c.taking.guards.items in
-    let past : length b.handlers ≤ i = subst (λ (l : List Handler). length l ≤ i) c.as_slice-row-items.ensures (omega arith) in
-    guards_made b guards c.sort_unstable_by_key.new.self.items (all_say (IsGuardOf b) b.handlers i guards past c.taking.invariant) c.sort_unstable_by_key.ensures.permutation
-    (IsNonDecreasingBy-from_sort_by_key (λ (g : Guard). g.start) c.sort_unstable_by_key.new.self.items c.sort_unstable_by_key.ensures.sorted (λ a r q k. search rules))
+    let b = c.args.body.now in let kept = c.in_ok-further_guards.field-0.items in
+    further_made b c.in_ok-sorted.sorted.items kept c.in_ok-sorted.ensures
+    (subst (λ (l : List Guard). AreFurther l kept) c.deref.ensures.value c.in_ok-further_guards.ensures)
