@@ -1,10 +1,10 @@
 -- The world in which a case begins has no reference but null. So it fits by classes too.
 use Rattle.std.proofs.Common.{◌≡◌, inl, ℕ, ◌-◌, ℤ, Bool, true, false, cond, List, [], ◌∷◌, length, replicate, reverse, map, Option, Some, None, refl, sym, ◌∙◌, ap, subst}
-use Rattle.std.specs.Prelude.{IsTrue, slice_get, option_map, option_and_then}
+use Rattle.std.specs.Prelude.{slice_get, option_map}
 use Rattle.std.specs.List.{AllByRecursion}
 use Rattle.std.proofs.lemmas.Bool.{false≢true}
 use Rattle.std.proofs.lemmas.Option.{slice_get-map, same_Some}
-use Rattle.jc_bytes.specs.Descriptor.{FieldType, Byte, Char, Double, Float, Int, Long, Short, Boolean, Object, Array}
+use Rattle.jc_bytes.specs.Descriptor.{FieldType, Long, Object, Array}
 use Rattle.jc_bytes.proofs.EachLaws.{all_both}
 use Rattle.jc_methods.specs.declared.body.Body.{Body}
 use Rattle.jc_methods.specs.DescriptorTypes.{field_type_in, method_type_in}
@@ -25,7 +25,7 @@ use Rattle.jc_machine_model.specs.Values.{Value, is_reference}
 use Rattle.jc_machine_model.specs.World.{running, stuck}
 use Rattle.jc_machine_model.specs.Calls.{spread_value, spread_values}
 use Rattle.jc_machine_model.specs.Begin.{number_value, first_of, first_value, argument_values, first_frame, thread_in, thread_for, first_thread, first_threads, begin}
-use Rattle.jc_machine_model.specs.Fits.{IsReference, any_reference, nothing_made, made_in, IsInSlotBy, AreInSlotsBy, AreOfBy, IsStackBy, AreStaticsBy, AreStatics, FitsRunning, FitsRunningBy, FitsThread, FitsThreadBy, FitsWorld}
+use Rattle.jc_machine_model.specs.Fits.{IsReference, any_reference, nothing_made, made_in, IsInSlotBy, AreInSlotsBy, AreOfBy, AreStaticsBy, AreStatics, FitsRunning, FitsRunningBy, FitsThread, FitsThreadBy, FitsWorld}
 use Rattle.jc_machine_model.proofs.BeginLaws.{each_replicate, begin_fits}
 use Rattle.jc_refs_laws.specs.Classes.{HoldsClass, by_class, FitsByClass}
 
@@ -64,7 +64,8 @@ values_slots : (types : List FieldType) (numbers : List ℤ) → AllByRecursion 
 values_slots [] numbers = tt
 values_slots (type ∷ types) [] = tt
 values_slots (type ∷ types) (n ∷ numbers) =
-    all_both IsNumberSlot (spread_value (number_value type n)) (spread_values (argument_values types numbers)) (number_slots type n) (values_slots types numbers)
+    all_both IsNumberSlot (spread_value (number_value type n)) (spread_values (argument_values types numbers))
+    (number_slots type n) (values_slots types numbers)
 
 frame_slots : (method : Entry) (b : Body) (numbers : List ℤ) → AllByRecursion IsNumberSlot (first_frame method b numbers).locals
 frame_slots method b numbers =
@@ -92,7 +93,9 @@ module _ (program : Program) (method : Entry) (numbers : List ℤ) where
         within = r.top.stands.within;
         state_is = r.top.stands.state_is;
       };
-      locals = slots_by (HoldsClass [] (made_in r.top.stands.body)) (first_frame method b numbers).locals r.top.state.locals r.top.locals (frame_slots method b numbers);
+      locals =
+          slots_by (HoldsClass [] (made_in r.top.stands.body)) (first_frame method b numbers).locals r.top.state.locals
+          r.top.locals (frame_slots method b numbers);
       pairs = r.top.pairs;
       stack = nothing_by (HoldsClass [] (made_in r.top.stands.body)) (reverse r.top.state.stack) r.top.stack;
     };
@@ -128,7 +131,8 @@ module _ (program : Program) (method : Entry) (numbers : List ℤ) where
   thread_by : FitsThread program [] (first_thread program method numbers) → FitsThreadBy by_class program [] (first_thread program method numbers)
   thread_by p = class_by (class_at program method.class) refl p
 
-threads_by : (program : Program) (threads : List ThreadLine) (entries : List Entry) → AllByRecursion (FitsThread program []) (first_threads program threads entries)
+threads_by : (program : Program) (threads : List ThreadLine) (entries : List Entry)
+    → AllByRecursion (FitsThread program []) (first_threads program threads entries)
     → AllByRecursion (FitsThreadBy by_class program []) (first_threads program threads entries)
 threads_by program [] entries p = tt
 threads_by program (thread ∷ threads) [] p = tt
@@ -158,8 +162,10 @@ field_held c k f type v is typed there r = first_held type f.first v value r
 statics_by : (classes : List Linked) → AreStatics classes (map (λ (c : Linked). map first_value c.statics) classes)
     → AreStaticsBy (HoldsClass [] nothing_made) classes (map (λ (c : Linked). map first_value c.statics) classes)
 statics_by [] p = tt
-statics_by (c ∷ classes) p =
-    (record { count = p.0.count; right = p.0.right; held = λ k f type v is named typed there r. field_held c k f type v is typed there r }, statics_by classes p.1)
+statics_by (c ∷ classes) p = (
+  record { count = p.0.count; right = p.0.right; held = λ k f type v is named typed there r. field_held c k f type v is typed there r },
+  statics_by classes p.1,
+)
 
 -- ---- the world
 

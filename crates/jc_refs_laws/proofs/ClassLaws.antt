@@ -24,34 +24,26 @@ three false false z e = inr (inr e)
 -- ---- what a superclass's line has, a class's has
 
 module _ (test : Thrown → Bool) where
+  from_above : (m d : Thrown) → Some m ≡ Some d → list_any test (line_of d) ≡ true → list_any test (line_of m) ≡ true
+  from_above m d e h = subst (λ x. list_any test (line_of x) ≡ true) (sym (same_Some m d e)) h
+
   line_above : (c d : Thrown) → superclass c ≡ Some d → list_any test (line_of d) ≡ true → list_any test (line_of c) ≡ true
   line_above thrown.Throwable d e h = absurd (none_some e)
-  line_above thrown.Exception d e h = or_last (test thrown.Exception) _ (subst (λ x. list_any test (line_of x) ≡ true) (sym (same_Some thrown.Throwable d e)) h)
-  line_above thrown.Error d e h = or_last (test thrown.Error) _ (subst (λ x. list_any test (line_of x) ≡ true) (sym (same_Some thrown.Throwable d e)) h)
-  line_above thrown.RuntimeException d e h =
-      or_last (test thrown.RuntimeException) _ (subst (λ x. list_any test (line_of x) ≡ true) (sym (same_Some thrown.Exception d e)) h)
-  line_above thrown.ArithmeticException d e h =
-      or_last (test thrown.ArithmeticException) _ (subst (λ x. list_any test (line_of x) ≡ true) (sym (same_Some thrown.RuntimeException d e)) h)
-  line_above thrown.IllegalArgumentException d e h =
-      or_last (test thrown.IllegalArgumentException) _ (subst (λ x. list_any test (line_of x) ≡ true) (sym (same_Some thrown.RuntimeException d e)) h)
-  line_above thrown.IllegalStateException d e h =
-      or_last (test thrown.IllegalStateException) _ (subst (λ x. list_any test (line_of x) ≡ true) (sym (same_Some thrown.RuntimeException d e)) h)
-  line_above thrown.NullPointerException d e h =
-      or_last (test thrown.NullPointerException) _ (subst (λ x. list_any test (line_of x) ≡ true) (sym (same_Some thrown.RuntimeException d e)) h)
-  line_above thrown.NegativeArraySizeException d e h =
-      or_last (test thrown.NegativeArraySizeException) _ (subst (λ x. list_any test (line_of x) ≡ true) (sym (same_Some thrown.RuntimeException d e)) h)
-  line_above thrown.ArrayStoreException d e h =
-      or_last (test thrown.ArrayStoreException) _ (subst (λ x. list_any test (line_of x) ≡ true) (sym (same_Some thrown.RuntimeException d e)) h)
-  line_above thrown.IndexOutOfBoundsException d e h =
-      or_last (test thrown.IndexOutOfBoundsException) _ (subst (λ x. list_any test (line_of x) ≡ true) (sym (same_Some thrown.RuntimeException d e)) h)
+  line_above thrown.Exception d e h = or_last (test thrown.Exception) _ (from_above thrown.Throwable d e h)
+  line_above thrown.Error d e h = or_last (test thrown.Error) _ (from_above thrown.Throwable d e h)
+  line_above thrown.RuntimeException d e h = or_last (test thrown.RuntimeException) _ (from_above thrown.Exception d e h)
+  line_above thrown.ArithmeticException d e h = or_last (test thrown.ArithmeticException) _ (from_above thrown.RuntimeException d e h)
+  line_above thrown.IllegalArgumentException d e h = or_last (test thrown.IllegalArgumentException) _ (from_above thrown.RuntimeException d e h)
+  line_above thrown.IllegalStateException d e h = or_last (test thrown.IllegalStateException) _ (from_above thrown.RuntimeException d e h)
+  line_above thrown.NullPointerException d e h = or_last (test thrown.NullPointerException) _ (from_above thrown.RuntimeException d e h)
+  line_above thrown.NegativeArraySizeException d e h = or_last (test thrown.NegativeArraySizeException) _ (from_above thrown.RuntimeException d e h)
+  line_above thrown.ArrayStoreException d e h = or_last (test thrown.ArrayStoreException) _ (from_above thrown.RuntimeException d e h)
+  line_above thrown.IndexOutOfBoundsException d e h = or_last (test thrown.IndexOutOfBoundsException) _ (from_above thrown.RuntimeException d e h)
   line_above thrown.ArrayIndexOutOfBoundsException d e h =
-      or_last (test thrown.ArrayIndexOutOfBoundsException) _ (subst (λ x. list_any test (line_of x) ≡ true) (sym (same_Some thrown.IndexOutOfBoundsException d e)) h)
-  line_above thrown.VirtualMachineError d e h =
-      or_last (test thrown.VirtualMachineError) _ (subst (λ x. list_any test (line_of x) ≡ true) (sym (same_Some thrown.Error d e)) h)
-  line_above thrown.StackOverflowError d e h =
-      or_last (test thrown.StackOverflowError) _ (subst (λ x. list_any test (line_of x) ≡ true) (sym (same_Some thrown.VirtualMachineError d e)) h)
-  line_above thrown.OutOfMemoryError d e h =
-      or_last (test thrown.OutOfMemoryError) _ (subst (λ x. list_any test (line_of x) ≡ true) (sym (same_Some thrown.VirtualMachineError d e)) h)
+      or_last (test thrown.ArrayIndexOutOfBoundsException) _ (from_above thrown.IndexOutOfBoundsException d e h)
+  line_above thrown.VirtualMachineError d e h = or_last (test thrown.VirtualMachineError) _ (from_above thrown.Error d e h)
+  line_above thrown.StackOverflowError d e h = or_last (test thrown.StackOverflowError) _ (from_above thrown.VirtualMachineError d e h)
+  line_above thrown.OutOfMemoryError d e h = or_last (test thrown.OutOfMemoryError) _ (from_above thrown.VirtualMachineError d e h)
 
   none_upward : (n : ℕ) (m : Thrown) → Among m (upward n None) → ⊥
   none_upward zero m a = a
@@ -76,7 +68,8 @@ any_among [] name e = absurd (false≢true e)
 any_among (d ∷ l) name e = by (bytes_eq (name_of d) name) refl e (any_among l name)
   where
     by : (z : Bool) → bytes_eq (name_of d) name ≡ z → (z || list_any (λ x. bytes_eq (name_of x) name) l) ≡ true
-        → (list_any (λ x. bytes_eq (name_of x) name) l ≡ true → (x : Thrown) × Among x l × (name_of x ≡ name)) → (x : Thrown) × Among x (d ∷ l) × (name_of x ≡ name)
+        → (list_any (λ x. bytes_eq (name_of x) name) l ≡ true → (x : Thrown) × Among x l × (name_of x ≡ name))
+        → (x : Thrown) × Among x (d ∷ l) × (name_of x ≡ name)
     by true q r again = (d, inl refl, bytes_are (name_of d) name q)
     by false q r again = let m = again r in (m.0, inr m.1, m.2)
 
@@ -101,14 +94,20 @@ below_is a b e = by (thrown_named a) refl e
 pub below_by : (a b : List ℕ) (c : Thrown) → thrown_named a ≡ Some c → is_named_in c b ≡ true → is_throwable_below a b ≡ true
 below_by a b c e h = ap (λ o. elim o [ None ↦ false | Some d ↦ is_named_in d b ]) e ∙ h
 
-below_on : (a b c : List ℕ) → Below a b → is_throwable_below b c ≡ true → is_throwable_below a c ≡ true
-below_on a b c m e = below_by a c m.low m.low_is (line_has (λ d. bytes_eq (name_of d) c) m.low m.high m.among high)
-  where
-    named : thrown_named b ≡ Some m.high
-    named = ap thrown_named (sym m.high_is) ∙ named_back m.high
+-- a class has its own name
+own_name : (c : Thrown) (name : List ℕ) → name_of c ≡ name → is_named_in c name ≡ true
+own_name c name e =
+    ap (λ b. b || list_any (λ d. bytes_eq (name_of d) name) (upward 4 (superclass c))) (ap (bytes_eq (name_of c)) (sym e) ∙ same_bytes (name_of c))
 
-    high : is_named_in m.high c ≡ true
-    high = ap (λ o. elim o [ None ↦ false | Some d ↦ is_named_in d c ]) (sym named) ∙ e
+below_on : (a b c : List ℕ) → Below a b → Below b c → is_throwable_below a c ≡ true
+below_on a b c m n =
+    below_by a c m.low m.low_is
+    (line_has (λ d. bytes_eq (name_of d) c) m.low m.high m.among
+    (subst (λ x. is_named_in x c ≡ true) (sym same)
+    (line_has (λ d. bytes_eq (name_of d) c) n.low n.high n.among (own_name n.high c n.high_is))))
+  where
+    same : m.high ≡ n.low
+    same = same_Some m.high n.low (sym (ap thrown_named (sym m.high_is) ∙ named_back m.high) ∙ n.low_is)
 
 -- ---- classes
 
@@ -130,32 +129,27 @@ throwable_suits a c e = or_last (bytes_eq a c) _ (or_last (bytes_eq c object_cla
 no_object_below : (c : List ℕ) → Below object_class c → ⊥
 no_object_below c m = none_some m.low_is
 
+-- what `java/lang/Object` suits is itself
+pub object_alone : (c : List ℕ) → class_suits object_class c ≡ true → c ≡ object_class
+object_alone c e = by (class_cases object_class c e)
+  where
+    by : (object_class ≡ c) ⊎ ((c ≡ object_class) ⊎ Below object_class c) → c ≡ object_class
+    by (inl same) = sym same
+    by (inr (inl same)) = same
+    by (inr (inr m)) = absurd (no_object_below c m)
+
 pub suits_on : (a b c : List ℕ) → class_suits a b ≡ true → class_suits b c ≡ true → class_suits a c ≡ true
 suits_on a b c p q = ⊎_elim
     (λ e. subst (λ y. class_suits y c ≡ true) (sym e) q)
     (λ r. ⊎_elim
-    (λ o. of_object (class_cases object_class c (subst (λ y. class_suits y c ≡ true) o q)))
+    (λ o. object_suits a c (object_alone c (subst (λ y. class_suits y c ≡ true) o q)))
     (λ m. from m (class_cases b c q)) r)
     (class_cases a b p)
   where
-    of_object : (object_class ≡ c) ⊎ ((c ≡ object_class) ⊎ Below object_class c) → class_suits a c ≡ true
-    of_object (inl e) = object_suits a c (sym e)
-    of_object (inr (inl e)) = object_suits a c e
-    of_object (inr (inr m)) = absurd (no_object_below c m)
-
     from : Below a b → (b ≡ c) ⊎ ((c ≡ object_class) ⊎ Below b c) → class_suits a c ≡ true
     from m (inl e) = subst (λ y. class_suits a y ≡ true) e p
     from m (inr (inl e)) = object_suits a c e
-    from m (inr (inr n)) = throwable_suits a c (below_on a b c m (below n))
-      where
-        below : Below b c → is_throwable_below b c ≡ true
-        below n = below_by b c n.low n.low_is (named n.high n.among n.high_is)
-          where
-            named : (h : Thrown) → Among h (line_of n.low) → name_of h ≡ c → is_named_in n.low c ≡ true
-            named h a e = line_has (λ d. bytes_eq (name_of d) c) n.low h a (or_first h e)
-              where
-                or_first : (h : Thrown) → name_of h ≡ c → is_named_in h c ≡ true
-                or_first h e = ap (λ b. b || list_any (λ d. bytes_eq (name_of d) c) (upward 4 (superclass h))) (ap (bytes_eq (name_of h)) (sym e) ∙ same_bytes (name_of h))
+    from m (inr (inr n)) = throwable_suits a c (below_on a b c m n)
 
 -- ---- by what classes are
 

@@ -1,5 +1,5 @@
 -- A program that passes the reference check flows along its relation.
-use Rattle.std.proofs.Common.{◌≡◌, inl, inr, ℕ, zero, suc, ◌-◌, ◌<◌, ◌≤◌, Bool, true, false, not, List, [], ◌∷◌, ◌++◌, length, get_or, Option, Some, None, refl, sym, ◌∙◌, ap, subst, arith}
+use Rattle.std.proofs.Common.{◌≡◌, inl, inr, ℕ, zero, suc, ◌-◌, ◌<◌, ◌≤◌, true, not, List, [], ◌∷◌, length, get_or, Option, Some, None, refl, sym, ◌∙◌, ap, subst, arith}
 use Rattle.std.specs.Prelude.{IsTrue, Contains, slice_get, option_and_then}
 use Rattle.std.specs.Str.{bytes_eq}
 use Rattle.std.proofs.lemmas.Bool.{and_parts, false≢true}
@@ -21,14 +21,13 @@ use Rattle.jc_kinds_after.specs.After.{want_of, step_of, returns_of, ground_of, 
 use Rattle.jc_kinds_after.specs.Step.{upper, apply}
 use Rattle.jc_kinds.specs.Fits.{Fits}
 use Rattle.jc_kinds.specs.States.{state_of, after_at}
-use Rattle.jc_kinds.specs.Checked.{LeadsTo, Guards, caught, at_handler}
+use Rattle.jc_kinds.specs.Checked.{LeadsTo, caught, at_handler}
 use Rattle.jc_machine_model.specs.Methods.{is_plain, is_enterable, is_synchronized}
 use Rattle.jc_machine_model.specs.Programs.{IsProgram, IsProgramBody}
 use Rattle.jc_machine_model.specs.Operations.{Operation, puts, invokes, returns}
-use Rattle.jc_machine_model.specs.Profile.{operation_of}
 use Rattle.jc_machine_model.specs.World.{Frame}
 use Rattle.jc_machine_model.specs.Step.{located_in_class, located_in_body, located, operation_at}
-use Rattle.jc_machine_laws.specs.Flows.{EachBy, ThereBy, FlowsBy}
+use Rattle.jc_kinds.specs.Flows.{EachBy, ThereBy, FlowsBy}
 use Rattle.jc_machine_laws.specs.Typings.{kept_types, TakesBy, IsBodyOf, IsFlowing}
 use Rattle.jc_machine_laws.proofs.PlainlyLaws.{plainly_flows}
 use Rattle.jc_machine_laws.proofs.OnwardLaws.{Here, whole_body}
@@ -58,7 +57,8 @@ caught_passes : (k : VerificationType) (stack : List VerificationType) → EachB
 caught_passes (verification.object name) (verification.object other ∷ []) f g = (record { fits = f.0; suits = λ r. g }, tt)
 caught_passes k stack f g = absurd g
 
-both_handler : (b : Body) (h : Handler) (s t : Option TypeState) → ThereBy Fits (at_handler b h s) t → HandlerSuits b h s t → ThereBy Passes (at_handler b h s) t
+both_handler : (b : Body) (h : Handler) (s t : Option TypeState) → ThereBy Fits (at_handler b h s) t → HandlerSuits b h s t
+    → ThereBy Passes (at_handler b h s) t
 both_handler b h (Some s) (Some t) f g = record { locals = both_each s.locals t.locals f.locals g.0; stack = caught_passes (caught b h) t.stack f.stack g.1 }
 both_handler b h (Some s) None f g = absurd f
 both_handler b h None t f g = absurd f
@@ -67,6 +67,19 @@ both_handler b h None t f g = absurd f
 leads_from : (b : Body) (i j : ℕ) → LeadsTo b i j → i < length b.code
 leads_from b i j (inl p) = slice_get_within b.code i p.0.insn p.0.stands
 leads_from b i j (inr p) = slice_get_within b.code i p.insn p.stands
+
+-- ---- a body
+
+-- where it passes the kind check, and references suit at each instruction, it flows along both
+pub suited_passes : (program : Program) (method : Entry) (b : Body) → FlowsBy Fits program.names b → 0 < length b.code
+    → ((i : ℕ) → i < length b.code → IsSuited program method b i) → FlowsBy Passes program.names b
+suited_passes program method b checked some suited = record {
+  entry = both_there (Some (first_state b)) (state_of program.names b 0) checked.entry ((suited 0 some).entry refl);
+  branches =
+      λ i j l. both_there (after_at program.names b i) (state_of program.names b j) (checked.branches i j l) ((suited i (leads_from b i j l)).branches j l);
+  handlers =
+      λ h i g lt. both_handler b h (state_of program.names b i) (state_of program.names b h.target) (checked.handlers h i g lt) ((suited i lt).handlers h g);
+}
 
 -- ---- operands that are kept
 
@@ -167,7 +180,8 @@ looks_here program f c b insn k h =
 abbrev standing : Entry → ℕ → Frame
 standing method i = record { method = method; place = i; locals = []; stack = [] }
 
-none_located : (program : Program) (method : Entry) (c : Linked) (b : Body) (i : ℕ) → IsBodyOf program method c b → slice_get b.code i ≡ None → located program method i ≡ None
+none_located : (program : Program) (method : Entry) (c : Linked) (b : Body) (i : ℕ) → IsBodyOf program method c b → slice_get b.code i ≡ None
+    → located program method i ≡ None
 none_located program method c b i of e =
     ap (option_and_then (λ (d : Linked). located_in_class method.class i d (slice_get d.bodies method.method))) of.class_is
     ∙ ap (located_in_class method.class i c) of.body_is
@@ -190,13 +204,10 @@ module _ (program : Program) (p : IsProgram program) (ok : RefsOk program) (meth
   checked = (plainly_flows program p).flows method c b of (enterable_plain c b e)
 
   body_passes : FlowsBy Passes program.names b
-  body_passes = record {
-    entry = both_there (Some (first_state b)) (state_of program.names b 0) checked.entry ((suited 0 whole.well_made.of_any_size.code.some).entry refl);
-    branches = λ i j l. both_there (after_at program.names b i) (state_of program.names b j) (checked.branches i j l) ((suited i (leads_from b i j l)).branches j l);
-    handlers = λ h i g lt. both_handler b h (state_of program.names b i) (state_of program.names b h.target) (checked.handlers h i g lt) ((suited i lt).handlers h g);
-  }
+  body_passes = suited_passes program method b checked whole.well_made.of_any_size.code.some suited
 
-  here_at : (i : ℕ) (s : TypeState) (insn : Insn) → state_of program.names b i ≡ Some s → slice_get b.code i ≡ Some insn → Here program (standing method i) c b insn s
+  here_at : (i : ℕ) (s : TypeState) (insn : Insn) → state_of program.names b i ≡ Some s → slice_get b.code i ≡ Some insn
+      → Here program (standing method i) c b insn s
   here_at i s insn q g = record { class_is = of.class_is; body_is = of.body_is; plain = enterable_plain c b e; insn_is = g; state_is = q; whole = whole }
 
   operand_passes : (i : ℕ) (s : TypeState) (insn : Insn) → state_of program.names b i ≡ Some s → slice_get b.code i ≡ Some insn
@@ -234,7 +245,8 @@ module _ (program : Program) (p : IsProgram program) (ok : RefsOk program) (meth
           ∙ ap (λ x. get_or (upper count s.stack) x verification.top) (let m : count - 1 - (count - 1 - j) ≡ j = omega (arith, lt) in m)
           ∙ get_or_from_slice_get (upper count s.stack) j h verification.top hj
 
-  operands_pass : (i : ℕ) (s : TypeState) → state_of program.names b i ≡ Some s → TakesBy Passes (kept_types (operation_at program (located program method i))) s.stack
+  operands_pass : (i : ℕ) (s : TypeState) → state_of program.names b i ≡ Some s
+      → TakesBy Passes (kept_types (operation_at program (located program method i))) s.stack
   operands_pass i s q = by (slice_get b.code i) refl
     where
       by : (x : Option Insn) → slice_get b.code i ≡ x → TakesBy Passes (kept_types (operation_at program (located program method i))) s.stack

@@ -1,10 +1,9 @@
 -- References stay of a class that suits the type of their place.
-use Rattle.std.proofs.Common.{◌≡◌, ◌⊎◌, inl, inr, ⊎_elim, ℕ, Bool, true, false, cond, List, [], ◌∷◌, ◌++◌, length, Option, Some, None, codes, nat_eq, refl, sym, ◌∙◌, ap, subst, ℤ, is_some}
+use Rattle.std.proofs.Common.{◌≡◌, inl, inr, ⊎_elim, ℕ, Bool, true, false, cond, List, [], ◌∷◌, ◌++◌, length, Option, Some, None, codes, nat_eq, refl, sym, ◌∙◌, ap, subst, is_some}
 use Rattle.std.proofs.lemmas.Bool.{eqb-true, false≢true}
 use Rattle.std.proofs.lemmas.Option.{same_Some}
 use Rattle.std.specs.Prelude.{slice_get, option_and_then, IsTrue}
-use Rattle.std.specs.Str.{bytes_eq}
-use Rattle.jc_bytes.specs.Descriptor.{FieldType, Byte, Char, Double, Float, Int, Long, Short, Boolean, Object, Array, field_text}
+use Rattle.jc_bytes.specs.Descriptor.{FieldType, Byte, Char, Int, Long, Short, Boolean, Object, Array, field_text}
 use Rattle.jc_bytes.proofs.OptionLaws.{none_some}
 use Rattle.jc_methods.specs.EntryState.{held_of}
 use Rattle.jc_methods.specs.declared.body.Body.{Body}
@@ -15,11 +14,11 @@ use Rattle.jc_methods.specs.VerificationTypes.{VerificationType}
 use Rattle.jc_methods.specs.VerificationTypes as verification
 use Rattle.jc_programs.specs.declared.run_end.Thrown.{Thrown}
 use Rattle.jc_programs.specs.declared.run_end.Thrown.TheVariants as thrown
-use Rattle.jc_programs.specs.Throwables.{name_of, thrown_named, is_named_in}
+use Rattle.jc_programs.specs.Throwables.{name_of, is_named_in}
 use Rattle.jc_kinds_after.specs.After.{class_in, element_letter}
 use Rattle.jc_kinds_after.specs.Wants.{is_anything}
 use Rattle.jc_kinds.specs.Checked.{caught}
-use Rattle.jc_machine_model.specs.Values.{Value, int, long, null, object, memory_error, print_stream, probes, text}
+use Rattle.jc_machine_model.specs.Values.{Value, int, long, null, object, memory_error}
 use Rattle.jc_machine_model.specs.Heap.{HeapObject, array, throwable}
 use Rattle.jc_machine_model.specs.Objects.{thrown_of, heap_object_thrown}
 use Rattle.jc_machine_model.specs.Operations.{Operation, makes_array, outside}
@@ -79,7 +78,8 @@ stays heap more v name g e = e
 class_stays : (heap more : List HeapObject) (v : Value) (name : List ℕ) → KeepsObjects heap more → IsOfClass heap v name → IsOfClass more v name
 class_stays heap more v name g c = record { class = c.class; is = stays heap more v c.class g c.is; suits = c.suits }
 
-grows : (heap more : List HeapObject) (made : ℕ → List ℕ) (v : Value) (h : VerificationType) → KeepsObjects heap more → HoldsClass heap made v h → HoldsClass more made v h
+grows : (heap more : List HeapObject) (made : ℕ → List ℕ) (v : Value) (h : VerificationType) → KeepsObjects heap more → HoldsClass heap made v h
+    → HoldsClass more made v h
 grows heap more made v verification.null g p = p
 grows heap more made v (verification.object name) g p = ⊎_elim (λ e. inl e) (λ c. inr (class_stays heap more v name g c)) p
 grows heap more made v (verification.uninit at) g p = record { is = stays heap more v (made at) g p.is; thrown = p.thrown }
@@ -101,7 +101,8 @@ on_object heap made v name (verification.object other) p s =
     ⊎_elim (λ e. inl e) (λ c. inr (record { class = c.class; is = c.is; suits = suits_on c.class name other c.suits s })) p
 on_object heap made v name k p s = absurd (false≢true s)
 
-on_null : (heap : List HeapObject) (made : ℕ → List ℕ) (v : Value) (k : VerificationType) → v ≡ null → suits verification.null k ≡ true → IsOfBy (HoldsClass heap made) v k
+on_null : (heap : List HeapObject) (made : ℕ → List ℕ) (v : Value) (k : VerificationType) → v ≡ null → suits verification.null k ≡ true
+    → IsOfBy (HoldsClass heap made) v k
 on_null heap made v verification.top p s = tt
 on_null heap made v verification.null p s = p
 on_null heap made v (verification.object other) p s = inl p
@@ -124,7 +125,8 @@ on heap made v h k a p s = absurd p
 
 -- ---- what is made
 
-anywhere : (heap : List HeapObject) (made others : ℕ → List ℕ) (type : FieldType) (v : Value) → HoldsClass heap made v (held_of type) → HoldsClass heap others v (held_of type)
+anywhere : (heap : List HeapObject) (made others : ℕ → List ℕ) (type : FieldType) (v : Value) → HoldsClass heap made v (held_of type)
+    → HoldsClass heap others v (held_of type)
 anywhere heap made others (Object name) v p = p
 anywhere heap made others (Array component) v p = p
 anywhere heap made others type v p = absurd p

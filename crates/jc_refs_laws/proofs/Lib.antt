@@ -1,5 +1,8 @@
 pub mod ClassLaws
 pub mod HoldingLaws
+pub mod FlowLaws
+pub mod AlikeLaws
+pub mod KeptFlowLaws
 pub mod OperandLaws
 pub mod TakenLaws
 pub mod PoolTakenLaws
@@ -7,3 +10,10 @@ pub mod NeedLaws
 pub mod FlowingLaws
 pub mod BeginLaws
 pub mod SoundLaws
+pub mod NeedlessLaws
+pub mod ImageNeedsLaws
+pub mod TwinOperandsLaws
+pub mod UnchangedLaws
+pub mod AddedStateLaws
+pub mod AddedLaws
+pub mod KeptLaws

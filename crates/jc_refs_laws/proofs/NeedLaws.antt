@@ -1,5 +1,5 @@
 -- What an instruction needs, an object has whose class suits one that will do.
-use Rattle.std.proofs.Common.{◌≡◌, ◌⊎◌, inl, inr, ⊎_elim, ℕ, ◌<◌, ◌≤◌, Bool, true, false, ◌||◌, List, [], ◌∷◌, ◌++◌, length, Option, Some, None, codes, refl, sym, ◌∙◌, ap, subst, arith, slice_index_or}
+use Rattle.std.proofs.Common.{◌≡◌, ◌⊎◌, inl, inr, ℕ, ◌<◌, ◌≤◌, Bool, true, false, ◌||◌, List, [], ◌∷◌, length, Some, None, codes, refl, sym, ◌∙◌, ap, subst, arith, slice_index_or}
 use Rattle.std.proofs.lemmas.Bool.{false≢true, true≢false}
 use Rattle.std.specs.List.{AllByRecursion}
 use Rattle.std.specs.Str.{bytes_eq}
@@ -9,7 +9,7 @@ use Rattle.jc_methods.specs.EntryState.{held_of}
 use Rattle.jc_methods.specs.VerificationTypes.{VerificationType}
 use Rattle.jc_methods.specs.VerificationTypes as verification
 use Rattle.jc_programs.specs.declared.run_end.Thrown.{Thrown}
-use Rattle.jc_programs.specs.Throwables.{name_of, thrown_named}
+use Rattle.jc_programs.specs.Throwables.{name_of}
 use Rattle.jc_machine_model.specs.Operations.{Operation, Printed, an_empty_line, reads, writes, measures, puts, invokes, builds, prints, fetches, returns, throws_top}
 use Rattle.jc_refs_check.specs.Suits.{object_class, class_suits}
 use Rattle.jc_refs_check.specs.Needs.{Need, is_array_of, is_throwable, need, need_held, no_class, argument_needs, stream_need, printed_needs, needs_of}
@@ -83,10 +83,11 @@ throwable_closed c d s e = by (class_cases c d s)
     by (inr (inr m)) = below_throwable c d m
 
 stream_closed : (c d : List ℕ) → class_suits c d ≡ true → bytes_eq stream_class d ≡ true → bytes_eq stream_class c ≡ true
-stream_closed c d s e =
-    subst (λ y. bytes_eq stream_class y ≡ true) (sym (by (class_cases c stream_class (subst (λ y. class_suits c y ≡ true) (sym (bytes_are stream_class d e)) s))))
-    (same_bytes stream_class)
+stream_closed c d s e = subst (λ y. bytes_eq stream_class y ≡ true) (sym (by (class_cases c stream_class suits))) (same_bytes stream_class)
   where
+    suits : class_suits c stream_class ≡ true
+    suits = subst (λ y. class_suits c y ≡ true) (sym (bytes_are stream_class d e)) s
+
     by : (c ≡ stream_class) ⊎ ((stream_class ≡ object_class) ⊎ Below c stream_class) → c ≡ stream_class
     by (inl same) = same
     by (inr (inl o)) = absurd (stream_no_object o)

@@ -1,11 +1,10 @@
 -- The kind check looks at each operand of which an instruction needs something.
-use Rattle.std.proofs.Common.{◌≡◌, ⊎_elim, ℕ, zero, suc, ◌+◌, ◌-◌, ◌<◌, ◌≤◌, Bool, true, false, not, ◌&&◌, cond, List, [], ◌∷◌, length, map, drop, reverse, get_or, Option, Some, None, codes, is_some, nat_eq, nat_lt, refl, sym, ◌∙◌, ap, subst, arith}
-use Rattle.std.proofs.lemmas.Bool.{eqb-true, and_parts, false≢true}
-use Rattle.std.proofs.lemmas.List.{get_or-drop, get_or-reverse, length-drop, length-map}
+use Rattle.std.proofs.Common.{◌≡◌, ℕ, zero, suc, ◌+◌, ◌-◌, ◌<◌, ◌≤◌, true, List, [], ◌∷◌, length, get_or, refl, sym, ◌∙◌, ap, subst, arith}
+use Rattle.std.proofs.lemmas.Bool.{and_parts, false≢true}
+use Rattle.std.proofs.lemmas.List.{get_or-drop, get_or-reverse, length-drop}
 use Rattle.jc_methods.specs.VerificationTypes.{VerificationType}
 use Rattle.jc_methods.specs.VerificationTypes as verification
 use Rattle.jc_kinds_after.specs.declared.want.Want.{Want}
-use Rattle.jc_kinds_after.specs.declared.want.Want.TheVariants as wants
 use Rattle.jc_kinds_after.specs.Wants.{accepts, accepts_all}
 use Rattle.jc_kinds_after.specs.Step.{upper}
 use Rattle.jc_machine_laws.proofs.StackLaws.{top_refused}
@@ -30,7 +29,8 @@ accepted_length [] (h ∷ types) e = absurd (false≢true e)
 accepted_length (w ∷ wanted) [] e = absurd (false≢true e)
 accepted_length (w ∷ wanted) (h ∷ types) e = ap suc (accepted_length wanted types (and_parts (accepts w h) (accepts_all wanted types) e).1)
 
-accepted_at : (wanted : List Want) (types : List VerificationType) (k : ℕ) → accepts_all wanted types ≡ true → k < length wanted → get_or types k verification.top ≡ verification.top → ⊥
+accepted_at : (wanted : List Want) (types : List VerificationType) (k : ℕ) → accepts_all wanted types ≡ true → k < length wanted
+    → get_or types k verification.top ≡ verification.top → ⊥
 accepted_at [] types k a lt e = omega (arith, lt)
 accepted_at (w ∷ wanted) [] k a lt e = false≢true a
 accepted_at (w ∷ wanted) (h ∷ types) zero a lt e = top_refused w (subst (λ x. accepts w x ≡ true) e (and_parts (accepts w h) (accepts_all wanted types) a).0)
@@ -44,7 +44,8 @@ operand_upper n k stack le lt =
     ∙ ap (λ i. get_or stack i verification.top) (let e : length stack - n + (n - 1 - k) ≡ length stack - 1 - k = omega (arith, le, lt) in e)
     ∙ sym (get_or-reverse stack k verification.top (omega (arith, le, lt)))
 
-pub operands_taken : (wanted : List Want) (stack : List VerificationType) → accepts_all wanted (upper (length wanted) stack) ≡ true → HasOperands (length wanted) stack
+pub operands_taken : (wanted : List Want) (stack : List VerificationType) → accepts_all wanted (upper (length wanted) stack) ≡ true
+    → HasOperands (length wanted) stack
 operands_taken wanted stack a = record { enough = enough; each = each }
   where
     enough : length wanted ≤ length stack

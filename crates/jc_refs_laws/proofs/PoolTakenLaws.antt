@@ -24,10 +24,10 @@ use Rattle.jc_kinds_after.specs.Step.{Step}
 use Rattle.jc_kinds_after.specs.After.{want_of, result_of, field_step, static_step, object_step, method_step, member_step, step_of, returns_of}
 use Rattle.jc_machine_model.specs.Methods.{is_enterable}
 use Rattle.jc_machine_model.specs.Values.{Value, ComputationalType, computational_type}
-use Rattle.jc_machine_model.specs.Operations.{FieldAt, Printed, an_int_line, a_long_line, a_boolean_line, an_empty_line, Operation, pushes, loads, stores, counts, tests, jumps, indexes, matches, makes_array, gets, puts, invokes, makes, builds, prints, fetches, casts, outside}
+use Rattle.jc_machine_model.specs.Operations.{FieldAt, Printed, an_int_line, a_long_line, a_boolean_line, an_empty_line, Operation, pushes, loads, stores, counts, tests, jumps, indexes, matches, makes_array, gets, puts, invokes, makes, prints, fetches, casts, outside}
 use Rattle.jc_machine_model.specs.Profile.{Location, in_init, init_of, what_at, given_in, computed_operation, constant_operation, long_operation, may_name_field, field_operation, declared_field, linked_field, is_print_stream, field_named}
 use Rattle.jc_machine_model.specs.Profile.{may_name_method, callee_named, entered_if, body_entered, class_entered, method_entered, is_fetch, init_call, static_call, printed_by, print_operation, virtual_call, made_class, build_operation, special_call, call_named, member_operation}
-use Rattle.jc_machine_model.specs.Profile.{make_operation, begins_with_array, cast_operation, class_operation, array_operation, local_type, load_operation, store_operation, local_operation, operation_of}
+use Rattle.jc_machine_model.specs.Profile.{make_operation, begins_with_array, class_operation, array_operation, local_type, load_operation, store_operation, local_operation, operation_of}
 use Rattle.jc_machine_laws.proofs.ReturnLaws.{named_is, desc_of}
 use Rattle.jc_refs_check.proofs.ThrownLaws.{bytes_are}
 use Rattle.jc_refs_laws.proofs.TakenLaws.{Looks, nothing, fails_looks, moves_looks, builds_looks, where_so, none_outside, plain_if, at_code, simple_looks}
@@ -100,7 +100,8 @@ module _ (at : Location) (program : Program) (class name desc : List ℕ) where
           (ap (λ x. length (method_type_in x).parameters) (desc_of program name desc callee d body (named_is program class name desc callee g) p q)
           ∙ sym (length-map (method_type_in desc).parameters want_of)) refl
 
-      in_bodies : (d : Linked) → class_at program callee.class ≡ Some d → (o : Option Body) → slice_get d.bodies callee.method ≡ o → Looks step (body_entered at callee d o)
+      in_bodies : (d : Linked) → class_at program callee.class ≡ Some d → (o : Option Body) → slice_get d.bodies callee.method ≡ o
+          → Looks step (body_entered at callee d o)
       in_bodies d p None q = none_outside step
       in_bodies d p (Some body) q = in_body d p body q (is_enterable d body && may_name_method at callee.class body.name)
 
@@ -114,7 +115,8 @@ module _ (at : Location) (program : Program) (class name desc : List ℕ) where
       (λ e. init_looks (is_fetch class name desc) refl (init_of at)) (λ f. entered (callee_named program class name desc) refl)
 
   -- println
-  printed : (d : List ℕ) (p : Printed) → bytes_eq desc d ≡ true → Looks (object_step (method_type_in d)) (prints p) → Looks (object_step (method_type_in desc)) (prints p)
+  printed : (d : List ℕ) (p : Printed) → bytes_eq desc d ≡ true → Looks (object_step (method_type_in d)) (prints p)
+      → Looks (object_step (method_type_in desc)) (prints p)
   printed d p e l = subst (λ x. Looks (object_step (method_type_in x)) (prints p)) (sym (bytes_are desc d e)) l
 
   prints_look : Looks (object_step (method_type_in desc)) (print_operation (printed_by desc))
@@ -128,7 +130,8 @@ module _ (at : Location) (program : Program) (class name desc : List ℕ) where
           (cond b3 (Some a_boolean_line) (cond b4 (Some an_empty_line) None)))))
       by true p b2 q b3 r b4 u = printed (codes "(I)V") an_int_line p (moves_looks (wants.Reference ∷ wants.Int ∷ []) [] (prints an_int_line) refl refl)
       by false p true q b3 r b4 u = printed (codes "(J)V") a_long_line q (moves_looks (wants.Reference ∷ wants.Long ∷ []) [] (prints a_long_line) refl refl)
-      by false p false q true r b4 u = printed (codes "(Z)V") a_boolean_line r (moves_looks (wants.Reference ∷ wants.Int ∷ []) [] (prints a_boolean_line) refl refl)
+      by false p false q true r b4 u =
+          printed (codes "(Z)V") a_boolean_line r (moves_looks (wants.Reference ∷ wants.Int ∷ []) [] (prints a_boolean_line) refl refl)
       by false p false q false r true u = printed (codes "()V") an_empty_line u (moves_looks (wants.Reference ∷ []) [] (prints an_empty_line) refl refl)
       by false p false q false r false u = none_outside (object_step (method_type_in desc))
 
@@ -153,20 +156,23 @@ module _ (at : Location) (program : Program) (class name desc : List ℕ) where
       named : (bytes_eq name (codes "<init>") ≡ true) × (bytes_eq desc (codes "()V") ≡ true)
           → Looks (method_step opcode.invokespecial name (method_type_in desc)) (build_operation (made_class class))
       named p =
-          subst (λ n. Looks (method_step opcode.invokespecial n (method_type_in desc)) (build_operation (made_class class))) (sym (bytes_are name (codes "<init>") p.0))
+          subst (λ n. Looks (method_step opcode.invokespecial n (method_type_in desc)) (build_operation (made_class class)))
+          (sym (bytes_are name (codes "<init>") p.0))
           (subst (λ d. Looks (method_step opcode.invokespecial (codes "<init>") (method_type_in d)) (build_operation (made_class class)))
           (sym (bytes_are desc (codes "()V") p.1)) (constructs (made_class class)))
 
+  abbrev call_step : ℕ → Step
+  call_step n = member_step n (Some (whats.Method class name desc))
+
   call_looks : (op : ℕ) → Looks (member_step op (Some (whats.Method class name desc))) (call_named op at program class name desc)
   call_looks op =
-      let step : ℕ → Step = λ n. member_step n (Some (whats.Method class name desc)) in
-      where_so (step op) (nat_eq op opcode.invokestatic) _ _
-      (λ e. at_code (λ n. Looks (member_step n (Some (whats.Method class name desc))) (static_call at program class name desc)) op opcode.invokestatic e static_looks)
-      (λ f. where_so (step op) (nat_eq op opcode.invokevirtual) _ _
-      (λ e. at_code (λ n. Looks (member_step n (Some (whats.Method class name desc))) (virtual_call at class name desc)) op opcode.invokevirtual e virtual_looks)
-      (λ f. where_so (step op) (nat_eq op opcode.invokespecial) _ _
-      (λ e. at_code (λ n. Looks (member_step n (Some (whats.Method class name desc))) (special_call at class name desc)) op opcode.invokespecial e special_looks)
-      (λ f. none_outside (step op))))
+      where_so (call_step op) (nat_eq op opcode.invokestatic) _ _
+      (λ e. at_code (λ n. Looks (call_step n) (static_call at program class name desc)) op opcode.invokestatic e static_looks)
+      (λ f. where_so (call_step op) (nat_eq op opcode.invokevirtual) _ _
+      (λ e. at_code (λ n. Looks (call_step n) (virtual_call at class name desc)) op opcode.invokevirtual e virtual_looks)
+      (λ f. where_so (call_step op) (nat_eq op opcode.invokespecial) _ _
+      (λ e. at_code (λ n. Looks (call_step n) (special_call at class name desc)) op opcode.invokespecial e special_looks)
+      (λ f. none_outside (call_step op))))
 
 member_looks : (op : ℕ) (at : Location) (program : Program) (o : Option What) → Looks (member_step op o) (member_operation op at program o)
 member_looks op at program (Some (whats.Field class name desc)) = field_looks op at program class name desc

@@ -1,8 +1,7 @@
 -- No run of a program that passes the reference check has a reference of a wrong class.
-use Rattle.std.proofs.Common.{◌≡◌, ◌⊎◌, inl, inr, ℕ, zero, suc, ◌<◌, arith, Bool, true, false, not, ◌&&◌, List, [], ◌∷◌, reverse, Option, Some, None, refl, sym, ◌∙◌, ap, subst, slice_index_or}
+use Rattle.std.proofs.Common.{◌≡◌, inl, inr, ℕ, zero, suc, ◌<◌, arith, Bool, true, false, not, ◌&&◌, List, [], ◌∷◌, reverse, Some, None, refl, sym, ◌∙◌, ap, subst, slice_index_or}
 use Rattle.std.specs.Prelude.{Contains, slice_get}
-use Rattle.std.specs.List.{AllByRecursion}
-use Rattle.std.proofs.lemmas.Bool.{false≢true, true≢false}
+use Rattle.std.proofs.lemmas.Bool.{false≢true}
 use Rattle.std.proofs.lemmas.Option.{same_Some}
 use Rattle.jc_bytes.proofs.ListLaws.{all_at, each_in}
 use Rattle.jc_bytes.proofs.OptionLaws.{none_some}
@@ -30,7 +29,7 @@ use Rattle.jc_refs_check.specs.Needs.{Need, needs_of}
 use Rattle.jc_refs_check.specs.RefsOk.{is_taken, operand, RefsOk}
 use Rattle.jc_refs_check.specs.Suits.{Passes}
 use Rattle.jc_refs_check.specs.Wrong.{class_of, is_null, takes_value, is_wrong, WrongReference}
-use Rattle.jc_refs_laws.specs.Classes.{IsFresh, IsOfClass, HoldsClass, by_class, FitsByClass}
+use Rattle.jc_refs_laws.specs.Classes.{HoldsClass, by_class, FitsByClass}
 use Rattle.jc_refs_laws.specs.Laws.{RefsSound}
 use Rattle.jc_refs_laws.proofs.BeginLaws.{begins_by_class}
 use Rattle.jc_refs_laws.proofs.FlowingLaws.{enterable_plain, flowing, looks_here}
@@ -77,7 +76,8 @@ module _ (heap : List HeapObject) (n : Need) where
       by false q = absurd (false≢true q)
 
   module _ (b : Body) (building : Bool) (closed : IsClosed building n) (v : Value) where
-    right_object : (name : List ℕ) → building ≡ false → n.takes name ≡ true → HoldsClass heap (made_in b) v (verification.object name) → is_wrong heap n v ≡ false
+    right_object : (name : List ℕ) → building ≡ false → n.takes name ≡ true → HoldsClass heap (made_in b) v (verification.object name)
+        → is_wrong heap n v ≡ false
     right_object name z t (inl e) = right_null v e
     right_object name z t (inr c) = right_class v c.class c.is (closed.down z c.class name c.suits t)
 
@@ -105,7 +105,8 @@ only_first o k b lt = absurd (false≢true b)
 
 -- ---- one thread
 
-module _ (program : Program) (p : IsProgram program) (ok : RefsOk program) (heap : List HeapObject) (f : Frame) (fits : FitsTopBy is_enterable (HoldsClass heap) program f) where
+module _ (program : Program) (p : IsProgram program) (ok : RefsOk program) (heap : List HeapObject) (f : Frame)
+    (fits : FitsTopBy is_enterable (HoldsClass heap) program f) where
   here : (insn : Insn) × Here program f fits.stands.linked fits.stands.body insn fits.state
   here = here_from is_enterable enterable_plain program f fits.state p fits.stands
 
@@ -115,7 +116,8 @@ module _ (program : Program) (p : IsProgram program) (ok : RefsOk program) (heap
   never_wrong : (n : Need) → Contains (needs_of (operation_at program (located program f.method f.place))) n → (v : Value)
       → slice_get f.stack n.above ≡ Some v → is_wrong heap n v ≡ false
   never_wrong n among v e =
-      right_operand heap n fits.stands.body (is_building operation) (each_in (IsClosed (is_building operation)) (needs_of operation) n (needs_closed operation) among) v
+      right_operand heap n fits.stands.body (is_building operation)
+      (each_in (IsClosed (is_building operation)) (needs_of operation) n (needs_closed operation) among) v
       (operand n.above fits.state.stack) (looks.operands.each n.above lies) first
       ((ok f.method fits.stands.body f.place (record {
         linked = fits.stands.linked;

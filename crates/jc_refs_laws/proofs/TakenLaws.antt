@@ -19,7 +19,7 @@ use Rattle.jc_kinds_after.specs.Step as kinds
 use Rattle.jc_kinds_after.specs.Table.{form, table, forms_at}
 use Rattle.jc_kinds_after.specs.After.{return_op, simple_step}
 use Rattle.jc_machine_model.specs.Values.{ComputationalType, int_type, long_type, reference_type}
-use Rattle.jc_machine_model.specs.Operations.{Printed, an_empty_line, Operation, reads, writes, measures, puts, invokes, builds, prints, fetches, returns, returns_nothing, throws_top, computes, outside}
+use Rattle.jc_machine_model.specs.Operations.{an_empty_line, Operation, reads, writes, measures, puts, invokes, builds, prints, fetches, returns, returns_nothing, throws_top, computes, outside}
 use Rattle.jc_machine_model.specs.Profile.{Location, elements_of, read_operation, write_operation, return_operation, simple_operation}
 use Rattle.jc_machine_laws.proofs.StepLaws.{with_stack_is}
 use Rattle.jc_refs_check.specs.RefsOk.{operand}
@@ -75,7 +75,8 @@ unfolding Looks
 fails_looks o g s t e = absurd (none_some e)
 
 -- one form
-pub moves_looks : (wanted : List Want) (given : List Gives) (o : Operation) → taken o ≡ length wanted → is_building o ≡ false → Looks (kinds.moves (form wanted given ∷ [])) o
+pub moves_looks : (wanted : List Want) (given : List Gives) (o : Operation) → taken o ≡ length wanted → is_building o ≡ false
+    → Looks (kinds.moves (form wanted given ∷ [])) o
 unfolding Looks
 moves_looks wanted given o n b g s t e = record {
   operands = subst (λ m. HasOperands m s.stack) (sym n) (operands_taken wanted s.stack has);
@@ -187,7 +188,8 @@ module _ (returned : Option FieldType) where
       by false p false q false r false u false v = none_outside (simple_step returned op)
 
   -- the return of a value has one operand, where it is the one for the method
-  return_looks : (want : Want) (o : Operation) (z : Bool) → taken o ≡ 1 → is_building o ≡ false → Looks (cond z (kinds.moves (form (want ∷ []) [] ∷ [])) kinds.fails) o
+  return_looks : (want : Want) (o : Operation) (z : Bool) → taken o ≡ 1 → is_building o ≡ false
+      → Looks (cond z (kinds.moves (form (want ∷ []) [] ∷ [])) kinds.fails) o
   return_looks want o true n b = moves_looks (want ∷ []) [] o n b
   return_looks want o false n b = fails_looks o
 
