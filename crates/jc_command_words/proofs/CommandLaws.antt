@@ -6,20 +6,22 @@ use Rattle.std.proofs.lemmas.Option.{same_Some}
 use Rattle.std.proofs.lemmas.Bool.{and_parts}
 use Rattle.std.specs.List.{flat_map, list_any, list_all}
 use Rattle.std.specs.Str.{bytes_eq}
+use Rattle.jc_rules.specs.declared.rule.Rule.{Rule}
 use Rattle.jc_command_words.specs.declared.name.CommandName.{CommandName}
-use Rattle.jc_command_words.specs.declared.name.CommandName.TheVariants.{Instrument, Run, Merge, Report, ExecInfo, ClassInfo, Cover}
+use Rattle.jc_command_words.specs.declared.name.CommandName.TheVariants.{Instrument, Run, Merge, Report, ExecInfo, ClassInfo, Cover, Refs, Lines, Check}
 use Rattle.jc_command_words.specs.Words.{Word, Use, is_plain, use_words, tail_words, rest_words, value_of}
 use Rattle.jc_command_words.specs.Forms.{IsCall, Call, text_of, named, options_of, call_words}
 use Rattle.jc_paths.specs.Paths.{FileText, file_text, path_of}
 use Rattle.jc_command_words.specs.Paths.{are_relative, named_paths, are_distinct}
 use Rattle.jc_command_words.specs.Numbers.{IsNumber, number_up_to}
 use Rattle.jc_command_words.specs.Scan.{Scan, scan}
-use Rattle.jc_command_words.specs.Commands.{Called, instrument, run, merge, report, exec_info, class_info, cover, cover_sample, default_name, IsWorkers, IsStated, IsCallOf, files_of, Means, by_call, by_sample, sample_use, NoForm}
-use Rattle.jc_command_words.specs.Decide.{is_call, is_some_file, is_stated, values_of, workers_in, instrument_with, run_with, merge_with, report_with, cover_with, command_with, sample_of, sample_in, decide_sample, decide_scan, decide_named, command_of}
+use Rattle.jc_command_words.specs.Commands.{Called, instrument, run, merge, report, exec_info, class_info, cover, cover_sample, refs, lines, check, default_name, IsWorkers, HasRules, IsStated, IsCallOf, files_of, Means, by_call, by_sample, sample_use, NoForm}
+use Rattle.jc_command_words.specs.Decide.{is_call, is_some_file, is_stated, values_of, workers_in, instrument_with, run_with, merge_with, report_with, cover_with, rules_given, check_with, command_with, sample_of, sample_in, decide_sample, decide_scan, decide_named, command_of}
 use Rattle.jc_command_words.proofs.BoolLaws.{both_true}
 use Rattle.jc_command_words.proofs.PathLaws.{distinct_holds, distinct_passes}
 use Rattle.jc_command_words.proofs.ScanLaws.{SpellsIf, is_name, scan_finds, scan_ends, scan_spells}
 use Rattle.jc_command_words.proofs.NumberLaws.{number_is, number_found}
+use Rattle.jc_command_words.proofs.RulesLaws.{rules_are, rules_found}
 
 -- ---- the tests of a form decide it
 
@@ -103,6 +105,17 @@ module _ (c : Call) where
       subst (IsCallOf c) (same_Some (cover dest plan destfile csv workers (unwrap_or (value_of c.uses (codes "name")) default_name) (map file_text c.files)) command e)
       (n, t, p, d, v, workers_are (value_of c.uses (codes "workers")) workers w, refl, refl)
 
+  rules_are_given : (text : Option Word) (rules : List Rule) → value_of c.uses (codes "min") ≡ text → rules_given text ≡ Some rules → HasRules c rules
+  rules_are_given None rules g e = absurd cc
+  rules_are_given (Some text) rules g e = (text, g, rules_are text rules e)
+
+  by_check : (rules : Option (List Rule)) (command : Called) → rules_given (value_of c.uses (codes "min")) ≡ rules → c.name ≡ Check
+      → check_with rules (value_of c.uses (codes "exec")) c.files ≡ Some command → IsCallOf c command
+  by_check None command r n e = absurd cc
+  by_check (Some rules) command r n e =
+      subst (IsCallOf c) (same_Some (check rules (value_of c.uses (codes "exec")) (map file_text c.files)) command e)
+      (n, rules_are_given (value_of c.uses (codes "min")) rules refl r, refl, refl)
+
   pub call_of : (name : CommandName) (command : Called) → c.name ≡ name → command_with name (values_of c.uses c.files) ≡ Some command → IsCallOf c command
   call_of Instrument command n e = by_instrument (value_of c.uses (codes "dest")) command refl n e
   call_of Run command n e =
@@ -114,6 +127,10 @@ module _ (c : Call) where
   call_of Cover command n e =
       by_cover (value_of c.uses (codes "dest")) (value_of c.uses (codes "plan")) (value_of c.uses (codes "destfile")) (value_of c.uses (codes "csv"))
       (workers_in (value_of c.uses (codes "workers"))) command refl refl refl refl refl n e
+  call_of Refs command n e = subst (IsCallOf c) (same_Some (refs (map file_text c.files)) command e) (n, refl)
+  call_of Lines command n e =
+      subst (IsCallOf c) (same_Some (lines (value_of c.uses (codes "exec")) (map file_text c.files)) command e) (n, refl, refl)
+  call_of Check command n e = by_check (rules_given (value_of c.uses (codes "min"))) command refl n e
 
   command_made : (command : Called) → IsCallOf c command → command_with c.name (values_of c.uses c.files) ≡ Some command
   command_made (instrument dest files) h = rw (h.0, h.1, h.2) refl
@@ -125,30 +142,29 @@ module _ (c : Call) where
   command_made (cover dest plan destfile csv workers name files) h =
       rw (h.0, h.1, h.2, h.3, h.4, workers_found (value_of c.uses (codes "workers")) workers h.5, h.6, h.7) refl
   command_made (cover_sample methods) h = absurd h
+  command_made (refs files) h = rw (h.0, h.1) refl
+  command_made (lines exec files) h = rw (h.0, h.1, h.2) refl
+  command_made (check rules exec files) h =
+      let text = h.1 in
+      rw (h.0, text.1, rules_found text.0 rules text.2, h.2, h.3) refl
 
 -- ---- names
 
 pub name_is : (word : Word) (name : CommandName) → named word ≡ Some name → word ≡ text_of name
-name_is word name e = first (bytes_eq word (codes "instrument")) (bytes_eq word (codes "run")) (bytes_eq word (codes "merge"))
-    (bytes_eq word (codes "report")) (bytes_eq word (codes "execinfo")) (bytes_eq word (codes "classinfo")) (bytes_eq word (codes "cover")) refl refl
-    refl refl refl refl refl e
+name_is word name e =
+    one Instrument (one Run (one Merge (one Report (one ExecInfo (one ClassInfo (one Cover (one Refs (one Lines (one Check none))))))))) e
   where
-    is : (text : Word) (this : CommandName) → bytes_eq word text ≡ true → text_of this ≡ text → Some this ≡ Some name → word ≡ text_of name
-    is text this h t e = (bytes_eq-Decides word text).0 h ∙ sym t ∙ ap text_of (same_Some this name e)
+    none : None ≡ Some name → word ≡ text_of name
+    none e = absurd cc
 
-    first : (a b d f g h i : Bool) → bytes_eq word (codes "instrument") ≡ a → bytes_eq word (codes "run") ≡ b → bytes_eq word (codes "merge") ≡ d → bytes_eq word (codes "report") ≡ f
-        → bytes_eq word (codes "execinfo") ≡ g → bytes_eq word (codes "classinfo") ≡ h → bytes_eq word (codes "cover") ≡ i
-        → (if a then Some Instrument else if b then Some Run else if d then Some Merge else if f then Some Report else if g then Some ExecInfo
-        else if h then Some ClassInfo else if i then Some Cover else None) ≡ Some name
-        → word ≡ text_of name
-    first true b d f g h i p q r s t u v e = is (codes "instrument") Instrument p refl e
-    first false true d f g h i p q r s t u v e = is (codes "run") Run q refl e
-    first false false true f g h i p q r s t u v e = is (codes "merge") Merge r refl e
-    first false false false true g h i p q r s t u v e = is (codes "report") Report s refl e
-    first false false false false true h i p q r s t u v e = is (codes "execinfo") ExecInfo t refl e
-    first false false false false false true i p q r s t u v e = is (codes "classinfo") ClassInfo u refl e
-    first false false false false false false true p q r s t u v e = is (codes "cover") Cover v refl e
-    first false false false false false false false p q r s t u v e = absurd cc
+    by : (b : Bool) (this : CommandName) (other : Option CommandName) → bytes_eq word (text_of this) ≡ b → (other ≡ Some name → word ≡ text_of name)
+        → cond b (Some this) other ≡ Some name → word ≡ text_of name
+    by true this other h more e = (bytes_eq-Decides word (text_of this)).0 h ∙ ap text_of (same_Some this name e)
+    by false this other h more e = more e
+
+    one : {other : Option CommandName} (this : CommandName) → (other ≡ Some name → word ≡ text_of name)
+        → cond (bytes_eq word (text_of this)) (Some this) other ≡ Some name → word ≡ text_of name
+    one {other} this more e = by (bytes_eq word (text_of this)) this other refl more e
 
 pub name_found : (name : CommandName) → named (text_of name) ≡ Some name
 name_found Instrument = refl
@@ -158,6 +174,9 @@ name_found Report = refl
 name_found ExecInfo = refl
 name_found ClassInfo = refl
 name_found Cover = refl
+name_found Refs = refl
+name_found Lines = refl
+name_found Check = refl
 
 -- each option of a command is a name
 options_are_names : (name : CommandName) → list_all is_name (options_of name) ≡ true
@@ -168,6 +187,9 @@ options_are_names Report = refl
 options_are_names ExecInfo = refl
 options_are_names ClassInfo = refl
 options_are_names Cover = refl
+options_are_names Refs = refl
+options_are_names Lines = refl
+options_are_names Check = refl
 
 known_name : (options : List Word) → list_all is_name options ≡ true → (name : Word) → list_any (bytes_eq name) options ≡ true → is_name name ≡ true
 known_name [] all name h = absurd (true≢false (sym h))
@@ -206,6 +228,9 @@ no_sample c some = by c.name c.uses c.dash c.files some
     by Report uses dash files some = refl
     by ExecInfo uses dash files some = refl
     by ClassInfo uses dash files some = refl
+    by Refs uses dash files some = refl
+    by Lines uses dash files some = refl
+    by Check uses dash files some = refl
     by Cover uses dash [] some = absurd (some refl)
     by Cover [] dash (f ∷ fs) some = refl
     by Cover (u ∷ []) true (f ∷ fs) some = refl
@@ -239,6 +264,9 @@ sample_is Merge s n e = absurd cc
 sample_is Report s n e = absurd cc
 sample_is ExecInfo s n e = absurd cc
 sample_is ClassInfo s n e = absurd cc
+sample_is Refs s n e = absurd cc
+sample_is Lines s n e = absurd cc
+sample_is Check s n e = absurd cc
 sample_is Cover s n e = by s.uses s.dash s.files refl refl refl e
   where
     one : (u : Use) (b : Bool) → bytes_eq u.name (codes "sample") ≡ b → cond b (number_up_to 1000 u.value) None ≡ Some n → (u.name ≡ codes "sample") × (number_up_to 1000 u.value ≡ Some n)
@@ -328,6 +356,9 @@ files_of_call c (exec_info inputs) h = let same = ap length h.1 in omega (arith,
 files_of_call c (class_info files) h = files_are c files h.1
 files_of_call c (cover dest plan destfile csv workers name files) h = files_are c files h.7
 files_of_call c (cover_sample methods) h = absurd h
+files_of_call c (refs files) h = files_are c files h.1
+files_of_call c (lines exec files) h = files_are c files h.2
+files_of_call c (check rules exec files) h = files_are c files h.3
 
 pub few_files : (words : List Word) (command : Called) → Means words command → length (files_of command) ≤ length words
 few_files words command (by_call c spelled stated is) = let same = ap length spelled in omega (arith, same, files_within c, files_of_call c command is)

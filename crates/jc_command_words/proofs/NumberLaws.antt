@@ -8,7 +8,7 @@ use Rattle.jc_command_words.specs.Words.{Word}
 use Rattle.jc_command_words.specs.Numbers.{one_more_digit, IsNumber, digits_up_to, number_up_to}
 use Rattle.jc_command_words.proofs.BoolLaws.{both_true}
 
-le_test : (a b : ℕ) → nat_le a b ≡ true → a ≤ b
+pub le_test : (a b : ℕ) → nat_le a b ≡ true → a ≤ b
 le_test a b h = grind (arith, nat_tests)
 
 le_tested : (a b : ℕ) → a ≤ b → nat_le a b ≡ true

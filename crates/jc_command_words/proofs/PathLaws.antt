@@ -80,7 +80,7 @@ shuffled true true false d = refl
 shuffled true false false d = refl
 shuffled false b c d = refl
 
-distinct_more : (xs : List Word) (x : Word) → are_distinct (xs ++ x ∷ []) ≡ (are_distinct xs && not (list_any (bytes_eq x) xs))
+pub distinct_more : (xs : List Word) (x : Word) → are_distinct (xs ++ x ∷ []) ≡ (are_distinct xs && not (list_any (bytes_eq x) xs))
 distinct_more [] x = refl
 distinct_more (y ∷ xs) x =
     ap₂ (λ (s t : Bool). not s && t) (any_more (bytes_eq y) xs x) (distinct_more xs x)

@@ -17,7 +17,7 @@ use Rattle.clap.specs.Words.{app_of}
 use Rattle.clap.specs.declared.builder.command.Command.{Command}
 use Rattle.clap.specs.declared.parser.matches.ArgMatches.{ArgMatches}
 use Rattle.jc_command_words.specs.declared.name.CommandName.{CommandName}
-use Rattle.jc_command_words.specs.declared.name.CommandName.TheVariants.{Instrument, Run, Merge, Report, ExecInfo, ClassInfo, Cover}
+use Rattle.jc_command_words.specs.declared.name.CommandName.TheVariants.{Instrument, Run, Merge, Report, ExecInfo, ClassInfo, Cover, Refs, Lines, Check}
 use Rattle.jc_command_words.specs.Words.{Word, Use, is_plain, use_words, rest_words, value_of}
 use Rattle.jc_command_words.specs.Forms.{IsCall, Call, named, text_of, options_of}
 use Rattle.jc_command_words.specs.Scan.{Scan, scan}
@@ -53,6 +53,9 @@ known_more Merge option h = h
 known_more Report option h = h
 known_more ExecInfo option h = h
 known_more ClassInfo option h = h
+known_more Refs option h = h
+known_more Lines option h = h
+known_more Check option h = h
 known_more Cover option h = any_more (bytes_eq option) (options_of Cover) (codes "sample" ∷ []) h
 
 all_known_more : (name : CommandName) (uses : List Use) → list_all (λ u. list_any (bytes_eq u.name) (options_of name)) uses ≡ true
@@ -87,6 +90,9 @@ alone Merge s h = absurd cc
 alone Report s h = absurd cc
 alone ExecInfo s h = absurd cc
 alone ClassInfo s h = absurd cc
+alone Refs s h = absurd cc
+alone Lines s h = absurd cc
+alone Check s h = absurd cc
 alone Cover s h = by s.uses s.dash s.files h
   where
     by : (uses : List Use) (dash : Bool) (files : List Word) → is_sample_of uses dash files ≡ true → IsAlone Cover (record { uses = uses; dash = dash; files = files })
@@ -112,6 +118,9 @@ not_alone Merge s h = refl
 not_alone Report s h = refl
 not_alone ExecInfo s h = refl
 not_alone ClassInfo s h = refl
+not_alone Refs s h = refl
+not_alone Lines s h = refl
+not_alone Check s h = refl
 not_alone Cover s h = by s.uses s.dash s.files h
   where
     one : (u : Use) (a b : Bool) → bytes_eq u.name (codes "sample") ≡ a → is_plain u.value ≡ b → (a && b) ≡ false → cond a (number_up_to 1000 u.value) None ≡ None

@@ -17,7 +17,7 @@ use Rattle.clap.specs.declared.builder.value_parser.Reading.{Reading}
 use Rattle.clap.specs.declared.parser.matches.ArgMatches.{ArgMatches}
 use Rattle.clap.proofs.OnLiterals.{clap_on_literals}
 use Rattle.jc_command_words.specs.declared.name.CommandName.{CommandName}
-use Rattle.jc_command_words.specs.declared.name.CommandName.TheVariants.{Instrument, Run, Merge, Report, ExecInfo, ClassInfo, Cover}
+use Rattle.jc_command_words.specs.declared.name.CommandName.TheVariants.{Instrument, Run, Merge, Report, ExecInfo, ClassInfo, Cover, Refs, Lines, Check}
 use Rattle.jc_command_words.specs.Words.{Use, Word, tail_words, use_words, is_plain, rest_words}
 use Rattle.jc_command_words.specs.Forms.{text_of}
 use Rattle.jc_command_words.specs.Reader.{jcov_app}
@@ -43,6 +43,9 @@ place_of Report = suc (suc (suc zero))
 place_of ExecInfo = suc (suc (suc (suc zero)))
 place_of ClassInfo = suc (suc (suc (suc (suc zero))))
 place_of Cover = suc (suc (suc (suc (suc (suc zero)))))
+place_of Refs = suc (suc (suc (suc (suc (suc (suc zero))))))
+place_of Lines = suc (suc (suc (suc (suc (suc (suc (suc zero)))))))
+place_of Check = suc (suc (suc (suc (suc (suc (suc (suc (suc zero))))))))
 
 abbrev pub shape_of : CommandName → Shape
 shape_of name = shape_at (place_of name) B.subs
@@ -82,6 +85,9 @@ reader_of Report = reads (shape_of Report) refl refl refl refl refl (λ rows. re
 reader_of ExecInfo = reads (shape_of ExecInfo) refl refl refl refl refl (λ rows. refl)
 reader_of ClassInfo = reads (shape_of ClassInfo) refl refl refl refl refl (λ rows. refl)
 reader_of Cover = reads (shape_of Cover) refl refl refl refl refl (λ rows. refl)
+reader_of Refs = reads (shape_of Refs) refl refl refl refl refl (λ rows. refl)
+reader_of Lines = reads (shape_of Lines) refl refl refl refl refl (λ rows. refl)
+reader_of Check = reads (shape_of Check) refl refl refl refl refl (λ rows. refl)
 
 -- an option whose name is written out
 told : (c : List Rule) (name : Text) → arg_by_long c name ≡ Some (opt name) → arg_by_id c name ≡ Some (opt name)
@@ -123,6 +129,12 @@ options_known Cover =
     let name = told (shape_of Cover).rules (codes "name") refl refl refl (λ v. refl) refl (λ v. refl) refl in
     let sample = told (shape_of Cover).rules (codes "sample") refl refl refl (λ v. refl) refl (λ v. refl) refl in
     (dest, (plan, (destfile, (csv, (workers, (name, (sample, tt)))))))
+options_known Refs = tt
+options_known Lines = (told (shape_of Lines).rules (codes "exec") refl refl refl (λ v. refl) refl (λ v. refl) refl, tt)
+options_known Check =
+    let min = told (shape_of Check).rules (codes "min") refl refl refl (λ v. refl) refl (λ v. refl) refl in
+    let exec = told (shape_of Check).rules (codes "exec") refl refl refl (λ v. refl) refl (λ v. refl) refl in
+    (min, (exec, tt))
 
 -- ---- from the form of words to what the walk asks
 
@@ -255,6 +267,9 @@ module _ (uses : List Use) (dash : Bool) (files : List Text) (many : nat_le (len
   each_read ExecInfo taken = is_read ExecInfo refl refl refl refl taken
   each_read ClassInfo taken = is_read ClassInfo refl refl refl refl taken
   each_read Cover taken = is_read Cover refl refl refl refl taken
+  each_read Refs taken = is_read Refs refl refl refl refl taken
+  each_read Lines taken = is_read Lines refl refl refl refl taken
+  each_read Check taken = is_read Check refl refl refl refl taken
 
 -- ---- what a caller is told
 

@@ -2,12 +2,14 @@
 use Rattle.std.specs.Prelude.{◌≡◌, ℕ, Bool, List, [], ◌∷◌, map, codes, Option, Some, None, unwrap_or, IsTrue}
 use Rattle.std.specs.List.{IsDistinct}
 use Rattle.std.specs.Str.{bytes_eq}
-use Rattle.jc_command_words.specs.declared.name.CommandName.TheVariants.{Instrument, Run, Merge, Report, ExecInfo, ClassInfo, Cover}
+use Rattle.jc_command_words.specs.declared.name.CommandName.TheVariants.{Instrument, Run, Merge, Report, ExecInfo, ClassInfo, Cover, Refs, Lines, Check}
 use Rattle.jc_command_words.specs.Words.{Word, Use, use_words, value_of}
 use Rattle.jc_command_words.specs.Forms.{IsCall, Call, options_of, call_words}
 use Rattle.jc_paths.specs.Paths.{FileText, file_text, path_of}
 use Rattle.jc_command_words.specs.Paths.{are_relative, named_paths}
 use Rattle.jc_command_words.specs.Numbers.{IsNumber}
+use Rattle.jc_command_words.specs.RulesText.{AreRules}
+use Rattle.jc_rules.specs.declared.rule.Rule.{Rule}
 
 pub data Called : Type 0 where
   -- writes each class file into the folder, with probes where it is instrumented
@@ -26,6 +28,12 @@ pub data Called : Type 0 where
   cover : (dest plan destfile csv : Word) (workers : ℕ) (name : Word) (files : List FileText) → Called
   -- runs a generated class of so many methods
   cover_sample : (methods : ℕ) → Called
+  -- says whether each reference suits what takes it
+  refs : (files : List FileText) → Called
+  -- prints the lines of each class with their statuses, by the hits in the execution data, if a file of it is named
+  lines : (exec : Option Word) (files : List FileText) → Called
+  -- judges the rules over the totals of the classes, by the hits in the execution data, if a file of it is named
+  check : (rules : List Rule) (exec : Option Word) (files : List FileText) → Called
 
 -- the paths of the command's files and folders
 abbrev pub files_of : Called → List Word
@@ -37,6 +45,9 @@ files_of (exec_info inputs) = inputs
 files_of (class_info files) = map path_of files
 files_of (cover dest plan destfile csv workers name files) = map path_of files
 files_of (cover_sample methods) = []
+files_of (refs files) = map path_of files
+files_of (lines exec files) = map path_of files
+files_of (check rules exec files) = map path_of files
 
 -- the name of a report that is given none
 abbrev pub default_name : Word
@@ -68,6 +79,10 @@ HasFiles c files = files ≡ map file_text c.files
 abbrev pub HasName : Call → Word → Type 0
 HasName c name = name ≡ unwrap_or (value_of c.uses (codes "name")) default_name
 
+-- the rules that the text of `--min` is that of
+abbrev pub HasRules : Call → List Rule → Type 0
+HasRules c rules = (text : Word) × Has c (codes "min") text × AreRules text rules
+
 -- the words of each command, where those options that it needs are used
 abbrev pub IsCallOf : Call → Called → Type 0
 IsCallOf c (instrument dest files) = (c.name ≡ Instrument) × Has c (codes "dest") dest × HasFiles c files
@@ -88,6 +103,10 @@ IsCallOf c (cover dest plan destfile csv workers name files) =
     × HasName c name
     × HasFiles c files
 IsCallOf c (cover_sample methods) = ⊥
+IsCallOf c (refs files) = (c.name ≡ Refs) × HasFiles c files
+IsCallOf c (lines exec files) = (c.name ≡ Lines) × (exec ≡ value_of c.uses (codes "exec")) × HasFiles c files
+IsCallOf c (check rules exec files) =
+    (c.name ≡ Check) × HasRules c rules × (exec ≡ value_of c.uses (codes "exec")) × HasFiles c files
 
 -- the use of `--sample`
 abbrev pub sample_use : Bool → Word → Use

@@ -3,14 +3,16 @@ use Rattle.std.specs.Prelude.{ℕ, Bool, true, false, ◌&&◌, List, [], ◌∷
 use Rattle.std.specs.List.{list_all, list_any}
 use Rattle.std.specs.Str.{bytes_eq}
 use Rattle.jc_command_words.specs.declared.name.CommandName.{CommandName}
-use Rattle.jc_command_words.specs.declared.name.CommandName.TheVariants.{Instrument, Run, Merge, Report, ExecInfo, ClassInfo, Cover}
+use Rattle.jc_command_words.specs.declared.name.CommandName.TheVariants.{Instrument, Run, Merge, Report, ExecInfo, ClassInfo, Cover, Refs, Lines, Check}
 use Rattle.jc_command_words.specs.Words.{Word, Use, is_plain, value_of}
 use Rattle.jc_command_words.specs.Forms.{options_of, named}
 use Rattle.jc_paths.specs.Paths.{file_text}
 use Rattle.jc_command_words.specs.Paths.{are_relative, named_paths, are_distinct}
 use Rattle.jc_command_words.specs.Numbers.{number_up_to}
+use Rattle.jc_command_words.specs.RulesRead.{rules_of}
+use Rattle.jc_rules.specs.declared.rule.Rule.{Rule}
 use Rattle.jc_command_words.specs.Scan.{Scan, scan}
-use Rattle.jc_command_words.specs.Commands.{Called, instrument, run, merge, report, exec_info, class_info, cover, cover_sample, default_name}
+use Rattle.jc_command_words.specs.Commands.{Called, instrument, run, merge, report, exec_info, class_info, cover, cover_sample, refs, lines, check, default_name}
 
 abbrev pub is_some_file : List Word → Bool
 is_some_file [] = false
@@ -35,6 +37,7 @@ pub record Values : Type 0 where
   pub workers : Option Word
   pub name : Option Word
   pub exec : Option Word
+  pub min : Option Word
   pub files : List Word
 
 abbrev pub values_of : List Use → List Word → Values
@@ -46,6 +49,7 @@ values_of uses files = record {
   workers = value_of uses (codes "workers");
   name = value_of uses (codes "name");
   exec = value_of uses (codes "exec");
+  min = value_of uses (codes "min");
   files = files;
 }
 
@@ -77,6 +81,14 @@ cover_with (Some dest) (Some plan) (Some destfile) (Some csv) (Some workers) nam
     Some (cover dest plan destfile csv workers name (map file_text files))
 cover_with _ _ _ _ _ name files = None
 
+abbrev pub rules_given : Option Word → Option (List Rule)
+rules_given None = None
+rules_given (Some text) = rules_of text
+
+abbrev pub check_with : Option (List Rule) → Option Word → List Word → Option Called
+check_with (Some rules) exec files = Some (check rules exec (map file_text files))
+check_with None exec files = None
+
 abbrev pub command_with : CommandName → Values → Option Called
 command_with Instrument v = instrument_with v.dest v.files
 command_with Run v = run_with v.plan v.destfile (workers_in v.workers) v.files
@@ -86,6 +98,9 @@ command_with ExecInfo v = Some (exec_info v.files)
 command_with ClassInfo v = Some (class_info (map file_text v.files))
 command_with Cover v =
     cover_with v.dest v.plan v.destfile v.csv (workers_in v.workers) (name_in v.name) v.files
+command_with Refs v = Some (refs (map file_text v.files))
+command_with Lines v = Some (lines v.exec (map file_text v.files))
+command_with Check v = check_with (rules_given v.min) v.exec v.files
 
 -- the number that `--sample` is given, where it stands alone
 abbrev pub sample_of : List Use → Bool → List Word → Option ℕ
@@ -100,6 +115,9 @@ sample_in Merge s = None
 sample_in Report s = None
 sample_in ExecInfo s = None
 sample_in ClassInfo s = None
+sample_in Refs s = None
+sample_in Lines s = None
+sample_in Check s = None
 
 -- `--sample` stands alone, with a value that is neither empty nor begins with `-`
 abbrev pub is_sample_of : List Use → Bool → List Word → Bool
@@ -114,6 +132,9 @@ is_sample Merge s = false
 is_sample Report s = false
 is_sample ExecInfo s = false
 is_sample ClassInfo s = false
+is_sample Refs s = false
+is_sample Lines s = false
+is_sample Check s = false
 
 abbrev pub methods_in : Option Word → Option ℕ
 methods_in None = None

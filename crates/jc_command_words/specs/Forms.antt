@@ -3,7 +3,7 @@ use Rattle.std.specs.Prelude.{◌≢◌, Bool, List, [], ◌∷◌, map, codes, 
 use Rattle.std.specs.List.{list_all, list_any, IsDistinct}
 use Rattle.std.specs.Str.{bytes_eq}
 use Rattle.jc_command_words.specs.declared.name.CommandName.{CommandName}
-use Rattle.jc_command_words.specs.declared.name.CommandName.TheVariants.{Instrument, Run, Merge, Report, ExecInfo, ClassInfo, Cover}
+use Rattle.jc_command_words.specs.declared.name.CommandName.TheVariants.{Instrument, Run, Merge, Report, ExecInfo, ClassInfo, Cover, Refs, Lines, Check}
 use Rattle.jc_command_words.specs.Words.{Word, Use, is_plain, rest_words}
 
 abbrev pub text_of : CommandName → Word
@@ -14,6 +14,9 @@ text_of Report = codes "report"
 text_of ExecInfo = codes "execinfo"
 text_of ClassInfo = codes "classinfo"
 text_of Cover = codes "cover"
+text_of Refs = codes "refs"
+text_of Lines = codes "lines"
+text_of Check = codes "check"
 
 -- the command of this name
 abbrev pub named : Word → Option CommandName
@@ -25,6 +28,9 @@ named word =
     else if bytes_eq word (codes "execinfo") then Some ExecInfo
     else if bytes_eq word (codes "classinfo") then Some ClassInfo
     else if bytes_eq word (codes "cover") then Some Cover
+    else if bytes_eq word (codes "refs") then Some Refs
+    else if bytes_eq word (codes "lines") then Some Lines
+    else if bytes_eq word (codes "check") then Some Check
     else None
 
 -- the options of a command, without their `--`
@@ -36,6 +42,9 @@ options_of Report = codes "csv" ∷ codes "name" ∷ codes "exec" ∷ []
 options_of ExecInfo = []
 options_of ClassInfo = []
 options_of Cover = codes "dest" ∷ codes "plan" ∷ codes "destfile" ∷ codes "csv" ∷ codes "workers" ∷ codes "name" ∷ []
+options_of Refs = []
+options_of Lines = codes "exec" ∷ []
+options_of Check = codes "min" ∷ codes "exec" ∷ []
 
 -- Each use is of one of the options, no option is used twice, no value and no file is empty or begins with `-`, and there
 -- is a file.

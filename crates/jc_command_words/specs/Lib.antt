@@ -2,6 +2,8 @@ pub mod Words
 pub mod Forms
 pub mod Paths
 pub mod Numbers
+pub mod RulesText
+pub mod RulesRead
 pub mod Scan
 pub mod Spelled
 pub mod Looks
@@ -9,6 +11,7 @@ pub mod Commands
 pub mod Decide
 pub mod Seen
 pub mod Outcome
+pub mod RulesOutcome
 pub mod Taken
 pub mod Reader
 pub mod Reads

@@ -5,7 +5,7 @@ use Rattle.std.specs.List.{filter, list_all, list_any}
 use Rattle.std.specs.Str.{bytes_eq}
 use Rattle.jc_paths.specs.Paths.{ends_with_slash, file_text, path_of, in_folder}
 use Rattle.jc_command_words.specs.declared.name.CommandName.{CommandName}
-use Rattle.jc_command_words.specs.declared.name.CommandName.TheVariants.{Instrument, Run, Merge, Report, ExecInfo, ClassInfo, Cover}
+use Rattle.jc_command_words.specs.declared.name.CommandName.TheVariants.{Instrument, Run, Merge, Report, ExecInfo, ClassInfo, Cover, Refs, Lines, Check}
 use Rattle.jc_command_words.specs.Words.{Word, Use, value_of}
 
 -- the parts of a path, with a `/` between each and the next
@@ -38,6 +38,9 @@ wants_relative Report = false
 wants_relative ExecInfo = false
 wants_relative ClassInfo = true
 wants_relative Cover = true
+wants_relative Refs = true
+wants_relative Lines = false
+wants_relative Check = false
 
 abbrev pub are_relative : CommandName → List Word → Bool
 are_relative name files = not (wants_relative name) || list_all is_relative files

@@ -5,7 +5,7 @@ use Rattle.clap.specs.Simple.{App, new_app, new_rule, new_shape, with_rule, with
 use Rattle.clap.specs.Lexer.{usize_max}
 use Rattle.clap.specs.declared.builder.action.ArgAction.TheVariants.{Set}
 use Rattle.jc_command_words.specs.declared.name.CommandName.{CommandName}
-use Rattle.jc_command_words.specs.declared.name.CommandName.TheVariants.{Instrument, Run, Merge, Report, ExecInfo, ClassInfo, Cover}
+use Rattle.jc_command_words.specs.declared.name.CommandName.TheVariants.{Instrument, Run, Merge, Report, ExecInfo, ClassInfo, Cover, Refs, Lines, Check}
 use Rattle.jc_command_words.specs.Forms.{text_of}
 use Rattle.jc_command_words.specs.Taken.{taken_options}
 
@@ -43,9 +43,13 @@ bare_app = record (new_app (codes "jcov")) {
 abbrev pub first_commands_app : App
 first_commands_app = with_subcommand (with_subcommand (with_subcommand bare_app (command_app Instrument).top) (command_app Run).top) (command_app Merge).top
 
--- with all of its commands but `cover`
+-- with its first six commands
 abbrev pub more_commands_app : App
 more_commands_app = with_subcommand (with_subcommand (with_subcommand first_commands_app (command_app Report).top) (command_app ExecInfo).top) (command_app ClassInfo).top
 
+-- with all of its commands but `lines` and `check`
+abbrev pub most_commands_app : App
+most_commands_app = with_subcommand (with_subcommand more_commands_app (command_app Cover).top) (command_app Refs).top
+
 abbrev pub jcov_app : App
-jcov_app = with_subcommand more_commands_app (command_app Cover).top
+jcov_app = with_subcommand (with_subcommand most_commands_app (command_app Lines).top) (command_app Check).top

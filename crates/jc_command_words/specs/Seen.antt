@@ -9,8 +9,10 @@ use Rattle.jc_command_words.specs.declared.words.RunWords.{RunWords}
 use Rattle.jc_command_words.specs.declared.words.MergeWords.{MergeWords}
 use Rattle.jc_command_words.specs.declared.words.ReportWords.{ReportWords}
 use Rattle.jc_command_words.specs.declared.words.CoverWords.{CoverWords}
+use Rattle.jc_command_words.specs.declared.words.LinesWords.{LinesWords}
+use Rattle.jc_command_words.specs.declared.words.CheckWords.{CheckWords}
 use Rattle.jc_command_words.specs.Words.{Word}
-use Rattle.jc_command_words.specs.Commands.{Called, instrument, run, merge, report, exec_info, class_info, cover, cover_sample}
+use Rattle.jc_command_words.specs.Commands.{Called, instrument, run, merge, report, exec_info, class_info, cover, cover_sample, refs, lines, check}
 use Rattle.jc_command_words.specs.Decide.{Values}
 use Rattle.jc_paths.specs.Looks.{file_view}
 
@@ -29,6 +31,7 @@ given_seen g = record {
   workers = text_seen g.workers;
   name = text_seen g.name;
   exec = text_seen g.exec;
+  min = text_seen g.min;
   files = texts_seen g.files.items;
 }
 
@@ -48,6 +51,12 @@ report_called w = report w.csv.now w.name.now (text_seen w.exec) (map file_view 
 abbrev pub cover_called : CoverWords → Called
 cover_called w = cover w.dest.now w.plan.now w.destfile.now w.csv.now w.workers w.name.now (map file_view w.files.items)
 
+abbrev pub lines_called : LinesWords → Called
+lines_called w = lines (text_seen w.exec) (map file_view w.files.items)
+
+abbrev pub check_called : CheckWords → Called
+check_called w = check w.rules.items (text_seen w.exec) (map file_view w.files.items)
+
 abbrev pub command_seen : Command → Called
 command_seen (commands.Instrument words) = instrument_called words
 command_seen (commands.Run words) = run_called words
@@ -57,3 +66,6 @@ command_seen (commands.ExecInfo inputs) = exec_info (texts_seen inputs.items)
 command_seen (commands.ClassInfo files) = class_info (map file_view files.items)
 command_seen (commands.Cover words) = cover_called words
 command_seen (commands.CoverSample methods) = cover_sample methods
+command_seen (commands.Refs files) = refs (map file_view files.items)
+command_seen (commands.Lines words) = lines_called words
+command_seen (commands.Check words) = check_called words

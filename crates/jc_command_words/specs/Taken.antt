@@ -3,7 +3,7 @@ use Rattle.std.specs.Prelude.{List, [], ◌∷◌, ◌++◌, map, codes, IsTrue}
 use Rattle.std.specs.List.{list_all, list_any, IsDistinct}
 use Rattle.std.specs.Str.{bytes_eq}
 use Rattle.jc_command_words.specs.declared.name.CommandName.{CommandName}
-use Rattle.jc_command_words.specs.declared.name.CommandName.TheVariants.{Instrument, Run, Merge, Report, ExecInfo, ClassInfo, Cover}
+use Rattle.jc_command_words.specs.declared.name.CommandName.TheVariants.{Instrument, Run, Merge, Report, ExecInfo, ClassInfo, Cover, Refs, Lines, Check}
 use Rattle.jc_command_words.specs.Words.{Word, Use, is_plain}
 use Rattle.jc_command_words.specs.Forms.{options_of}
 
@@ -16,6 +16,9 @@ taken_options Report = options_of Report
 taken_options ExecInfo = options_of ExecInfo
 taken_options ClassInfo = options_of ClassInfo
 taken_options Cover = options_of Cover ++ codes "sample" ∷ []
+taken_options Refs = options_of Refs
+taken_options Lines = options_of Lines
+taken_options Check = options_of Check
 
 -- each use is of one of the options, no option is used twice, and no value and no file is empty or begins with `-`
 pub record IsTaken (options : List Word) (uses : List Use) (files : List Word) : Type 0 where

@@ -123,6 +123,7 @@ pub fn given_in<'a>(alloc: Global, words: &Scanned<'a>) -> Result<Given<'a>, Mem
         workers: value_of(&words.uses, "workers"),
         name: value_of(&words.uses, "name"),
         exec: value_of(&words.uses, "exec"),
+        min: value_of(&words.uses, "min"),
         files,
     })
 }
@@ -139,6 +140,9 @@ fn wants_relative(name: CommandName) -> bool
         CommandName::ExecInfo => false,
         CommandName::ClassInfo => true,
         CommandName::Cover => true,
+        CommandName::Refs => true,
+        CommandName::Lines => false,
+        CommandName::Check => false,
     }
 }
 

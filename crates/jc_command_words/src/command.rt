@@ -2,15 +2,21 @@
 ghost use Rattle.std.specs.Prelude.{◌≡◌, IfOk, map};
 ghost use Rattle.std.specs.Option.{option_map};
 ghost use Rattle.jc_paths.specs.Paths.{file_text};
-ghost use Rattle.jc_command_words.specs.Decide.{command_with, cover_with, instrument_with, merge_with, methods_in, name_in, report_with, run_with, workers_in};
+ghost use Rattle.jc_command_words.specs.Commands.{lines};
+ghost use Rattle.jc_command_words.specs.Decide.{check_with, command_with, cover_with, instrument_with, merge_with, methods_in, name_in, report_with, rules_given, run_with, workers_in};
 ghost use Rattle.jc_paths.specs.Looks.{file_view};
 ghost use Rattle.jc_command_words.specs.Seen.{command_seen, given_seen, text_seen};
+ghost use Rattle.jc_command_words.specs.RulesOutcome.{rules_seen};
 
 use crate::name::CommandName;
 use crate::number::number_up_to;
-use crate::words::{CoverWords, InstrumentWords, MergeWords, ReportWords, RunWords};
+use crate::rules::rules_in;
+use crate::words::{
+    CheckWords, CoverWords, InstrumentWords, LinesWords, MergeWords, ReportWords, RunWords,
+};
 use jc_bytes::Memory;
 use jc_paths::{FileWord, file_word};
+use jc_rules::Rule;
 use std::alloc::Global;
 
 /// A command that the words call, with its paths and texts borrowed from them.
@@ -32,6 +38,12 @@ pub enum Command<'a> {
     Cover(CoverWords<'a>),
     /// Runs a generated class of so many methods.
     CoverSample { methods: u32 },
+    /// Says whether each reference suits what takes it, or the first instruction at which one doesn't.
+    Refs { files: Vec<FileWord<'a>> },
+    /// Prints the lines of each class with their statuses, by the hits in the execution data `exec`, if it is named.
+    Lines(LinesWords<'a>),
+    /// Judges rules over the totals of the classes, by the hits in the execution data `exec`, if it is named.
+    Check(CheckWords<'a>),
 }
 
 /// What the options of a command are given, and its files.
@@ -44,6 +56,7 @@ pub struct Given<'a> {
     pub workers: Option<&'a str>,
     pub name: Option<&'a str>,
     pub exec: Option<&'a str>,
+    pub min: Option<&'a str>,
     pub files: Vec<&'a str>,
 }
 
@@ -191,8 +204,44 @@ fn cover_with<'a>(alloc: Global, given: &Given<'a>) -> Result<Option<Command<'a>
     })))
 }
 
-/// The command of this name with these values and files. There is none where an option that it needs isn't given, or the
-/// number of workers isn't from 1 to 16.
+fn lines_with<'a>(alloc: Global, given: &Given<'a>) -> Result<Command<'a>, Memory>
+    ensures { IfOk result (λ command. command_seen command
+        ≡ lines (given_seen given.now).exec (map file_text (given_seen given.now).files)) }
+{
+    let files = file_words(alloc, &given.files)?;
+    Ok(Command::Lines(LinesWords {
+        exec: given.exec,
+        files,
+    }))
+}
+
+/// The rules that are given, if some are.
+fn rules_given(alloc: Global, given: Option<&str>) -> Result<Option<Vec<Rule>>, Memory>
+    ensures { IfOk result (λ o. rules_seen o ≡ rules_given (text_seen given.entry)) }
+{
+    match given {
+        Some(text) => rules_in(alloc, text),
+        None => Ok(None),
+    }
+}
+
+fn check_with<'a>(alloc: Global, given: &Given<'a>) -> Result<Option<Command<'a>>, Memory>
+    ensures { IfOk result (λ o. option_map command_seen o
+        ≡ check_with (rules_given (given_seen given.now).min) (given_seen given.now).exec (given_seen given.now).files) }
+{
+    let Some(rules) = rules_given(alloc, given.min)? else {
+        return Ok(None);
+    };
+    let files = file_words(alloc, &given.files)?;
+    Ok(Some(Command::Check(CheckWords {
+        rules,
+        exec: given.exec,
+        files,
+    })))
+}
+
+/// The command of this name with these values and files. There is none where an option that it needs isn't given, the
+/// number of workers isn't from 1 to 16, or the rules are none.
 pub fn command_with<'a>(
     alloc: Global,
     name: CommandName,
@@ -213,5 +262,14 @@ pub fn command_with<'a>(
             Ok(Some(Command::ClassInfo { files }))
         }
         CommandName::Cover => cover_with(alloc, &given),
+        CommandName::Refs => {
+            let files = file_words(alloc, &given.files)?;
+            Ok(Some(Command::Refs { files }))
+        }
+        CommandName::Lines => {
+            let command = lines_with(alloc, &given)?;
+            Ok(Some(command))
+        }
+        CommandName::Check => check_with(alloc, &given),
     }
 }

@@ -8,10 +8,14 @@ mod number;
 mod paths;
 mod read;
 mod reader;
+mod rules;
 mod scan;
 mod words;
 
 pub use command::Command;
 pub use jc_paths::FileWord;
 pub use read::{Usage, each_list_of_words_calls_one_command, read_words};
-pub use words::{CoverWords, InstrumentWords, MergeWords, ReportWords, RunWords};
+pub use rules::rules_in;
+pub use words::{
+    CheckWords, CoverWords, InstrumentWords, LinesWords, MergeWords, ReportWords, RunWords,
+};

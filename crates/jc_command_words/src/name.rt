@@ -12,6 +12,9 @@ pub enum CommandName {
     ExecInfo,
     ClassInfo,
     Cover,
+    Refs,
+    Lines,
+    Check,
 }
 
 /// The command that a word names.
@@ -26,6 +29,9 @@ pub fn name_of(word: &str) -> Option<CommandName>
         "execinfo" => Some(CommandName::ExecInfo),
         "classinfo" => Some(CommandName::ClassInfo),
         "cover" => Some(CommandName::Cover),
+        "refs" => Some(CommandName::Refs),
+        "lines" => Some(CommandName::Lines),
+        "check" => Some(CommandName::Check),
         _ => None,
     }
 }
@@ -42,5 +48,8 @@ pub fn options_of(name: CommandName) -> &'static [&'static str]
         CommandName::ExecInfo => &[],
         CommandName::ClassInfo => &[],
         CommandName::Cover => &["dest", "plan", "destfile", "csv", "workers", "name"],
+        CommandName::Refs => &[],
+        CommandName::Lines => &["exec"],
+        CommandName::Check => &["min", "exec"],
     }
 }

@@ -3,7 +3,7 @@ ghost use Rattle.std.specs.Prelude.{◌≡◌, ◌<◌, ◌^◌, false, fold, le
 ghost use Rattle.clap.specs.Simple.{with_rule};
 ghost use Rattle.clap.specs.Words.{app_of, rule_of};
 ghost use Rattle.clap.specs.declared.builder.command.Command.TheViews.{out-Command};
-ghost use Rattle.jc_command_words.specs.Reader.{app_with, bare_app, file_rule, first_commands_app, jcov_app, more_commands_app, option_rule, with_option};
+ghost use Rattle.jc_command_words.specs.Reader.{app_with, bare_app, file_rule, first_commands_app, jcov_app, more_commands_app, most_commands_app, option_rule, with_option};
 ghost use Rattle.jc_command_words.specs.Words.{words_of};
 ghost use Rattle.jc_command_words.specs.Looks.{call_seen};
 ghost use Rattle.jc_command_words.specs.Reads.{CallCut, MatchesIf};
@@ -96,15 +96,25 @@ fn more_commands<'a>(alloc: Global) -> Result<Command<'a>, AllocError>
         .subcommand(class_info)
 }
 
-/// The command line: one level of commands, without help and version words.
-fn jcov<'a>(alloc: Global) -> Result<Command<'a>, AllocError>
-    ensures { IfOk result (λ c. app_of c ≡ jcov_app) }
+fn most_commands<'a>(alloc: Global) -> Result<Command<'a>, AllocError>
+    ensures app { IfOk result (λ c. app_of c ≡ most_commands_app) }
+    ensures local { IfOk result (λ c. (out-Command c).has_globals ≡ false) }
 {
     let options = [
         "dest", "plan", "destfile", "csv", "workers", "name", "sample",
     ];
     let cover = command(alloc, "cover", &options)?;
-    more_commands(alloc)?.subcommand(cover)
+    let refs = command(alloc, "refs", &[])?;
+    more_commands(alloc)?.subcommand(cover)?.subcommand(refs)
+}
+
+/// The command line: one level of commands, without help and version words.
+fn jcov<'a>(alloc: Global) -> Result<Command<'a>, AllocError>
+    ensures { IfOk result (λ c. app_of c ≡ jcov_app) }
+{
+    let lines = command(alloc, "lines", &["exec"])?;
+    let check = command(alloc, "check", &["min", "exec"])?;
+    most_commands(alloc)?.subcommand(lines)?.subcommand(check)
 }
 
 /// What clap finds in words, if it takes them.

@@ -1,6 +1,7 @@
 //! What the words of a command say.
 
 use jc_paths::FileWord;
+use jc_rules::Rule;
 
 /// What the words of `instrument` say.
 #[derive(Drop)]
@@ -61,6 +62,26 @@ pub struct CoverWords<'a> {
     pub workers: u32,
     /// The name of the report.
     pub name: &'a str,
+    /// The class files.
+    pub files: Vec<FileWord<'a>>,
+}
+
+/// What the words of `lines` say.
+#[derive(Drop)]
+pub struct LinesWords<'a> {
+    /// The file of execution data, if there is one.
+    pub exec: Option<&'a str>,
+    /// The class files.
+    pub files: Vec<FileWord<'a>>,
+}
+
+/// What the words of `check` say.
+#[derive(Drop)]
+pub struct CheckWords<'a> {
+    /// The rules, of which no two are of one counter.
+    pub rules: Vec<Rule>,
+    /// The file of execution data, if there is one.
+    pub exec: Option<&'a str>,
     /// The class files.
     pub files: Vec<FileWord<'a>>,
 }

@@ -1,5 +1,5 @@
 -- A command that reads, decides and then writes has one work, and functions that do its parts do the whole.
-use Rattle.std.proofs.Common.{◌≡◌, ◌⊎◌, ℕ, List, [], ◌∷◌, ◌++◌, map, All, ◌≤◌, Option, None, Some, Result, Ok, Err, Vec, Bor, length, ◌∙◌, inl, inr, refl, sym, ap, subst, arith}
+use Rattle.std.proofs.Common.{◌≡◌, ◌⊎◌, ℕ, List, [], ◌∷◌, ◌++◌, All, ◌≤◌, Option, None, Some, Result, Ok, Err, Vec, Bor, length, ◌∙◌, inl, inr, refl, sym, ap, subst, arith}
 use Rattle.std.proofs.lemmas.List.{length-map}
 use Rattle.std.proofs.lemmas.List.Elements.{All-from_recursion}
 use Rattle.std.specs.List.{AllByRecursion}
@@ -13,8 +13,8 @@ use Rattle.jc_command_work.specs.Ending.{CameTo, Stops, Does, Ran}
 use Rattle.jc_command_work.specs.OneWay.{IsOver, HasOne, OneDecision}
 use Rattle.jc_paths.specs.Paths.{FileText, plain, folder}
 use Rattle.jc_command_work.specs.Folders.{paths_of, all_paths, files_of, once}
-use Rattle.jc_command_work.specs.Seen.{texts_of, write_seen, stop_seen}
-use Rattle.jc_command_work.specs.Answered.{Answer, OneAnswer, HasOneAnswer, answering, preparing, making_all, answered, EndsSo, AnswersWith}
+use Rattle.jc_command_work.specs.Seen.{texts_of, stop_seen}
+use Rattle.jc_command_work.specs.Answered.{Answer, OneAnswer, HasOneAnswer, answering, preparing, making_all, answered, EndsSo, AnswersAs, writes_seen, AnswersWith}
 use Rattle.jc_command_work.proofs.Behind.{fit_front, fit_behind, came_then, began_then, stops_first}
 use Rattle.jc_command_work.proofs.OneWork.{one_giving, one_ending, one_deciding, one_listing, has_then, has_then_if, has_reading_all, has_writing_all, same_value, not_gives}
 use Rattle.jc_command_work.proofs.Reaching.{was_decided, was_ended, reached_start, reached_next, ran_last}
@@ -96,47 +96,40 @@ decides {X} Is Ends one one_end apart (inr (e, ends)) = record { decision = stop
     only (gives y) over so = absurd (apart y e so ends)
     only (stops f) over so = ap (λ (g : End). let p : Outcome X = stops g in p) (one_end f e so ends)
 
-one_answering : (Is : Answer → Type 0) → OneAnswer Is → OneDecision (λ writes. Is (gives writes)) (λ end. Is (stops end))
-one_answering Is one = record { decision = one.answer; over = one.over; holds = by one.answer one.over one.holds; only = λ o over is. one.only o (back o over is) }
+one_answering : {X : Type 0} (Is : Outcome X → Type 0) → OneAnswer Is → OneDecision (λ value. Is (gives value)) (λ end. Is (stops end))
+one_answering {X} Is one = record { decision = one.answer; over = one.over; holds = by one.answer one.over one.holds; only = λ o over is. one.only o (back o over is) }
   where
-    by : (o : Answer) → IsOver o → Is o → answering Is [] o
+    by : (o : Outcome X) → IsOver o → Is o → answering Is [] o
     by (wants call) over is = absurd over
-    by (gives writes) over is = is
+    by (gives value) over is = is
     by (stops end) over is = is
 
-    back : (o : Answer) → IsOver o → answering Is [] o → Is o
+    back : (o : Outcome X) → IsOver o → answering Is [] o → Is o
     back (wants call) over is = absurd over
-    back (gives writes) over is = is
+    back (gives value) over is = is
     back (stops end) over is = is
 
-module _ (landed : Landed) (inputs : List Word) (Answers : List (List ℕ) → Answer → Type 0) where
+module _ {X : Type 0} (landed : Landed) (inputs : List Word) (Answers : List (List ℕ) → Outcome X → Type 0) where
   pub has_preparing : HasOneAnswer inputs Answers → HasOne landed (preparing inputs Answers)
   has_preparing one =
       has_then_if landed (reading_all inputs) (λ texts. answering (Answers texts)) (has_reading_all landed inputs)
       (λ w steps texts over fits. by texts (one texts (texts_read landed w inputs steps texts over fits)))
     where
       by : (texts : List (List ℕ)) → OneAnswer (Answers texts) → HasOne landed (answering (Answers texts))
-      by texts own w told = one_deciding landed w (λ writes. Answers texts (gives writes)) (λ end. Answers texts (stops end)) (one_answering (Answers texts) own)
-
-  pub has_making : (writes : List Write) → HasOne landed (making_all writes)
-  has_making writes = has_then landed (writing_all writes) (λ _. ending {X = ⊥} done) (has_writing_all landed writes) (λ _ w told. one_ending landed w done)
-
-  -- it has one work
-  pub has_answered : HasOneAnswer inputs Answers → HasOne landed (answered inputs Answers)
-  has_answered one = has_then landed (preparing inputs Answers) making_all (has_preparing one) has_making
+      by texts own w told = one_deciding landed w (λ value. Answers texts (gives value)) (λ end. Answers texts (stops end)) (one_answering (Answers texts) own)
 
   -- ---- functions that do its parts
 
   -- the inputs were read, and what was made of them is decided
-  pub prepared : (old mid : Outside) (f g : Counts) (texts : List (List ℕ)) (r : Result (Vec Written Global) Stop)
-      → (g ≡ f) × CameTo landed (reading_all inputs) old mid (gives texts) → AnswersWith (Answers texts) r
-      → Does landed (preparing inputs Answers) (λ writes. map write_seen writes.items) stop_seen old mid f g r
-  prepared old mid f g texts (Ok writes) (same, came) is = (
+  pub prepared_as : {V : Type 0} (value : V → X) (old mid : Outside) (f g : Counts) (texts : List (List ℕ)) (r : Result V Stop)
+      → (g ≡ f) × CameTo landed (reading_all inputs) old mid (gives texts) → AnswersAs value (Answers texts) r
+      → Does landed (preparing inputs Answers) value stop_seen old mid f g r
+  prepared_as value old mid f g texts (Ok v) (same, came) is = (
     same,
-    came_then landed (reading_all inputs) (λ ts. answering (Answers ts)) old texts mid mid (gives (map write_seen writes.items)) came
-        (was_decided landed (λ ws. Answers texts (gives ws)) (λ end. Answers texts (stops end)) mid (map write_seen writes.items) is),
+    came_then landed (reading_all inputs) (λ ts. answering (Answers ts)) old texts mid mid (gives (value v)) came
+        (was_decided landed (λ x. Answers texts (gives x)) (λ end. Answers texts (stops end)) mid (value v) is),
   )
-  prepared old mid f g texts (Err stop) (same, came) is = by (stop_seen stop) is
+  prepared_as value old mid f g texts (Err stop) (same, came) is = by (stop_seen stop) is
     where
       by : (o : Option End) → EndsSo (Answers texts) o → Stops landed (preparing inputs Answers) old mid f g o
       by None none =
@@ -145,12 +138,28 @@ module _ (landed : Landed) (inputs : List Word) (Answers : List (List ℕ) → A
           inl (
             same,
             came_then landed (reading_all inputs) (λ ts. answering (Answers ts)) old texts mid mid (stops end) came
-                (was_ended landed (λ ws. Answers texts (gives ws)) (λ e. Answers texts (stops e)) mid end so),
+                (was_ended landed (λ x. Answers texts (gives x)) (λ e. Answers texts (stops e)) mid end so),
           )
 
   -- an input couldn't be read, or memory was refused
   pub unprepared : (old mid : Outside) (f g : Counts) (stop : Option End) → Stops landed (reading_all inputs) old mid f g stop → Stops landed (preparing inputs Answers) old mid f g stop
   unprepared old mid f g stop stopped = stops_first landed (reading_all inputs) (λ ts. answering (Answers ts)) old mid f g stop stopped
+
+module _ (landed : Landed) (inputs : List Word) (Answers : List (List ℕ) → Answer → Type 0) where
+  pub has_making : (writes : List Write) → HasOne landed (making_all writes)
+  has_making writes = has_then landed (writing_all writes) (λ _. ending {X = ⊥} done) (has_writing_all landed writes) (λ _ w told. one_ending landed w done)
+
+  -- it has one work
+  pub has_answered : HasOneAnswer inputs Answers → HasOne landed (answered inputs Answers)
+  has_answered one = has_then landed (preparing inputs Answers) making_all (has_preparing landed inputs Answers one) has_making
+
+  -- ---- functions that do its parts
+
+  -- the inputs were read, and what is to be written is decided
+  pub prepared : (old mid : Outside) (f g : Counts) (texts : List (List ℕ)) (r : Result (Vec Written Global) Stop)
+      → (g ≡ f) × CameTo landed (reading_all inputs) old mid (gives texts) → AnswersWith (Answers texts) r
+      → Does landed (preparing inputs Answers) writes_seen stop_seen old mid f g r
+  prepared old mid f g texts r read is = prepared_as landed inputs Answers writes_seen old mid f g texts r read is
 
   -- what was decided is written
   pub ran_answered : (old mid new : Outside) (f g f' : Counts) (writes : List Write) (r : Result (Unit {0}) Stop)

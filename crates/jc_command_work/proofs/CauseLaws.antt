@@ -4,7 +4,7 @@ use Rattle.jc_command_work.specs.declared.status.Fault.{Fault}
 use Rattle.jc_command_work.specs.declared.status.Status.{Status}
 use Rattle.jc_command_work.specs.declared.status.Status.TheVariants as status
 use Rattle.jc_command_work.specs.Step.{Word, Outside, Counts, Rises, Landed, Write, to_file, to_out, to_err, Call, to_read, to_list, to_write, Step, has_read, has_no, has_listed, has_written, call_of, Broken, CountRose}
-use Rattle.jc_command_work.specs.Part.{End, done, refused, misused, unread, unwritten, unprinted, status_of, message_of, failure, wants, gives, stops, Part, Command, giving, ending, deciding, reading, writing, reading_all, writing_all, ◌>>=◌}
+use Rattle.jc_command_work.specs.Part.{End, done, unmet, refused, misused, unread, unwritten, unprinted, status_of, message_of, failure, Outcome, wants, gives, stops, Part, Command, giving, ending, deciding, reading, writing, reading_all, writing_all, ◌>>=◌}
 use Rattle.jc_command_work.specs.Ending.{CameTo, BrokeOff, SaysLast, IsOutOfMemory, Ends, NoneRose}
 use Rattle.jc_command_work.specs.Texts.{fault_text}
 use Rattle.jc_command_work.specs.OneWay.{OneWay, Work, IsWork, writes_of}
@@ -61,12 +61,16 @@ module _ (Is : End → Type 0) where
   ends_writing_all [] = ends_giving tt
   ends_writing_all (write ∷ writes) = ends_then (writing write) _ (ends_writing write) (λ _. ends_writing_all writes)
 
+  pub ends_preparing : {X : Type 0} (inputs : List Word) (Answers : List (List ℕ) → Outcome X → Type 0) → ((path : Word) → Is (unread path))
+      → ((texts : List (List ℕ)) (end : End) → Answers texts (stops end) → Is end) → EndsIn Is (preparing inputs Answers)
+  ends_preparing inputs Answers unread_is own =
+      ends_then (reading_all inputs) (λ texts. answering (Answers texts)) (ends_reading_all unread_is inputs)
+      (λ texts. ends_deciding (λ value. Answers texts (gives value)) (λ end. Answers texts (stops end)) (own texts))
+
   pub ends_answered : (inputs : List Word) (Answers : List (List ℕ) → Answer → Type 0) → Is done → ((path : Word) → Is (unread path))
       → ((texts : List (List ℕ)) (end : End) → Answers texts (stops end) → Is end) → EndsIn Is (answered inputs Answers)
   ends_answered inputs Answers done_is unread_is own =
-      ends_then (preparing inputs Answers) making_all
-      (ends_then (reading_all inputs) (λ texts. answering (Answers texts)) (ends_reading_all unread_is inputs)
-      (λ texts. ends_deciding (λ writes. Answers texts (gives writes)) (λ end. Answers texts (stops end)) (own texts)))
+      ends_then (preparing inputs Answers) making_all (ends_preparing inputs Answers unread_is own)
       (λ writes. ends_then (writing_all writes) (λ _. ending {X = ⊥} done) (ends_writing_all writes) (λ _. ends_ending done done_is))
 
 -- ---- what is written
@@ -104,6 +108,7 @@ module _ (landed : Landed) (command : Command) (old new : Outside) (f f' : Count
   ended_so : (end : End) (stands : Outside) → CameTo landed command old stands (stops end) → SaysLast (message_of end) stands new f f' → IsOwnEnd end
       → Cause landed command old new f f' (status_of end)
   ended_so done stands came says own = (says.0, subst (λ (w : Outside). CameTo landed command old w (stops done)) (sym says.1) came)
+  ended_so unmet stands came says own = (says.0, subst (λ (w : Outside). CameTo landed command old w (stops unmet)) (sym says.1) came)
   ended_so (refused fault line) stands came says own = (line, record { stands = stands; came = came; says = says })
   ended_so misused stands came says own = record { stands = stands; came = came; says = says }
   ended_so (unread path) stands came says own = inl (path, record { stands = stands; came = came; says = says })

@@ -13,3 +13,4 @@ pub mod FileLaws
 pub mod FolderLaws
 pub mod OnceLaws
 pub mod References
+pub mod ClosingLaws

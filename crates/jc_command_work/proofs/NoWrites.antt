@@ -3,7 +3,7 @@ use Rattle.std.proofs.Common.{◌≡◌, ℕ, List, [], ◌∷◌, ◌++◌, inl
 use Rattle.jc_command_work.specs.Step.{Word, Write, Step, has_read, has_no, has_listed, has_written}
 use Rattle.jc_command_work.specs.Part.{End, Outcome, wants, gives, stops, Part, giving, deciding, reading, reading_all, ◌>>=◌}
 use Rattle.jc_command_work.specs.OneWay.{writes_of}
-use Rattle.jc_command_work.specs.Answered.{Answer, answering, preparing}
+use Rattle.jc_command_work.specs.Answered.{answering, preparing}
 use Rattle.jc_command_work.proofs.Prefix.{writes-append}
 
 -- no step of the part is a write
@@ -41,7 +41,7 @@ pub none_reading_all : (paths : List Word) → WritesNone (reading_all paths)
 none_reading_all [] = none_giving []
 none_reading_all (path ∷ paths) = none_then (reading path) _ (none_reading path) (λ text. none_then (reading_all paths) _ (none_reading_all paths) (λ texts. none_giving (text ∷ texts)))
 
-pub none_preparing : (inputs : List Word) (Answers : List (List ℕ) → Answer → Type 0) → WritesNone (preparing inputs Answers)
+pub none_preparing : {X : Type 0} (inputs : List Word) (Answers : List (List ℕ) → Outcome X → Type 0) → WritesNone (preparing inputs Answers)
 none_preparing inputs Answers =
     none_then (reading_all inputs) (λ texts. answering (Answers texts)) (none_reading_all inputs)
-    (λ texts. none_deciding (λ writes. Answers texts (gives writes)) (λ end. Answers texts (stops end)))
+    (λ texts. none_deciding (λ value. Answers texts (gives value)) (λ end. Answers texts (stops end)))

@@ -5,7 +5,7 @@ use Rattle.jc_command_work.specs.declared.status.Status.{Status}
 use Rattle.jc_command_work.specs.declared.status.Status.TheVariants as status
 use Rattle.jc_outside.specs.Outside.{LastFailed, failed_at}
 use Rattle.jc_command_work.specs.Step.{Word, Rises, Outside, Counts, Landed, Write, to_file, to_out, to_err, Call, to_read, to_list, to_write, Step, has_read, has_no, has_listed, has_written, call_of, after, after_write, after_failed, Fit, Broken, TextBroken, CountRose, grown}
-use Rattle.jc_command_work.specs.Part.{End, done, refused, misused, unread, unwritten, unprinted, status_of, message_of, failure, Outcome, wants, gives, stops, Command, Begun}
+use Rattle.jc_command_work.specs.Part.{End, done, unmet, refused, misused, unread, unwritten, unprinted, status_of, message_of, failure, Outcome, wants, gives, stops, Command, Begun}
 use Rattle.jc_command_work.specs.Ending.{CameTo, Began, BrokeOff, SaysLast, IsWhole, IsCut, IsOutOfMemory, Ends}
 use Rattle.jc_command_work.specs.OneWay.{IsOver, IsTold, GoesOn, OneWay, Work, IsWork, writes_of}
 use Rattle.jc_command_work.specs.Prefix.{after_writes, with_failed, IsFront, Took, LeavesFront}
@@ -189,6 +189,7 @@ is_done status.Usage = ⊥
 is_done status.ReadFault = ⊥
 is_done status.WriteFault = ⊥
 is_done status.Memory = ⊥
+is_done status.Broken = ⊥
 
 fails_not : (call : Call) → status.Done ≡ status_of (failure call) → ⊥
 unfolding is_done
@@ -206,6 +207,7 @@ is_refused status.Usage = ⊥
 is_refused status.ReadFault = ⊥
 is_refused status.WriteFault = ⊥
 is_refused status.Memory = ⊥
+is_refused status.Broken = ⊥
 
 abbrev is_read : Status → Type 0
 is_read status.Done = ⊥
@@ -214,6 +216,7 @@ is_read status.Usage = ⊥
 is_read status.ReadFault = Unit {0}
 is_read status.WriteFault = ⊥
 is_read status.Memory = ⊥
+is_read status.Broken = ⊥
 
 fault_or : Fault → Status → Fault
 fault_or n status.Done = n
@@ -222,6 +225,7 @@ fault_or n status.Usage = n
 fault_or n status.ReadFault = n
 fault_or n status.WriteFault = n
 fault_or n status.Memory = n
+fault_or n status.Broken = n
 
 no_refusal : (fault : Fault) (call : Call) → status.Refused fault ≡ status_of (failure call) → ⊥
 no_refusal fault (to_read path) is = subst is_refused is tt
@@ -250,6 +254,7 @@ module _ (landed : Landed) (command : Command) (old new : Outside) (f f' : Count
           → (f' ≡ f) × CameTo landed command old new (stops done)
       by done came is says = (says.0, subst (λ (s : Outside). CameTo landed command old s (stops done)) (sym says.1) came)
       by (refused fault line) came is says = absurd (subst is_done is tt)
+      by unmet came is says = absurd (subst is_done is tt)
       by misused came is says = absurd (subst is_done is tt)
       by (unread path) came is says = absurd (subst is_done is tt)
       by (unwritten path) came is says = absurd (subst is_done is tt)
@@ -269,6 +274,7 @@ module _ (landed : Landed) (command : Command) (old new : Outside) (f f' : Count
       by (refused other line) came is says =
           let same : other ≡ fault = ap (fault_or fault) (sym is) in
           (line, e.stands, subst (λ (n : Fault). CameTo landed command old e.stands (stops (refused n line))) same came, says)
+      by unmet came is says = absurd (subst is_refused is tt)
       by misused came is says = absurd (subst is_refused is tt)
       by (unread path) came is says = absurd (subst is_refused is tt)
       by (unwritten path) came is says = absurd (subst is_refused is tt)
@@ -285,6 +291,7 @@ module _ (landed : Landed) (command : Command) (old new : Outside) (f f' : Count
           → Rises f.reads f'.reads ⊎ ((path : Word) × (stands : Outside) × CameTo landed command old stands (stops (unread path)))
       by done came is = absurd (subst is_read is tt)
       by (refused other line) came is = absurd (subst is_read is tt)
+      by unmet came is = absurd (subst is_read is tt)
       by misused came is = absurd (subst is_read is tt)
       by (unread path) came is = inr (path, e.stands, came)
       by (unwritten path) came is = absurd (subst is_read is tt)

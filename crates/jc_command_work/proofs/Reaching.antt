@@ -2,7 +2,7 @@
 use Rattle.std.proofs.Common.{◌≡◌, ℕ, List, [], ◌∷◌, ◌++◌, Option, None, Some, Result, Ok, Err, inl, inr, refl, sym, ◌∙◌, ap, subst, append_assoc, append-nil, map, drop, get_or, length, ◌+◌, ◌<◌, ◌≤◌, drop-cons, add-one}
 use Rattle.std.proofs.lemmas.List.{drop_all}
 use Rattle.jc_command_work.specs.Step.{Word, Outside, Counts, Landed, Write, to_file, to_out, to_err, Call, to_read, to_list, to_write}
-use Rattle.jc_command_work.specs.Part.{End, done, refused, misused, unread, unwritten, unprinted, failure, gives, stops, Part, Command, giving, ending, deciding, reading, reading_all, writing, writing_all, ◌>>=◌}
+use Rattle.jc_command_work.specs.Part.{End, done, unmet, refused, misused, unread, unwritten, unprinted, failure, gives, stops, Part, Command, giving, ending, deciding, reading, reading_all, writing, writing_all, ◌>>=◌}
 use Rattle.jc_command_work.specs.Ending.{CameTo, Stops, Does, Ran}
 use Rattle.jc_command_work.proofs.Behind.{came_then, stops_first, stops_then}
 
@@ -80,6 +80,7 @@ was_ended landed Is Ends now end is = record { steps = []; comes = is; begun = i
 
 abbrev IsDone : End → Type 0
 IsDone done = Unit {0}
+IsDone unmet = ⊥
 IsDone (refused fault line) = ⊥
 IsDone misused = ⊥
 IsDone (unread path) = ⊥

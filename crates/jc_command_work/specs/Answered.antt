@@ -26,23 +26,23 @@ abbrev pub refusing : Word → Fault → Answer
 refusing file fault = stops (refusal_of file fault)
 
 -- Of all texts that may be read of the inputs there is one answer.
-pub record OneAnswer (Is : Answer → Type 0) : Type 0 where
-  pub answer : Answer
+pub record OneAnswer {X : Type 0} (Is : Outcome X → Type 0) : Type 0 where
+  pub answer : Outcome X
   pub over : IsOver answer
   pub holds : Is answer
-  pub only : (a : Answer) → Is a → a ≡ answer
+  pub only : (a : Outcome X) → Is a → a ≡ answer
 
-abbrev pub HasOneAnswer : List Word → (List (List ℕ) → Answer → Type 0) → Type 0
+abbrev pub HasOneAnswer : {X : Type 0} → List Word → (List (List ℕ) → Outcome X → Type 0) → Type 0
 HasOneAnswer inputs Answers = (texts : List (List ℕ)) → AreTexts inputs texts → OneAnswer (Answers texts)
 
 -- ---- the parts
 
--- hands on what is to be written, or ends the command
-abbrev pub answering : (Answer → Type 0) → Part (List Write)
-answering Is = deciding (λ writes. Is (gives writes)) (λ end. Is (stops end))
+-- hands on what is decided, or ends the command
+abbrev pub answering : {X : Type 0} → (Outcome X → Type 0) → Part X
+answering Is = deciding (λ value. Is (gives value)) (λ end. Is (stops end))
 
--- reads the inputs, and hands on what is to be written
-abbrev pub preparing : List Word → (List (List ℕ) → Answer → Type 0) → Part (List Write)
+-- reads the inputs, and hands on what is decided
+abbrev pub preparing : {X : Type 0} → List Word → (List (List ℕ) → Outcome X → Type 0) → Part X
 preparing inputs Answers = do
   texts ← reading_all inputs
   answering (Answers texts)
@@ -61,18 +61,32 @@ answered inputs Answers = do
 -- ---- functions that decide
 
 -- the command ends so, or memory was refused
-abbrev pub EndsSo : (Answer → Type 0) → Option End → Type 0
+abbrev pub EndsSo : {X : Type 0} → (Outcome X → Type 0) → Option End → Type 0
 EndsSo Is None = ⊤
 EndsSo Is (Some end) = Is (stops end)
 
+-- what a function gives that decides, where this is what its value stands for
+abbrev pub AnswersAs : {V X : Type 0} → (V → X) → (Outcome X → Type 0) → Result V Stop → Type 0
+AnswersAs value Is (Ok v) = Is (gives (value v))
+AnswersAs value Is (Err stop) = EndsSo Is (stop_seen stop)
+
+-- the writes that the code holds
+abbrev pub writes_seen : Vec Written Global → List Write
+writes_seen writes = map write_seen writes.items
+
 -- what a function gives that decides what to write
 abbrev pub AnswersWith : (Answer → Type 0) → Result (Vec Written Global) Stop → Type 0
-AnswersWith Is (Ok writes) = Is (gives (map write_seen writes.items))
-AnswersWith Is (Err stop) = EndsSo Is (stop_seen stop)
+AnswersWith Is result = AnswersAs writes_seen Is result
+
+-- what a function did that reads the inputs and decides, where this is what its value stands for
+abbrev pub PreparesAs : {V X : Type 0} → (V → X) → Landed → List Word → (List (List ℕ) → Outcome X → Type 0) → (old new : Option FileMap)
+    → (failed failed' : LastFailed) → (reads reads' writes writes' : ℕ) → Result V Stop → Type 0
+PreparesAs value landed inputs Answers old new failed failed' reads reads' writes writes' result =
+    DoesFiles landed (preparing inputs Answers) value stop_seen old new failed failed' reads reads' writes writes' result
 
 -- what a function did that reads the inputs and decides what to write
 abbrev pub Prepares : Landed → List Word → (List (List ℕ) → Answer → Type 0) → (old new : Option FileMap) → (failed failed' : LastFailed)
     → (reads reads' writes writes' : ℕ)
     → Result (Vec Written Global) Stop → Type 0
 Prepares landed inputs Answers old new failed failed' reads reads' writes writes' result =
-    DoesFiles landed (preparing inputs Answers) (λ made. map write_seen made.items) stop_seen old new failed failed' reads reads' writes writes' result
+    PreparesAs writes_seen landed inputs Answers old new failed failed' reads reads' writes writes' result

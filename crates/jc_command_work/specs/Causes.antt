@@ -3,7 +3,7 @@ use Rattle.std.specs.Prelude.{◌≡◌, ◌⊎◌, ⊤, ℕ, List, ◌∷◌, �
 use Rattle.jc_command_work.specs.declared.status.Status.{Status}
 use Rattle.jc_command_work.specs.declared.status.Status.TheVariants as status
 use Rattle.jc_command_work.specs.Step.{Word, Outside, Counts, Rises, Landed, to_file, to_out, to_err, Call, to_read, to_list, to_write, Step, call_of, Broken, CountRose}
-use Rattle.jc_command_work.specs.Part.{End, done, refused, misused, unread, unwritten, unprinted, message_of, failure, wants, stops, Part, Command}
+use Rattle.jc_command_work.specs.Part.{End, done, unmet, refused, misused, unread, unwritten, unprinted, message_of, failure, wants, stops, Part, Command}
 use Rattle.jc_command_work.specs.Ending.{CameTo, SaysLast, IsOutOfMemory}
 use Rattle.jc_command_work.specs.OneWay.{Work}
 
@@ -12,6 +12,7 @@ use Rattle.jc_command_work.specs.OneWay.{Work}
 -- an end that a command may come to by itself: a write that failed is none
 abbrev pub IsOwnEnd : End → Type 0
 IsOwnEnd done = ⊤
+IsOwnEnd unmet = ⊤
 IsOwnEnd (refused fault line) = ⊤
 IsOwnEnd misused = ⊤
 IsOwnEnd (unread path) = ⊤
@@ -21,6 +22,7 @@ IsOwnEnd unprinted = ⊥
 -- an input is refused
 abbrev pub IsRefusal : End → Type 0
 IsRefusal done = ⊥
+IsRefusal unmet = ⊥
 IsRefusal (refused fault line) = ⊤
 IsRefusal misused = ⊥
 IsRefusal (unread path) = ⊥
@@ -82,6 +84,7 @@ Cause landed command old new f f' status.ReadFault =
     ((path : Word) × EndedSo landed command old new f f' (unread path)) ⊎ CallFailed landed command old new f f' IsReadCall
 Cause landed command old new f f' status.WriteFault = CallFailed landed command old new f f' IsWriteCall
 Cause landed command old new f f' status.Memory = IsOutOfMemory landed command old new f f' status.Memory
+Cause landed command old new f f' status.Broken = (f' ≡ f) × CameTo landed command old new (stops unmet)
 
 -- ---- how a run ends by its work
 

@@ -10,3 +10,4 @@ pub mod Folders
 pub mod Seen
 pub mod Stopping
 pub mod Answered
+pub mod Closing

@@ -11,6 +11,8 @@ use Rattle.jc_command_work.specs.Step.{Word, Write, to_file, to_out, to_err, Cal
 -- how a command ends, if memory isn't refused
 pub data End : Type 0 where
   done : End
+  -- all was written, and a rule doesn't hold
+  unmet : End
   -- an input is refused, with this line
   refused : (fault : Fault) (line : List ℕ) → End
   -- the words are of no stated form
@@ -22,6 +24,7 @@ pub data End : Type 0 where
 
 abbrev pub status_of : End → Status
 status_of done = status.Done
+status_of unmet = status.Broken
 status_of (refused fault line) = status.Refused fault
 status_of misused = status.Usage
 status_of (unread path) = status.ReadFault
@@ -31,6 +34,7 @@ status_of unprinted = status.WriteFault
 -- the last message, on `err`
 abbrev pub message_of : End → Option (List ℕ)
 message_of done = None
+message_of unmet = None
 message_of (refused fault line) = Some line
 message_of misused = Some usage_text
 message_of (unread path) = Some (cannot_read path)

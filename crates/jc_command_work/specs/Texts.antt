@@ -6,11 +6,12 @@ use Rattle.jc_bytes.specs.declared.refusal.RefusalKind.{RefusalKind}
 use Rattle.jc_bytes.specs.declared.refusal.RefusalKind.TheVariants as kinds
 use Rattle.jc_exec.specs.declared.refusal.ExecRefusal.{ExecRefusal}
 use Rattle.jc_exec.specs.declared.refusal.ExecRefusal.TheVariants.{BadExec, OtherVersion, Conflict}
+use Rattle.jc_refs_check.specs.declared.ref_refusal.RefRefusal.{RefRefusal}
 use Rattle.jc_command_work.specs.declared.status.Fault.{Fault}
 use Rattle.jc_command_work.specs.declared.status.Fault.TheVariants as faults
 
 abbrev pub usage_text : List ℕ
-usage_text = codes "usage: jcov COMMAND OPTIONS FILE..\ncommands: instrument run merge report execinfo classinfo cover\n"
+usage_text = codes "usage: jcov COMMAND OPTIONS FILE..\ncommands: instrument run merge report execinfo classinfo cover refs lines check\n"
 
 abbrev pub cannot_read : List ℕ → List ℕ
 cannot_read path = codes "cannot read " ++ path ++ codes "\n"
@@ -105,6 +106,12 @@ bad_plan_text file line = file ++ (codes ": bad plan in line " ++ (decimal line 
 abbrev pub no_entry_text : List ℕ → ℕ → List ℕ
 no_entry_text file line = file ++ (codes ": no entry in line " ++ (decimal line ++ codes "\n"))
 
+-- ---- references that don't suit
+
+-- the first instruction at which a reference doesn't suit what takes it
+abbrev pub ref_refusal_text : List ℕ → RefRefusal → List ℕ
+ref_refusal_text file refusal = in_method_text file (codes "reference") refusal.method refusal.at
+
 -- ---- inputs that are refused
 
 -- a file that has something in common with another that isn't named
@@ -120,3 +127,4 @@ fault_text file (faults.Class path refusal) = class_refusal_text file refusal
 fault_text file (faults.SameName first second) = shared_text file (codes "name")
 fault_text file (faults.SameId first second) = shared_text file (codes "id")
 fault_text file (faults.NoEntry line) = no_entry_text file line
+fault_text file (faults.Refs path refusal) = ref_refusal_text file refusal

@@ -3,11 +3,12 @@ ghost use Rattle.std.specs.Prelude.{◌≡◌, string_bytes, IfOk};
 ghost use Rattle.jc_command_work.specs.Texts.{bad_exec_text, version_start, version_line, other_version_text};
 ghost use Rattle.jc_command_work.specs.Texts.{conflict_start, first_count_text, second_count_text, conflict_text, exec_refusal_text};
 ghost use Rattle.jc_command_work.specs.Texts.{kind_text, placed_text, in_method_text, class_refusal_text, fault_text};
-ghost use Rattle.jc_command_work.specs.Texts.{bad_plan_text, no_entry_text, shared_text};
+ghost use Rattle.jc_command_work.specs.Texts.{bad_plan_text, no_entry_text, ref_refusal_text, shared_text};
 
 use crate::Fault;
 use jc_bytes::{Refusal, RefusalKind};
 use jc_exec::ExecRefusal;
+use jc_refs_check::RefRefusal;
 use std::alloc::{AllocError, Global};
 
 fn bad_exec_text(alloc: Global, file: &str, place: u32) -> Result<String, AllocError>
@@ -178,6 +179,13 @@ fn no_entry_text(alloc: Global, file: &str, line: u32) -> Result<String, AllocEr
     format!(in alloc; "{file}: no entry in line {line}\n")
 }
 
+/// A class with a reference that doesn't suit what takes it, by the first instruction of this kind.
+fn ref_refusal_text(alloc: Global, file: &str, refusal: RefRefusal) -> Result<String, AllocError>
+    ensures { IfOk result (λ text. string_bytes text ≡ ref_refusal_text file.now refusal) }
+{
+    in_method_text(alloc, file, "reference", refusal.method, refusal.at)
+}
+
 /// A file that has its class name, or the id of its probes, in common with another that isn't named.
 fn shared_text(alloc: Global, file: &str, what: &str) -> Result<String, AllocError>
     ensures { IfOk result (λ text. string_bytes text ≡ shared_text file.now what.now) }
@@ -197,5 +205,6 @@ pub fn fault_text(alloc: Global, file: &str, fault: &Fault) -> Result<Vec<u8>, A
         Fault::SameName { .. } => Ok(shared_text(alloc, file, "name")?.into_bytes()),
         Fault::SameId { .. } => Ok(shared_text(alloc, file, "id")?.into_bytes()),
         Fault::NoEntry { line } => Ok(no_entry_text(alloc, file, *line)?.into_bytes()),
+        Fault::Refs { refusal, .. } => Ok(ref_refusal_text(alloc, file, *refusal)?.into_bytes()),
     }
 }

@@ -14,7 +14,7 @@ use std::alloc::{AllocError, Global};
 
 /// What is printed where the words are of no stated form.
 const USAGE: &str =
-    "usage: jcov COMMAND OPTIONS FILE..\ncommands: instrument run merge report execinfo classinfo cover\n";
+    "usage: jcov COMMAND OPTIONS FILE..\ncommands: instrument run merge report execinfo classinfo cover refs lines check\n";
 
 /// Writes a last message. A failure changes nothing else.
 fn say<E: Sink>(err: &mut E, text: &[u8])

@@ -2,8 +2,9 @@
 
 use jc_bytes::Refusal;
 use jc_exec::ExecRefusal;
+use jc_refs_check::RefRefusal;
 
-/// How a run of the tool ended. The exit statuses are 0 to 5 in the order of the variants.
+/// How a run of the tool ended. The exit statuses are 0 to 6 in the order of the variants.
 #[derive(Debug, Drop, PartialEq, Eq)]
 pub enum Status {
     /// All was written.
@@ -18,6 +19,8 @@ pub enum Status {
     WriteFault,
     /// Memory was refused.
     Memory,
+    /// All was written, and a rule doesn't hold.
+    Broken,
 }
 
 /// What is wrong with an input. Class files are counted alone, from 0, in the order in which they are read: neither the
@@ -37,4 +40,6 @@ pub enum Fault {
     SameId { first: u32, second: u32 },
     /// The thread of this line of the run plan has no method to begin with.
     NoEntry { line: u32 },
+    /// A reference doesn't suit what takes it in the class of the file at this index among the class files.
+    Refs { path: u32, refusal: RefRefusal },
 }

@@ -1,5 +1,8 @@
 //! Commands, as they are printed.
-use jc_command_words::{Command, CoverWords, FileWord, ReportWords, RunWords};
+use jc_command_words::{
+    CheckWords, Command, CoverWords, FileWord, LinesWords, ReportWords, RunWords,
+};
+use jc_rules::{CounterKind, Rule};
 use tests_lines::Answer;
 
 /// Puts the files, each behind a space; a folder stands in brackets.
@@ -60,6 +63,43 @@ fn put_cover(words: &CoverWords<'_>, out: &mut Answer) {
     put_files(&words.files, out);
 }
 
+/// The name of a counter.
+fn name_of(counter: CounterKind) -> &'static str {
+    match counter {
+        CounterKind::Instruction => "instruction",
+        CounterKind::Branch => "branch",
+        CounterKind::Line => "line",
+        CounterKind::Complexity => "complexity",
+        CounterKind::Method => "method",
+        CounterKind::Class => "class",
+    }
+}
+
+/// Puts the rules, each behind a space.
+fn put_rules(rules: &[Rule], out: &mut Answer) {
+    out.put(" rules");
+    for rule in rules {
+        out.label(" ", &name_of(rule.counter));
+        out.label(" ", &rule.least);
+        out.label("/", &rule.of);
+    }
+}
+
+/// Puts what the words of `lines` say.
+fn put_lines(words: &LinesWords<'_>, out: &mut Answer) {
+    out.put("lines");
+    put_exec(words.exec, out);
+    put_files(&words.files, out);
+}
+
+/// Puts what the words of `check` say.
+fn put_check(words: &CheckWords<'_>, out: &mut Answer) {
+    out.put("check");
+    put_rules(&words.rules, out);
+    put_exec(words.exec, out);
+    put_files(&words.files, out);
+}
+
 /// Puts a command with what it is given.
 pub fn put_command(command: &Command<'_>, out: &mut Answer) {
     match command {
@@ -83,5 +123,11 @@ pub fn put_command(command: &Command<'_>, out: &mut Answer) {
         }
         Command::Cover(words) => put_cover(words, out),
         Command::CoverSample { methods } => out.label("cover sample ", methods),
+        Command::Refs { files } => {
+            out.put("refs");
+            put_files(files, out);
+        }
+        Command::Lines(words) => put_lines(words, out),
+        Command::Check(words) => put_check(words, out),
     }
 }
