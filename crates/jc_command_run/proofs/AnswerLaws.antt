@@ -33,7 +33,7 @@ record Answers (Is : Answer → Type 0) : Type 0 where
 -- ---- class files
 
 -- each reason ends the command in some way
-some_end : (paths : List Word) (files : List (List ℕ)) (r : LinkRefusal) → IsLinkRefusal files r → (end : End) × EndsAs paths files r end
+pub some_end : (paths : List Word) (files : List (List ℕ)) (r : LinkRefusal) → IsLinkRefusal files r → (end : End) × EndsAs paths files r end
 some_end paths files _ (refused {index = i} {refusal = why} first) = (refusal_of (path_at paths i) (fault.Class i why), refl)
 some_end paths files _ (one_name {first = a} {second = b} names classes are pair) =
     let there = pair.there in
@@ -47,7 +47,7 @@ some_end paths files _ (one_id {first = a} {second = b} names classes are none p
         let own = class_at names files classes are a pair.there.a pair.there.first_is in
         (_, (init.id, record { names = names; bytes = own.0; linked = pair.there.a; init = init; stands = own.1; is = own.2; probes = is; id_is = refl }, refl))
 
-short_files : (paths : List Word) (files : List (List ℕ)) → AreTexts paths files → AllByRecursion IsShortFile files
+pub short_files : (paths : List Word) (files : List (List ℕ)) → AreTexts paths files → AllByRecursion IsShortFile files
 short_files [] [] are = tt
 short_files [] (t ∷ ts) are = absurd are
 short_files (p ∷ ps) [] are = absurd are

@@ -57,7 +57,7 @@ one_ends_as paths files (refusals.SameName first second) e f p q =
 one_ends_as paths files (refusals.SameId first second) e f p q =
     p.2 ∙ ap (λ (n : ℕ). refused (fault.SameId first second) (same_id_text (path_at paths first) (path_at paths second) n)) (one_id files first p.0 q.0 p.1 q.1) ∙ sym q.2
 
-one_link_choice : (paths : List Word) (files : List (List ℕ)) → IsOneChoice (IsRunProgram files) (IsLinkEnd paths files)
+pub one_link_choice : (paths : List Word) (files : List (List ℕ)) → IsOneChoice (IsRunProgram files) (IsLinkEnd paths files)
 one_link_choice paths files = record {
   one = λ x y is is'. is.2 ∙ same_frameless is.0 is'.0 (same_program files is.0 is'.0 is.1 is'.1) ∙ sym is'.2;
   one_end = λ e f ends ends'. one_ends_as paths files ends'.0 e f (subst (λ (r : LinkRefusal). EndsAs paths files r e) (one_refusal files ends.0 ends'.0 ends.1 ends'.1) ends.2) ends'.2;

@@ -29,7 +29,7 @@ same_bodies names others (x ∷ xs) [] same = absurd same
 same_bodies names others (x ∷ xs) (y ∷ ys) same =
     ap₂ (λ (b : Body) (bs : List Body). b ∷ bs) (sym (ap frameless_body same.0.others)) (same_bodies names others xs ys same.1)
 
-same_class : (names others : Names) (a b : Linked) → IsSameLinked names others a b → frameless_class a ≡ frameless_class b
+pub same_class : (names others : Names) (a b : Linked) → IsSameLinked names others a b → frameless_class a ≡ frameless_class b
 same_class names others a b same =
     λ i. record {
       name = sym same.name i;

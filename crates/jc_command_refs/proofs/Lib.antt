@@ -1,0 +1,5 @@
+pub mod AnswerLaws
+pub mod SameProgramLaws
+pub mod SuitedDecidedLaws
+pub mod SomeRefusalLaws
+pub mod OneAnswerLaws
