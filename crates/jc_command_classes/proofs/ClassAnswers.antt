@@ -1,5 +1,5 @@
 -- The answer of each command on class files is one.
-use Rattle.std.proofs.Common.{◌≡◌, ◌⊎◌, inl, inr, ⊎_elim, ℕ, List, ◌++◌, length, map, Option, refl, sym, ◌∙◌, ap, subst}
+use Rattle.std.proofs.Common.{◌≡◌, ◌⊎◌, inl, inr, ⊎_elim, ℕ, List, ◌++◌, length, map, Option, refl, sym, ◌∙◌, ap}
 use Rattle.std.specs.Option.{option_to_list}
 use Rattle.jc_bytes.specs.declared.refusal.Refusal.{Refusal}
 use Rattle.jc_command_work.specs.declared.status.Fault.TheVariants as fault
@@ -13,10 +13,10 @@ use Rattle.jc_command_work.proofs.CauseLaws.{is_refusal}
 use Rattle.jc_command_work.proofs.OneWork.{gives_or_stops}
 use Rattle.jc_command_classes.specs.ClassInfo.{AreListed, RefusedAt, ListAnswers, listed, class_refused}
 use Rattle.jc_command_classes.specs.Instrument.{AreFileWrites, InstrumentAnswers, instrumented}
-use Rattle.jc_command_classes.specs.Report.{ReportAnswers, reported, report_refused, report_clashes}
+use Rattle.jc_command_classes.specs.Report.{IsReport, ReportAnswers}
 use Rattle.jc_command_classes.proofs.InstrumentLaws.{one_writes, some_writes}
 use Rattle.jc_command_classes.proofs.ListingLaws.{one_list, listed_or_refused, one_refusal, some_list}
-use Rattle.jc_command_classes.proofs.ReportAnswerLaws.{ReportAnswer, by_items, by_data, by_clash, one_report_answer, some_report_answer, reported_so, files_behind}
+use Rattle.jc_command_classes.proofs.ReportAnswerLaws.{data_has_one, data_refuses, one_report}
 
 -- ---- classinfo
 
@@ -59,36 +59,11 @@ list_refuses paths texts end is =
 
 -- ---- report
 
-module _ (out name : Word) (exec : Option Word) (paths : List Word) (texts : List (List ℕ)) where
-  report_answer_of : (answer : Answer) → ReportAnswers out name exec paths texts answer → ReportAnswer out name exec paths texts answer
-  report_answer_of answer (reported store items counted union are none count) = reported_so out name exec paths texts store items counted union are none count
-  report_answer_of answer (report_refused index path refusal is) = by_data index path refusal is refl
-  report_answer_of answer (report_clashes path store count items refusal is union are clash) = by_clash path store count items refusal is union are clash refl
-
-  own_report : (end : End) → ReportAnswer out name exec paths texts (stops end) → IsRefusal end
-  own_report end (by_items store items union are none is) = absurd (gives_or_stops _ end (sym is))
-  own_report end (by_data index path refusal are is) = is_refusal path (fault.Exec index refusal) end is
-  own_report end (by_clash path store count items refusal named union are clash is) = is_refusal path (fault.Exec 0 refusal) end is
-
-  some_report : AreTexts (option_to_list exec ++ paths) texts → OneAnswer (ReportAnswers out name exec paths texts)
-  some_report are =
-      let some = some_report_answer out name paths texts exec (files_behind (length (option_to_list exec)) texts (all_files (option_to_list exec ++ paths) texts are)) in
-      of some.0 (over some.0 (report_answer_of some.0 some.1)) some.1
-    where
-      over : (a : Answer) → ReportAnswer out name exec paths texts a → IsOver a
-      over a (by_items store items union all none is) = subst IsOver (sym is) tt
-      over a (by_data index path refusal refused is) = subst IsOver (sym is) tt
-      over a (by_clash path store count items refusal named union all clash is) = subst IsOver (sym is) tt
-
-      of : (a : Answer) → IsOver a → ReportAnswers out name exec paths texts a → OneAnswer (ReportAnswers out name exec paths texts)
-      of a over_a is =
-          record { answer = a; over = over_a; holds = is; only = λ b other. one_report_answer out name exec paths texts b a (report_answer_of b other) (report_answer_of a is) }
-
 pub report_has_one : (out name : Word) (exec : Option Word) (paths : List Word) → HasOneAnswer (option_to_list exec ++ paths) (ReportAnswers out name exec paths)
-report_has_one out name exec paths texts are = some_report out name exec paths texts are
+report_has_one out name exec paths texts are = data_has_one (IsReport out name paths) (one_report out name paths) exec paths texts are
 
 pub report_refuses : (out name : Word) (exec : Option Word) (paths : List Word) (texts : List (List ℕ)) (end : End) → ReportAnswers out name exec paths texts (stops end) → IsRefusal end
-report_refuses out name exec paths texts end is = own_report out name exec paths texts end (report_answer_of out name exec paths texts (stops end) is)
+report_refuses out name exec paths texts end is = data_refuses (IsReport out name paths) exec texts end is
 
 -- ---- instrument
 

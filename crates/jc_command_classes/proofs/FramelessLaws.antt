@@ -6,7 +6,7 @@ use Rattle.jc_bytes.specs.PlainLists.{map_from}
 use Rattle.jc_methods.specs.declared.analysed.Analysed.{Analysed}
 use Rattle.jc_methods.specs.declared.body.Body.{Body}
 use Rattle.jc_methods.specs.declared.insn.Insn.{Insn}
-use Rattle.jc_cover.specs.Counters.{Method, methods_of, is_counted, is_covered, is_covered_method, Lined, lined_insns, line_count, count_of, branching, covered_paths, missed_paths, all_insns, counters_of_methods, counters_of}
+use Rattle.jc_cover.specs.Counters.{Method, methods_of, counted_methods, is_counted, is_covered, is_covered_method, Lined, lined_insns, line_count, count_of, branching, covered_paths, missed_paths, all_insns, counters_of_methods, counters_of}
 use Rattle.jc_cover.specs.Covered.{is_hit, hits_or_none}
 use Rattle.jc_cover.specs.Marking.{with_edge, with_edges, sources, mark_if, mark_back, mark_each, is_hit_at, marks_of, covers_by, covers, body_values, coverage_of}
 use Rattle.jc_cover.specs.declared.coverage.Coverage.{Coverage}
@@ -90,14 +90,14 @@ values_from first other hits same i (b ∷ bodies) =
     ap₂ (λ (v : List (List Bool)) (vs : List (List (List Bool))). v ∷ vs)
     (same_values b (first i) hits ∙ ap (λ (n : ℕ). body_values b n hits) (same i)) (values_from first other hits same (i + 1) bodies)
 
-same_coverage : (bodies : List Body) (hits : List Bool) → coverage_of (map without_frames bodies) hits ≡ coverage_of bodies hits
+pub same_coverage : (bodies : List Body) (hits : List Bool) → coverage_of (map without_frames bodies) hits ≡ coverage_of bodies hits
 same_coverage bodies hits =
     ap (λ (values : List (List (List Bool))). let c : Coverage = record { edges = values } in c)
     (values_from (first_id (map without_frames bodies)) (first_id bodies) hits (same_first bodies) 0 bodies)
 
 -- ---- the counters
 
-abbrev plain : Method → Method
+abbrev pub plain : Method → Method
 plain m = record m { body = without_frames m.body }
 
 plain_methods : (bodies : List Body) (values : List (List (List Bool))) → methods_of (map without_frames bodies) values ≡ map plain (methods_of bodies values)
@@ -140,11 +140,13 @@ plain_counters ms = λ i. record {
   method = record { missed = plain_covered not 0 ms i; covered = plain_covered (λ t. t) 0 ms i };
 }
 
-same_counters : (bodies : List Body) (coverage : Coverage) → counters_of (map without_frames bodies) coverage ≡ counters_of bodies coverage
-same_counters bodies coverage =
-    ap (λ (ms : List Method). counters_of_methods (filter (λ m. is_counted m.body) ms)) (plain_methods bodies coverage.edges)
-    ∙ ap counters_of_methods (plain_counted (methods_of bodies coverage.edges))
-    ∙ plain_counters (filter (λ m. is_counted m.body) (methods_of bodies coverage.edges))
+-- the methods that count are those without frames
+pub plain_counted_methods : (bodies : List Body) (coverage : Coverage) → counted_methods (map without_frames bodies) coverage ≡ map plain (counted_methods bodies coverage)
+plain_counted_methods bodies coverage =
+    ap (λ (ms : List Method). filter (λ m. is_counted m.body) ms) (plain_methods bodies coverage.edges) ∙ plain_counted (methods_of bodies coverage.edges)
+
+pub same_counters : (bodies : List Body) (coverage : Coverage) → counters_of (map without_frames bodies) coverage ≡ counters_of bodies coverage
+same_counters bodies coverage = ap counters_of_methods (plain_counted_methods bodies coverage) ∙ plain_counters (counted_methods bodies coverage)
 
 -- the class with its counters is that without frames
 pub same_counted : (hits : Option (List Bool)) (a : Analysed) → counted_of hits (frameless a) ≡ counted_of hits a

@@ -5,6 +5,7 @@ pub mod MethodLaws
 pub mod FramelessLaws
 pub mod CountedLaws
 pub mod ReportLaws
+pub mod KeptLaws
 pub mod ReportStepLaws
 pub mod ReportRunLaws
 pub mod ReportAnswerLaws

@@ -1,21 +1,18 @@
--- The class files of a report are looked at one after the other.
-use Rattle.std.proofs.Common.{◌≡◌, ◌≢◌, ℕ, zero, suc, ◌+◌, ◌<◌, ◌≤◌, Bool, true, false, not, cond, ◌||◌, List, [], ◌∷◌, ◌++◌, length, take, get_or, map, filter, Option, None, Some, Result, Ok, Err, IfOk, IfErr, Bor, Contains, nat_eq, option_map, refl, sym, ◌∙◌, ap, ap₂, subst, arith}
-use Rattle.std.specs.List.{AllZip, find, list_any}
+-- The class files of a command are looked at one after the other.
+use Rattle.std.proofs.Common.{◌≡◌, ◌≢◌, inl, inr, ℕ, zero, suc, ◌+◌, ◌<◌, ◌≤◌, Bool, true, false, not, cond, List, [], ◌∷◌, ◌++◌, length, get_or, map, filter, Option, None, Some, Result, Ok, Err, IfOk, IfErr, Bor, Contains, nat_eq, option_map, refl, sym, ◌∙◌, ap, ap₂, subst, arith}
+use Rattle.std.specs.List.{AllZip, find}
 use Rattle.std.specs.Map.{lookup}
 use Rattle.std.specs.Option.{option_or, IfSome, IsSomeAnd}
 use Rattle.std.specs.Cmp.{nat_eq_equiv}
 use Rattle.std.proofs.lemmas.Bool.{and_parts, eqb-true, eq-eqb}
 use Rattle.std.specs.Str.{bytes_eq}
-use Rattle.std.proofs.lemmas.List.{append-nil, map-append, take_more, take_all, length-take}
-use Rattle.std.proofs.lemmas.List.Elements.{filter-append}
-use Rattle.std.proofs.lemmas.Slice.Zip.{AllZip-long}
-use Rattle.jc_bytes.specs.FirstSeen.{first_seen, seen_behind}
+use Rattle.std.proofs.lemmas.List.{length-map}
+use Rattle.std.proofs.lemmas.Slice.Zip.{AllZip-map}
 use Rattle.jc_methods.specs.declared.analysed.Analysed.{Analysed}
 use Rattle.jc_methods.specs.declared.body.Body.{Body}
 use Rattle.jc_bytes.specs.declared.fail.Fail.{Fail}
 use Rattle.jc_bytes.specs.declared.fail.Fail.TheVariants as fails
 use Rattle.jc_bytes.specs.declared.refusal.Refusal.{Refusal}
-use Rattle.jc_bytes.proofs.FirstSeenLaws.{seen-append, seen_anew, any_first_seen}
 use Rattle.jc_exec.specs.declared.hits.ClassHits.{ClassHits}
 use Rattle.jc_exec.specs.declared.refusal.ExecRefusal.{ExecRefusal}
 use Rattle.jc_exec.specs.Answers.{conflict_with}
@@ -26,19 +23,19 @@ use Rattle.jc_instrument.specs.LeftAlone.{is_left_alone}
 use Rattle.jc_instrument.specs.Reasons.{AnalysisReason}
 use Rattle.jc_bytes.specs.Failing.{Said}
 use Rattle.jc_report.specs.declared.row.Counted.{Counted}
-use Rattle.jc_command_classes.specs.declared.class_report.Looked.{Looked}
-use Rattle.jc_command_classes.specs.declared.class_report.Seen.{Seen}
-use Rattle.jc_command_classes.specs.declared.class_report.Seen.TheVariants as seens
+use Rattle.jc_command_classes.specs.declared.covered_class.CoveredClass.{CoveredClass}
+use Rattle.jc_command_classes.specs.declared.kept.Kept.{Kept}
+use Rattle.jc_command_classes.specs.declared.kept.Seen.{Seen}
+use Rattle.jc_command_classes.specs.declared.kept.Seen.TheVariants as seens
 use Rattle.jc_command_work.specs.declared.stop.Stop.{Stop}
 use Rattle.jc_command_work.specs.declared.stop.Stop.TheVariants as stops
-use Rattle.jc_command_work.specs.Seen.{write_seen}
-use Rattle.jc_command_classes.specs.Report.{frameless, ReportedFile, refused_class, unchanged_class, changed_class, IsItem, is_refused, is_unchanged, is_changed, AreItems, lines_of, changed_of}
-use Rattle.jc_command_classes.specs.Report.{record_of, clash_with, clash_of, first_clash, first_of_each_id}
-use Rattle.jc_command_classes.specs.ReportSteps.{counted_by, counted_classes, StopsAtClash, seen_as, IsSeen, SeesClass, ClassClashes, FileClashes, IsLooked, KeepsRefused, unless_known, Keeps}
-use Rattle.jc_command_classes.specs.ReportSteps.{IsReportOf, LooksOn, LooksAtAll, FrontClashes}
+use Rattle.jc_command_classes.specs.Kept.{refused_lines, changes_of, first_of_each, KeepsAll, StopsFirst}
 use Rattle.jc_command_classes.specs.Lines.{refused_line}
-use Rattle.jc_command_work.specs.Step.{Word, Write, to_err}
-use Rattle.jc_command_classes.proofs.EachLaws.{zipped_at, AtPlace}
+use Rattle.jc_command_classes.specs.Report.{frameless, ReportedFile, refused_class, unchanged_class, changed_class, IsItem, is_refused, is_unchanged, is_changed, AreItems, lines_of, changed_of}
+use Rattle.jc_command_classes.specs.Report.{record_of, clash_with, clash_of, first_clash, first_of_each_id, counted_with}
+use Rattle.jc_command_classes.specs.ReportSteps.{counted_by, covered_class, IsCoveredClass, IsCountedBy, StopsAtClash, IsSeenAs, IsSeen, SeesClass, ClassClashes, FileClashes, IsLooked}
+use Rattle.jc_command_classes.specs.ReportSteps.{LooksAs, LooksAtAll, FrontClashes}
+use Rattle.jc_command_work.specs.Step.{Word, to_err}
 use Rattle.jc_command_classes.proofs.FramelessLaws.{same_counted}
 use Rattle.jc_command_classes.proofs.ReportLaws.{left_alone_has_none, changed_has_some}
 
@@ -115,179 +112,6 @@ same_bits_count o None n is many = tt
 same_bits_count None (Some b) n is many = absurd cc
 same_bits_count (Some c) (Some b) n is many = let same : b.now ≡ c.bits = cc in ap length same ∙ many
 
--- ---- one item more
-
-lines_more : (ps : List Word) (items : List ReportedFile) (p : Word) (item : ReportedFile) → length ps ≡ length items
-    → lines_of (ps ++ p ∷ []) (items ++ item ∷ []) ≡ lines_of ps items ++ lines_of (p ∷ []) (item ∷ [])
-lines_more [] [] p item same = refl
-lines_more [] (i ∷ items) p item same = absurd (omega (arith, same))
-lines_more (q ∷ ps) [] p item same = absurd (omega (arith, same))
-lines_more (q ∷ ps) (refused_class why ∷ items) p item same =
-    ap (λ (ls : List (List ℕ)). refused_line q why ∷ ls) (lines_more ps items p item (omega (arith, same)))
-lines_more (q ∷ ps) (unchanged_class ∷ items) p item same = lines_more ps items p item (omega (arith, same))
-lines_more (q ∷ ps) (changed_class a ∷ items) p item same = lines_more ps items p item (omega (arith, same))
-
-changed_more : (xs ys : List ReportedFile) → changed_of (xs ++ ys) ≡ changed_of xs ++ changed_of ys
-changed_more [] ys = refl
-changed_more (refused_class why ∷ xs) ys = changed_more xs ys
-changed_more (unchanged_class ∷ xs) ys = changed_more xs ys
-changed_more (changed_class a ∷ xs) ys = ap (λ (l : List Analysed). a ∷ l) (changed_more xs ys)
-
-clash_more : (records : List ClassHits) (xs ys : List ReportedFile) → first_clash records (xs ++ ys) ≡ option_or (first_clash records xs) (first_clash records ys)
-clash_more records [] ys = refl
-clash_more records (x ∷ xs) ys = by (clash_of records x) (clash_more records xs ys)
-  where
-    by : (o : Option ExecRefusal) → first_clash records (xs ++ ys) ≡ option_or (first_clash records xs) (first_clash records ys)
-        → option_or o (first_clash records (xs ++ ys)) ≡ option_or (option_or o (first_clash records xs)) (first_clash records ys)
-    by None rest = rest
-    by (Some r) rest = refl
-
-pub clash_behind : (records : List ClassHits) (xs : List ReportedFile) (item : ReportedFile) (o : Option ExecRefusal) → first_clash records xs ≡ None → clash_of records item ≡ o
-    → first_clash records (xs ++ item ∷ []) ≡ o
-clash_behind records xs item o none is = clash_more records xs (item ∷ []) ∙ rw none (last (clash_of records item) ∙ is)
-  where
-    last : (p : Option ExecRefusal) → option_or p None ≡ p
-    last None = refl
-    last (Some r) = refl
-
-pub items_more : (ts : List (List ℕ)) (items : List ReportedFile) (t : List ℕ) (item : ReportedFile) → AreItems ts items → IsItem t item → AreItems (ts ++ t ∷ []) (items ++ item ∷ [])
-items_more [] [] t item are is = (is, tt)
-items_more [] (i ∷ items) t item are is = absurd are
-items_more (u ∷ ts) [] t item are is = absurd are
-items_more (u ∷ ts) (i ∷ items) t item are is = (are.0, items_more ts items t item are.1 is)
-
-pub as_many_items : (ts : List (List ℕ)) (items : List ReportedFile) → AreItems ts items → length ts ≡ length items
-as_many_items [] [] are = refl
-as_many_items [] (i ∷ items) are = absurd are
-as_many_items (t ∷ ts) [] are = absurd are
-as_many_items (t ∷ ts) (i ∷ items) are = let rest = as_many_items ts items are.1 in omega (arith, rest)
-
--- ---- one changed class more
-
-abbrev ids : List Analysed → List ℕ
-ids classes = map (λ a. a.id) classes
-
-pushed : (x a : Analysed) (fs : List Analysed) (k t : Bool) → nat_eq x.id a.id ≡ t
-    → (x ∷ filter (λ b. not (nat_eq x.id b.id)) (unless_known k fs a)) ≡ unless_known (t || k) (x ∷ filter (λ b. not (nat_eq x.id b.id)) fs) a
-pushed x a fs true true is = refl
-pushed x a fs true false is = refl
-pushed x a fs false true is =
-    ap (λ (l : List Analysed). x ∷ l) (filter-append (λ b. not (nat_eq x.id b.id)) fs (a ∷ []) ∙ rw is (append-nil (filter (λ b. not (nat_eq x.id b.id)) fs)))
-pushed x a fs false false is = ap (λ (l : List Analysed). x ∷ l) (filter-append (λ b. not (nat_eq x.id b.id)) fs (a ∷ []) ∙ rw is refl)
-
-first_more : (xs : List Analysed) (a : Analysed) → first_of_each_id (xs ++ a ∷ []) ≡ unless_known (list_any (nat_eq a.id) (ids xs)) (first_of_each_id xs) a
-first_more [] a = refl
-first_more (x ∷ xs) a =
-    ap (λ (l : List Analysed). x ∷ filter (λ b. not (nat_eq x.id b.id)) l) (first_more xs a)
-    ∙ pushed x a (first_of_each_id xs) (list_any (nat_eq a.id) (ids xs)) (nat_eq a.id x.id) (nat_eq_equiv.symm x.id a.id)
-
-ids_more : (xs : List Analysed) (a : Analysed)
-    → first_seen (ids (xs ++ a ∷ [])) ≡ unless_known (list_any (nat_eq a.id) (first_seen (ids xs))) (first_seen (ids xs)) a.id
-ids_more xs a =
-    ap first_seen (map-append (λ (b : Analysed). b.id) xs (a ∷ []))
-    ∙ sym (seen_anew (ids xs ++ a.id ∷ []))
-    ∙ seen-append [] (ids xs) (a.id ∷ [])
-    ∙ ap (λ (l : List ℕ). seen_behind l (a.id ∷ [])) (seen_anew (ids xs))
-
-map_unless : (records : List ClassHits) (k : Bool) (xs : List Analysed) (a : Analysed)
-    → map (counted_by records) (unless_known k xs a) ≡ unless_known k (map (counted_by records) xs) (counted_by records a)
-map_unless records true xs a = refl
-map_unless records false xs a = map-append (counted_by records) xs (a ∷ [])
-
-same_by : (records : List ClassHits) (a : Analysed) → counted_by records (frameless a) ≡ counted_by records a
-same_by records a = same_counted (option_map (λ r. r.bits) (record_of records a.id)) a
-
--- ---- one class file more
-
-module _ (records : List ClassHits) (path : Word) (bytes : List ℕ) (old new : Looked) where
-  -- an item that is no changed class leaves the classes
-  no_class : (items : List ReportedFile) (item : ReportedFile) → changed_of (item ∷ []) ≡ [] → changed_of (items ++ item ∷ []) ≡ changed_of items
-  no_class items item none = changed_more items (item ∷ []) ∙ ap (λ (l : List Analysed). changed_of items ++ l) none ∙ append-nil (changed_of items)
-
-  looks_refused : (why : Refusal) → IsItem bytes (refused_class why) → KeepsRefused path why old new → LooksOn records path bytes old new
-  looks_refused why is keeps = λ paths items same so_far.
-      let stay : changed_of items ≡ changed_of (items ++ refused_class why ∷ []) = sym (no_class items (refused_class why) refl) in (
-        refused_class why,
-        is,
-        refl,
-        record {
-          lines =
-              keeps.lines ∙ ap (λ (ws : List Write). ws ++ to_err (refused_line path why) ∷ []) so_far.lines
-              ∙ sym (map-append to_err (lines_of paths items) (refused_line path why ∷ []))
-              ∙ ap (map to_err) (sym (lines_more paths items path (refused_class why) same));
-          classes = keeps.classes ∙ so_far.classes ∙ ap (λ (cs : List Analysed). map (counted_by records) (first_of_each_id cs)) stay;
-          ids = keeps.ids ∙ so_far.ids ∙ ap (λ (cs : List Analysed). first_seen (ids cs)) stay;
-        },
-      )
-
-  looks_unchanged : IsItem bytes unchanged_class → new ≡ old → LooksOn records path bytes old new
-  looks_unchanged is same_looked = λ paths items same so_far.
-      let stay : changed_of items ≡ changed_of (items ++ unchanged_class ∷ []) = sym (no_class items unchanged_class refl) in (
-        unchanged_class,
-        is,
-        refl,
-        record {
-          lines =
-              ap (λ (l : Looked). map write_seen l.lines.items) same_looked ∙ so_far.lines
-              ∙ ap (map to_err) (sym (lines_more paths items path unchanged_class same ∙ append-nil (lines_of paths items)));
-          classes =
-              ap (λ (l : Looked). l.classes.items) same_looked ∙ so_far.classes
-              ∙ ap (λ (cs : List Analysed). map (counted_by records) (first_of_each_id cs)) stay;
-          ids = ap (λ (l : Looked). l.ids.keys) same_looked ∙ so_far.ids ∙ ap (λ (cs : List Analysed). first_seen (ids cs)) stay;
-        },
-      )
-
-  looks_changed : (a : Analysed) → IsItem bytes (changed_class a) → clash_of records (changed_class a) ≡ None → Keeps (counted_by records a) old new
-      → LooksOn records path bytes old new
-  looks_changed a is fits keeps = λ paths items same so_far.
-      let classes = changed_of items in
-      let more : changed_of (items ++ changed_class a ∷ []) ≡ classes ++ a ∷ [] = changed_more items (changed_class a ∷ []) in
-      let known : list_any (nat_eq a.id) old.ids.keys ≡ list_any (nat_eq a.id) (first_seen (ids classes)) = ap (list_any (nat_eq a.id)) so_far.ids in (
-        changed_class a,
-        is,
-        fits,
-        record {
-          lines =
-              ap (map write_seen) keeps.lines ∙ so_far.lines
-              ∙ ap (map to_err) (sym (lines_more paths items path (changed_class a) same ∙ append-nil (lines_of paths items)));
-          classes =
-              keeps.classes
-              ∙ (λ i. unless_known (known i) (so_far.classes i) (counted_by records a))
-              ∙ ap (λ (k : Bool). unless_known k (counted_classes records items) (counted_by records a)) (any_first_seen (ids classes) a.id)
-              ∙ sym (map_unless records (list_any (nat_eq a.id) (ids classes)) (first_of_each_id classes) a)
-              ∙ ap (map (counted_by records)) (sym (first_more classes a))
-              ∙ ap (λ (cs : List Analysed). map (counted_by records) (first_of_each_id cs)) (sym more);
-          ids =
-              keeps.ids ∙ (λ i. unless_known (known i) (so_far.ids i) a.id) ∙ sym (ap (λ (cs : List Analysed). first_seen (ids cs)) more ∙ ids_more classes a);
-        },
-      )
-
-  pub seen_refused : (why : Refusal) → IsSeen records bytes (seens.Refused why) → KeepsRefused path why old new → LooksOn records path bytes old new
-  seen_refused why seen keeps = by seen.item seen.is seen.kept
-    where
-      by : (item : ReportedFile) → IsItem bytes item → seens.Refused why ≡ seen_as records item → LooksOn records path bytes old new
-      by (refused_class other) is kept =
-          let same : other ≡ why = cc in looks_refused why (subst (λ (r : Refusal). IsItem bytes (refused_class r)) same is) keeps
-      by unchanged_class is kept = absurd cc
-      by (changed_class a) is kept = absurd cc
-
-  pub seen_unchanged : IsSeen records bytes seens.Unchanged → new ≡ old → LooksOn records path bytes old new
-  seen_unchanged seen keeps = by seen.item seen.is seen.kept
-    where
-      by : (item : ReportedFile) → IsItem bytes item → seens.Unchanged ≡ seen_as records item → LooksOn records path bytes old new
-      by (refused_class why) is kept = absurd cc
-      by unchanged_class is kept = looks_unchanged is keeps
-      by (changed_class a) is kept = absurd cc
-
-  pub seen_changed : (c : Counted) → IsSeen records bytes (seens.Changed c) → Keeps c old new → LooksOn records path bytes old new
-  seen_changed c seen keeps = by seen.item seen.is seen.fits seen.kept
-    where
-      by : (item : ReportedFile) → IsItem bytes item → clash_of records item ≡ None → seens.Changed c ≡ seen_as records item → LooksOn records path bytes old new
-      by (refused_class why) is fits kept = absurd cc
-      by unchanged_class is fits kept = absurd cc
-      by (changed_class a) is fits kept =
-          let same : c ≡ counted_by records a = cc in looks_changed a is fits (subst (λ (d : Counted). Keeps d old new) same keeps)
-
 -- ---- clashes
 
 class_clashes : (records : List ClassHits) (a : Analysed) (bodies : List Body) (refusal : ExecRefusal) → ClassClashes records a bodies refusal
@@ -295,7 +119,7 @@ class_clashes : (records : List ClassHits) (a : Analysed) (bodies : List Body) (
 class_clashes records a [] refusal clash = absurd clash
 class_clashes records a (b ∷ bodies) refusal clash = ((λ e. cc), clash)
 
-pub file_clashes : (records : List ClassHits) (bytes : List ℕ) (a : Analysed) → IsAnalysis bytes a → (refusal : ExecRefusal)
+file_clashes : (records : List ClassHits) (bytes : List ℕ) (a : Analysed) → IsAnalysis bytes a → (refusal : ExecRefusal)
     → ClassClashes records a a.bodies refusal → FileClashes records bytes refusal
 file_clashes records bytes a is refusal clash = by (is_left_alone is.file) refl
   where
@@ -303,25 +127,8 @@ file_clashes records bytes a is refusal clash = by (is_left_alone is.file) refl
     by true alone = absurd ((class_clashes records a a.bodies refusal clash).0 (left_alone_has_none bytes a is alone))
     by false code = (changed_class (frameless a), is_changed a is code, (class_clashes records a a.bodies refusal clash).1)
 
--- what is seen of a class is what is seen of its class file
-sees_class : (records : List ClassHits) (bytes : List ℕ) (a : Analysed) → IsAnalysis bytes a → (seen : Seen) → SeesClass records a a.bodies seen → IsSeen records bytes seen
-sees_class records bytes a is seen sees = by (is_left_alone is.file) refl
-  where
-    by_bodies : (bodies : List Body) → bodies ≢ [] → SeesClass records a bodies seen
-        → (clash_with a (record_of records a.id) ≡ None) × (seen ≡ seens.Changed (counted_by records a))
-    by_bodies [] some sees = absurd (some refl)
-    by_bodies (b ∷ bodies) some sees = sees
-
-    by : (t : Bool) → is_left_alone is.file ≡ t → IsSeen records bytes seen
-    by true alone =
-        let none = subst (λ (bs : List Body). SeesClass records a bs seen) (left_alone_has_none bytes a is alone) sees in
-        record { item = unchanged_class; is = is_unchanged a is alone; fits = refl; kept = none }
-    by false code =
-        let both = by_bodies a.bodies (changed_has_some bytes a is code) sees in
-        record { item = changed_class (frameless a); is = is_changed a is code; fits = both.0; kept = both.1 ∙ ap seens.Changed (sym (same_by records a)) }
-
 -- a clash stops for whatever follows from it
-pub stops_for : (path : Option Word) (P Q : ExecRefusal → Type 0) → ((r : ExecRefusal) → P r → Q r) → (stop : Stop) → StopsAtClash path P stop → StopsAtClash path Q stop
+stops_for : (path : Option Word) (P Q : ExecRefusal → Type 0) → ((r : ExecRefusal) → P r → Q r) → (stop : Stop) → StopsAtClash path P stop → StopsAtClash path Q stop
 stops_for path P Q f stops.Memory stop = tt
 stops_for path P Q f (stops.Refused file fault) stop = (stop.0, stop.1, stop.2, f stop.0 stop.3)
 stops_for path P Q f (stops.Read p) stop = absurd stop
@@ -329,87 +136,278 @@ stops_for path P Q f (stops.Write p) stop = absurd stop
 stops_for path P Q f stops.Output stop = absurd stop
 stops_for path P Q f (stops.Clash fault line) stop = absurd stop
 
-pub looked_class : (records : List ClassHits) (path : Option Word) (bytes : List ℕ) (a : Analysed) → IsAnalysis bytes a → (r : Result Seen Stop)
-    → IfOk r (SeesClass records a a.bodies) → IfErr r (StopsAtClash path (ClassClashes records a a.bodies)) → IsLooked records path bytes r
+-- ---- one class file
+
+-- what is seen of a class is what is seen of its class file
+sees_class : (records : List ClassHits) (bytes : List ℕ) (a : Analysed) → IsAnalysis bytes a → (seen : Seen CoveredClass) → SeesClass records a a.bodies seen
+    → IsSeen (IsCoveredClass records) records bytes seen
+sees_class records bytes a is seen sees = by (is_left_alone is.file) refl
+  where
+    by_bodies : (bodies : List Body) → bodies ≢ [] → SeesClass records a bodies seen
+        → (clash_with a (record_of records a.id) ≡ None) × (seen ≡ seens.Changed a.id (covered_class records a))
+    by_bodies [] some sees = absurd (some refl)
+    by_bodies (b ∷ bodies) some sees = sees
+
+    by : (t : Bool) → is_left_alone is.file ≡ t → IsSeen (IsCoveredClass records) records bytes seen
+    by true alone =
+        let none = subst (λ (bs : List Body). SeesClass records a bs seen) (left_alone_has_none bytes a is alone) sees in
+        record { item = unchanged_class; is = is_unchanged a is alone; fits = refl; as_is = subst (IsSeenAs (IsCoveredClass records) unchanged_class) (sym none) tt }
+    by false code =
+        let both = by_bodies a.bodies (changed_has_some bytes a is code) sees in
+        record {
+          item = changed_class (frameless a);
+          is = is_changed a is code;
+          fits = both.0;
+          as_is = subst (IsSeenAs (IsCoveredClass records) (changed_class (frameless a))) (sym both.1) (refl, (refl, refl));
+        }
+
+pub looked_class : (records : List ClassHits) (path : Option Word) (bytes : List ℕ) (a : Analysed) → IsAnalysis bytes a → (r : Result (Seen CoveredClass) Stop)
+    → IfOk r (SeesClass records a a.bodies) → IfErr r (StopsAtClash path (ClassClashes records a a.bodies)) → IsLooked (IsCoveredClass records) records path bytes r
 looked_class records path bytes a is (Ok seen) sees clash = sees_class records bytes a is seen sees
 looked_class records path bytes a is (Err stop) sees clash =
     stops_for path (ClassClashes records a a.bodies) (FileClashes records bytes) (file_clashes records bytes a is) stop clash
 
-pub looked_refused : (records : List ClassHits) (bytes : List ℕ) (why : Refusal) → AnalysisReason bytes (Some why) → IsSeen records bytes (seens.Refused why)
-looked_refused records bytes why reason = record { item = refused_class why; is = is_refused why reason; fits = refl; kept = refl }
+pub looked_refused : {X : Type 0} (Made : Analysed → X → Type 0) (records : List ClassHits) (bytes : List ℕ) (why : Refusal) → AnalysisReason bytes (Some why)
+    → IsSeen Made records bytes (seens.Refused why)
+looked_refused Made records bytes why reason = record { item = refused_class why; is = is_refused why reason; fits = refl; as_is = refl }
+
+-- what was made is made into something else
+module _ {X Y : Type 0} (Made : Analysed → X → Type 0) (New : Analysed → Y → Type 0) (records : List ClassHits) (bytes : List ℕ) where
+  pub seen_refused : (why : Refusal) → IsSeen Made records bytes (seens.Refused why) → IsSeen New records bytes (seens.Refused why)
+  seen_refused why seen = by seen.item seen.is seen.fits seen.as_is
+    where
+      by : (item : ReportedFile) → IsItem bytes item → clash_of records item ≡ None → IsSeenAs Made item (seens.Refused why) → IsSeen New records bytes (seens.Refused why)
+      by (refused_class other) is fits as_is = record { item = refused_class other; is = is; fits = fits; as_is = as_is }
+      by unchanged_class is fits as_is = absurd as_is
+      by (changed_class a) is fits as_is = absurd as_is
+
+  pub seen_unchanged : IsSeen Made records bytes seens.Unchanged → IsSeen New records bytes seens.Unchanged
+  seen_unchanged seen = by seen.item seen.is seen.fits seen.as_is
+    where
+      by : (item : ReportedFile) → IsItem bytes item → clash_of records item ≡ None → IsSeenAs Made item seens.Unchanged → IsSeen New records bytes seens.Unchanged
+      by (refused_class other) is fits as_is = absurd as_is
+      by unchanged_class is fits as_is = record { item = unchanged_class; is = is; fits = fits; as_is = tt }
+      by (changed_class a) is fits as_is = absurd as_is
+
+  pub seen_changed : (id : ℕ) (x : X) (y : Y) → ((a : Analysed) → Made a x → New a y) → IsSeen Made records bytes (seens.Changed id x)
+      → IsSeen New records bytes (seens.Changed id y)
+  seen_changed id x y f seen = by seen.item seen.is seen.fits seen.as_is
+    where
+      by : (item : ReportedFile) → IsItem bytes item → clash_of records item ≡ None → IsSeenAs Made item (seens.Changed id x)
+          → IsSeen New records bytes (seens.Changed id y)
+      by (refused_class other) is fits as_is = absurd as_is
+      by unchanged_class is fits as_is = absurd as_is
+      by (changed_class a) is fits as_is = record { item = changed_class a; is = is; fits = fits; as_is = (as_is.0, f a as_is.1) }
+
+-- the counters of a class with its coverage are those of the class without frames
+pub counted_from : (records : List ClassHits) (a : Analysed) (c : CoveredClass) (counted : Counted) → IsCoveredClass records a c
+    → counted ≡ counted_with c.class c.coverage → IsCountedBy records a counted
+counted_from records a c counted covered is =
+    is
+    ∙ ap (λ (d : CoveredClass). counted_with c.class d.coverage) covered.1
+    ∙ sym (same_counted (option_map (λ r. r.bits) (record_of records c.class.id)) c.class)
+    ∙ ap (counted_by records) (sym covered.0)
 
 -- ---- all class files
 
--- those so far were looked at, and none clashes
-pub record Looking (records : List ClassHits) (paths : List Word) (texts : List (List ℕ)) (looked : Looked) : Type 0 where
-  pub items : List ReportedFile
-  pub are : AreItems texts items
-  pub none : first_clash records items ≡ None
-  pub report : IsReportOf records paths items looked
+module _ {X : Type 0} (Made : Analysed → X → Type 0) (records : List ClassHits) where
+  abbrev Change : Analysed → ℕ × X → Type 0
+  Change a c = (c.0 ≡ a.id) × Made a c.1
 
-pub looking_none : (records : List ClassHits) (paths : List Word) (texts : List (List ℕ)) (looked : Looked) → looked.lines.items ≡ [] → looked.classes.items ≡ []
-    → looked.ids.keys ≡ [] → Looking records (take 0 paths) (take 0 texts) looked
-looking_none records paths texts looked lines classes keys =
-    record { items = []; are = tt; none = refl; report = record { lines = ap (map write_seen) lines; classes = classes; ids = keys } }
+  -- none of the class files clashes, and this was seen of them
+  record AreSeen (texts : List (List ℕ)) (seen : List (Seen X)) : Type 0 where
+    items : List ReportedFile
+    are : AreItems texts items
+    none : first_clash records items ≡ None
+    lines : (paths : List Word) → lines_of paths items ≡ refused_lines paths seen
+    changes : AllZip Change (changed_of items) (changes_of seen)
 
-module _ (records : List ClassHits) (paths : List Word) (texts : List (List ℕ)) (i : ℕ) (t : List ℕ) (old : Looked)
-    (same : length texts ≡ length paths) (within : i < length texts) (text : t ≡ get_or texts i t)
-    (so_far : Looking records (take i paths) (take i texts) old) where
-  longer : take (i + 1) texts ≡ take i texts ++ t ∷ []
-  longer = take_more texts i t within ∙ ap (λ (u : List ℕ). take i texts ++ u ∷ []) (sym text)
+  seen_put : (t : List ℕ) (ts : List (List ℕ)) (item : ReportedFile) (s : Seen X) (seen : List (Seen X)) → IsItem t item → clash_of records item ≡ None
+      → IsSeenAs Made item s → AreSeen ts seen → AreSeen (t ∷ ts) (s ∷ seen)
+  seen_put t ts (refused_class why) (seens.Refused said) seen is fits as_is rest = record {
+    items = refused_class why ∷ rest.items;
+    are = (is, rest.are);
+    none = rest.none;
+    lines = lines;
+    changes = rest.changes;
+  }
+    where
+      lines : (paths : List Word) → lines_of paths (refused_class why ∷ rest.items) ≡ refused_lines paths (seens.Refused said ∷ seen)
+      lines [] = refl
+      lines (p ∷ ps) = ap₂ (λ (w : Refusal) (ls : List (List ℕ)). refused_line p w ∷ ls) (sym as_is) (rest.lines ps)
+  seen_put t ts (refused_class why) seens.Unchanged seen is fits as_is rest = absurd as_is
+  seen_put t ts (refused_class why) (seens.Changed id made) seen is fits as_is rest = absurd as_is
+  seen_put t ts unchanged_class (seens.Refused said) seen is fits as_is rest = absurd as_is
+  seen_put t ts unchanged_class seens.Unchanged seen is fits as_is rest = record {
+    items = unchanged_class ∷ rest.items;
+    are = (is, rest.are);
+    none = rest.none;
+    lines = lines;
+    changes = rest.changes;
+  }
+    where
+      lines : (paths : List Word) → lines_of paths (unchanged_class ∷ rest.items) ≡ refused_lines paths (seens.Unchanged ∷ seen)
+      lines [] = refl
+      lines (p ∷ ps) = rest.lines ps
+  seen_put t ts unchanged_class (seens.Changed id made) seen is fits as_is rest = absurd as_is
+  seen_put t ts (changed_class a) (seens.Refused said) seen is fits as_is rest = absurd as_is
+  seen_put t ts (changed_class a) seens.Unchanged seen is fits as_is rest = absurd as_is
+  seen_put t ts (changed_class a) (seens.Changed id made) seen is fits as_is rest = record {
+    items = changed_class a ∷ rest.items;
+    are = (is, rest.are);
+    none = ap (λ (o : Option ExecRefusal). option_or o (first_clash records rest.items)) fits ∙ rest.none;
+    lines = lines;
+    changes = (as_is, rest.changes);
+  }
+    where
+      lines : (paths : List Word) → lines_of paths (changed_class a ∷ rest.items) ≡ refused_lines paths (seens.Changed id made ∷ seen)
+      lines [] = refl
+      lines (p ∷ ps) = rest.lines ps
 
-  looking_on : (path : Word) (new : Looked) → path ≡ get_or paths i [] → LooksOn records path t old new → Looking records (take (i + 1) paths) (take (i + 1) texts) new
-  looking_on path new path_is looks =
-      let many = as_many_items (take i texts) so_far.items so_far.are in
-      let short : length (take i paths) ≡ length so_far.items = omega (arith, length-take i paths, length-take i texts, many, same) in
-      let step = looks (take i paths) so_far.items short so_far.report in
-      let more : take (i + 1) paths ≡ take i paths ++ path ∷ [] =
-      take_more paths i [] (omega (arith, same, within)) ∙ ap (λ (p : Word). take i paths ++ p ∷ []) (sym path_is) in
-      record {
-        items = so_far.items ++ step.0 ∷ [];
-        are =
-            subst (λ (ts : List (List ℕ)). AreItems ts (so_far.items ++ step.0 ∷ [])) (sym longer)
-            (items_more (take i texts) so_far.items t step.0 so_far.are step.1);
-        none = clash_behind records so_far.items step.0 None so_far.none step.2;
-        report = subst (λ (ps : List Word). IsReportOf records ps (so_far.items ++ step.0 ∷ []) new) (sym more) step.3;
-      }
+  no_lines : (paths : List Word) → lines_of paths [] ≡ refused_lines {X = X} paths []
+  no_lines [] = refl
+  no_lines (p ∷ ps) = refl
 
-  front_clashes : (refusal : ExecRefusal) → FileClashes records t refusal → FrontClashes records texts refusal
-  front_clashes refusal clash = (
-    i + 1,
-    so_far.items ++ clash.0 ∷ [],
-    subst (λ (ts : List (List ℕ)). AreItems ts (so_far.items ++ clash.0 ∷ [])) (sym longer)
-        (items_more (take i texts) so_far.items t clash.0 so_far.are clash.1),
-    clash_behind records so_far.items clash.0 (Some refusal) so_far.none clash.2,
+  all_seen : (path : Option Word) (texts : List (List ℕ)) (seen : List (Seen X)) → AllZip (IsLooked Made records path) texts (map Ok seen) → AreSeen texts seen
+  all_seen path [] [] zip = record { items = []; are = tt; none = refl; lines = no_lines; changes = tt }
+  all_seen path [] (s ∷ seen) zip = absurd zip
+  all_seen path (t ∷ ts) [] zip = absurd zip
+  all_seen path (t ∷ ts) (s ∷ seen) zip = seen_put t ts zip.0.item s seen zip.0.is zip.0.fits zip.0.as_is (all_seen path ts seen zip.1)
+
+  -- ---- the first of each id
+
+  same_test : (a b : Analysed) (c d : ℕ × X) → Change a c → Change b d → not (nat_eq a.id b.id) ≡ not (nat_eq c.0 d.0)
+  same_test a b c d x y = ap₂ (λ (m n : ℕ). not (nat_eq m n)) (sym x.0) (sym y.0)
+
+  filtered : (p : Analysed → Bool) (q : ℕ × X → Bool) → ((a : Analysed) (c : ℕ × X) → Change a c → p a ≡ q c)
+      → (classes : List Analysed) (changes : List (ℕ × X)) → AllZip Change classes changes → AllZip Change (filter p classes) (filter q changes)
+  filtered p q same [] [] zip = tt
+  filtered p q same [] (c ∷ changes) zip = absurd zip
+  filtered p q same (a ∷ classes) [] zip = absurd zip
+  filtered p q same (a ∷ classes) (c ∷ changes) zip = by (p a) (q c) (same a c zip.0) (filtered p q same classes changes zip.1)
+    where
+      by : (t u : Bool) → t ≡ u → AllZip Change (filter p classes) (filter q changes)
+          → AllZip Change (cond t (a ∷ filter p classes) (filter p classes)) (cond u (c ∷ filter q changes) (filter q changes))
+      by true true e rest = (zip.0, rest)
+      by true false e rest = absurd cc
+      by false true e rest = absurd cc
+      by false false e rest = rest
+
+  firsts : (classes : List Analysed) (changes : List (ℕ × X)) → AllZip Change classes changes → AllZip Change (first_of_each_id classes) (first_of_each changes)
+  firsts [] [] zip = tt
+  firsts [] (c ∷ changes) zip = absurd zip
+  firsts (a ∷ classes) [] zip = absurd zip
+  firsts (a ∷ classes) (c ∷ changes) zip = (
+    zip.0,
+    filtered (λ b. not (nat_eq a.id b.id)) (λ d. not (nat_eq c.0 d.0)) (λ b d x. same_test a b c d zip.0 x)
+        (first_of_each_id classes) (first_of_each changes) (firsts classes changes zip.1),
   )
 
-module _ (records : List ClassHits) (data_path : Option Word) (paths : List Word) (texts : List (List ℕ))
-    (answers : List (Result Seen Stop)) (are : AllZip (IsLooked records data_path) texts answers) (n index : ℕ) (answer : Result Seen Stop)
-    (old : Looked) (same : length texts ≡ length paths) (place : AtPlace answers n index answer)
-    (so_far : Looking records (take n paths) (take n texts) old) where
-  own : (t : List ℕ) × (t ≡ get_or texts n t) × IsLooked records data_path t answer
-  own = zipped_at (IsLooked records data_path) texts answers n answer are place.within place.at
+  what_made : (classes : List Analysed) (changes : List (ℕ × X)) → AllZip Change classes changes → AllZip Made classes (map (λ c. c.1) changes)
+  what_made [] [] zip = tt
+  what_made [] (c ∷ changes) zip = absurd zip
+  what_made (a ∷ classes) [] zip = absurd zip
+  what_made (a ∷ classes) (c ∷ changes) zip = (zip.0.1, what_made classes changes zip.1)
 
-  within : n < length texts
-  within = let long = AllZip-long (IsLooked records data_path) texts answers are in omega (arith, place.within, long)
+  -- ---- the command goes on, or stops
 
-  pub looked_on : (seen : Seen) (path : Word) (new : Looked) → answer ≡ Ok seen → path ≡ get_or paths index []
-      → ((bytes : Word) → IsSeen records bytes seen → LooksOn records path bytes old new) → Looking records (take (n + 1) paths) (take (n + 1) texts) new
-  looked_on seen path new is path_is looks =
-      let at : path ≡ get_or paths n [] = path_is ∙ ap (λ (k : ℕ). get_or paths k []) place.index_is in
-      let seen_is = subst (IsLooked records data_path own.0) is own.2 in
-      looking_on records paths texts n own.0 old same within own.1 so_far path new at (looks own.0 seen_is)
+  module _ (path : Option Word) (paths : List Word) (texts : List (List ℕ)) (answers : List (Result (Seen X) Stop)) (zip : AllZip (IsLooked Made records path) texts answers) where
+    pub looks_as : (kept : Kept X) → KeepsAll paths answers kept → LooksAs Made records paths texts kept
+    looks_as kept (seen, are, kept_of) =
+        let all = all_seen path texts seen (subst (λ (l : List (Result (Seen X) Stop)). AllZip (IsLooked Made records path) texts l) are zip) in
+        let made = what_made (first_of_each_id (changed_of all.items)) (first_of_each (changes_of seen)) (firsts (changed_of all.items) (changes_of seen) all.changes) in (
+          all.items,
+          all.are,
+          all.none,
+          kept_of.lines ∙ ap (map to_err) (sym (all.lines paths)),
+          subst (λ (l : List X). AllZip Made (first_of_each_id (changed_of all.items)) l) (sym kept_of.made) made,
+        )
 
-  pub looked_stops : (stop : Stop) → answer ≡ Err stop → StopsAtClash data_path (FrontClashes records texts) stop
-  looked_stops stop is =
-      stops_for data_path (FileClashes records own.0) (FrontClashes records texts)
-      (front_clashes records paths texts n own.0 old same within own.1 so_far) stop (subst (IsLooked records data_path own.0) is own.2)
+  first_stop : (path : Option Word) (texts : List (List ℕ)) (seen : List (Seen X)) (stop : Stop) (rest : List (Result (Seen X) Stop))
+      → AllZip (IsLooked Made records path) texts (map Ok seen ++ Err stop ∷ rest) → StopsAtClash path (FrontClashes records texts) stop
+  first_stop path [] [] stop rest zip = absurd zip
+  first_stop path [] (s ∷ seen) stop rest zip = absurd zip
+  first_stop path (t ∷ ts) [] stop rest zip =
+      stops_for path (FileClashes records t) (FrontClashes records (t ∷ ts))
+      (λ r c. (1, c.0 ∷ [], (c.1, tt), ap (λ (o : Option ExecRefusal). option_or o None) c.2)) stop zip.0
+  first_stop path (t ∷ ts) (s ∷ seen) stop rest zip =
+      stops_for path (FrontClashes records ts) (FrontClashes records (t ∷ ts))
+      (λ r c. (
+        suc c.0,
+        zip.0.item ∷ c.1,
+        (zip.0.is, c.2),
+        ap (λ (o : Option ExecRefusal). option_or o (first_clash records c.1)) zip.0.fits ∙ c.3,
+      )) stop (first_stop path ts seen stop rest zip.1)
 
-pub looked_at_all : (records : List ClassHits) (paths : List Word) (texts : List (List ℕ)) (i : ℕ) (looked : Looked) → length texts ≡ length paths
-    → length texts ≤ i → Looking records (take i paths) (take i texts) looked → LooksAtAll records paths texts looked
-looked_at_all records paths texts i looked same all so_far = (
-  so_far.items,
-  subst (λ (ts : List (List ℕ)). AreItems ts so_far.items) (take_all i texts all) so_far.are,
-  so_far.none,
-  subst (λ (ps : List Word). IsReportOf records ps so_far.items looked) (take_all i paths (omega (arith, all, same))) so_far.report,
-)
+  pub looks_stop : (path : Option Word) (texts : List (List ℕ)) (answers : List (Result (Seen X) Stop)) (stop : Stop)
+      → AllZip (IsLooked Made records path) texts answers → StopsFirst answers stop → StopsAtClash path (FrontClashes records texts) stop
+  looks_stop path texts answers stop zip (inl memory) = subst (StopsAtClash path (FrontClashes records texts)) (sym memory) tt
+  looks_stop path texts answers stop zip (inr (seen, rest, are)) =
+      first_stop path texts seen stop rest (subst (λ (l : List (Result (Seen X) Stop)). AllZip (IsLooked Made records path) texts l) are zip)
+
+-- what is kept of all class files, or how the first of them that stops the command does
+module _ {X : Type 0} (Made : Analysed → X → Type 0) (records : List ClassHits) (path : Option Word) (paths : List Word) (texts : List (List ℕ))
+    (answers : List (Result (Seen X) Stop)) (zip : AllZip (IsLooked Made records path) texts answers) where
+  pub all_look : (r : Result (Kept X) Stop) → IfOk r (KeepsAll paths answers) → IfOk r (LooksAs Made records paths texts)
+  all_look (Ok kept) keeps = looks_as Made records path paths texts answers zip kept keeps
+  all_look (Err stop) keeps = tt
+
+  pub all_stop : (r : Result (Kept X) Stop) → IfErr r (StopsFirst answers) → IfErr r (StopsAtClash path (FrontClashes records texts))
+  all_stop (Ok kept) first = tt
+  all_stop (Err stop) first = looks_stop Made records path texts answers stop zip first
+
+-- what is kept of a report
+pub report_looks : (records : List ClassHits) (paths : List Word) (texts : List (List ℕ)) (kept : Kept Counted) → LooksAs (IsCountedBy records) records paths texts kept
+    → LooksAtAll records paths texts kept
+report_looks records paths texts kept (items, are, none, lines, made) =
+    (items, are, none, record { lines = lines; made = AllZip-map (counted_by records) (first_of_each_id (changed_of items)) kept.made.items made })
+
+-- ---- how many classes there are
+
+as_many_items : (ts : List (List ℕ)) (items : List ReportedFile) → AreItems ts items → length ts ≡ length items
+as_many_items [] [] are = refl
+as_many_items [] (i ∷ items) are = absurd are
+as_many_items (t ∷ ts) [] are = absurd are
+as_many_items (t ∷ ts) (i ∷ items) are = let rest = as_many_items ts items are.1 in omega (arith, rest)
+
+few_changed : (items : List ReportedFile) → length (changed_of items) ≤ length items
+few_changed [] = omega arith
+few_changed (refused_class why ∷ items) = let rest = few_changed items in omega (arith, rest)
+few_changed (unchanged_class ∷ items) = let rest = few_changed items in omega (arith, rest)
+few_changed (changed_class a ∷ items) = let rest = few_changed items in omega (arith, rest)
+
+few_passed : (p : Analysed → Bool) (classes : List Analysed) → length (filter p classes) ≤ length classes
+few_passed p [] = omega arith
+few_passed p (a ∷ classes) = by (p a) (few_passed p classes)
+  where
+    by : (t : Bool) → length (filter p classes) ≤ length classes → length (cond t (a ∷ filter p classes) (filter p classes)) ≤ length (a ∷ classes)
+    by true rest = omega (arith, rest)
+    by false rest = omega (arith, rest)
+
+few_firsts : (classes : List Analysed) → length (first_of_each_id classes) ≤ length classes
+few_firsts [] = omega arith
+few_firsts (a ∷ classes) =
+    let rest = few_firsts classes in
+    let passed = few_passed (λ b. not (nat_eq a.id b.id)) (first_of_each_id classes) in
+    omega (arith, rest, passed)
+
+-- there are at most as many counted classes as class files
+pub few_kept : (records : List ClassHits) (paths : List Word) (texts : List (List ℕ)) (kept : Kept Counted) → length texts ≡ length paths
+    → LooksAtAll records paths texts kept → length kept.made.items ≤ length paths
+few_kept records paths texts kept same (items, are, none, report) =
+    let classes = first_of_each_id (changed_of items) in
+    let many : length kept.made.items ≡ length classes = ap length report.made ∙ length-map classes (counted_by records) in
+    let firsts = few_firsts (changed_of items) in
+    let changed = few_changed items in
+    let each = as_many_items texts items are in
+    omega (arith, many, firsts, changed, each, same)
+
+pub report_all : (records : List ClassHits) (paths : List Word) (texts : List (List ℕ)) (r : Result (Kept Counted) Stop)
+    → IfOk r (LooksAs (IsCountedBy records) records paths texts) → IfOk r (LooksAtAll records paths texts)
+report_all records paths texts (Ok kept) looks = report_looks records paths texts kept looks
+report_all records paths texts (Err stop) looks = tt
+
+pub report_few : (records : List ClassHits) (paths : List Word) (texts : List (List ℕ)) → length texts ≡ length paths → (r : Result (Kept Counted) Stop)
+    → IfOk r (LooksAtAll records paths texts) → IfOk r (λ kept. length kept.made.items ≤ length paths)
+report_few records paths texts same (Ok kept) looks = few_kept records paths texts kept same looks
+report_few records paths texts same (Err stop) looks = tt

@@ -21,9 +21,9 @@ use Rattle.jc_report.specs.Csv.{csv_of}
 use Rattle.jc_report.specs.Rows.{rows_of}
 use Rattle.jc_exec.specs.Store.{Store}
 use Rattle.jc_command_work.specs.declared.status.Fault.TheVariants as fault
-use Rattle.jc_command_work.specs.Step.{to_file, to_err}
-use Rattle.jc_command_work.specs.Part.{gives}
-use Rattle.jc_command_work.specs.Answered.{Answer, refusing}
+use Rattle.jc_command_work.specs.Step.{Write, to_file, to_err}
+use Rattle.jc_command_work.specs.Part.{Outcome, gives, stops}
+use Rattle.jc_command_work.specs.Answered.{Answer, refusal_of}
 use Rattle.jc_command_exec.specs.ExecData.{IsUnionOf, IsFirstRefused}
 use Rattle.jc_command_classes.specs.Lines.{refused_line}
 use Rattle.jc_command_work.specs.Step.{Word}
@@ -141,20 +141,28 @@ report_text name classes = csv_of (rows_of name classes)
 abbrev pub AreCountedItems : List ClassHits → List ReportedFile → List Counted → Type 0
 AreCountedItems records items counted = AreCounted records (first_of_each_id (changed_of items)) counted
 
--- A line for each class file that is refused is written, and then the report. The execution data may be refused, or a record
--- of it may clash with a class.
-pub data ReportAnswers (out name : Word) (exec : Option Word) (paths : List Word) (texts : List (List ℕ)) : Answer → Type 0 where
+-- What a command makes of execution data, if a file of it is named, and of class files: of the records of the data, and of what the class
+-- files are. The execution data may be refused, or a record of it may clash with a class.
+pub data DataAnswers {X : Type 0} (Makes : List ClassHits → List ReportedFile → X → Type 0) (exec : Option Word) (texts : List (List ℕ)) : Outcome X → Type 0 where
   -- no record clashes with a class
-  reported : (store : Store) (items : List ReportedFile) (counted : List Counted)
+  made : (store : Store) (items : List ReportedFile) (value : X)
       → IsUnionOf (data_texts exec texts) store → AreItems (class_texts exec texts) items → first_clash store.classes items ≡ None
-      → AreCountedItems store.classes items counted
-      → ReportAnswers out name exec paths texts (gives (map to_err (lines_of paths items) ++ to_file out (report_text name counted) ∷ []))
+      → Makes store.classes items value → DataAnswers Makes exec texts (gives value)
   -- the file of execution data is refused
-  report_refused : (index : ℕ) (path : Word) (refusal : ExecRefusal)
+  data_refused : (index : ℕ) (path : Word) (refusal : ExecRefusal)
       → IsFirstRefused (option_to_list exec) (data_texts exec texts) index path refusal
-      → ReportAnswers out name exec paths texts (refusing path (fault.Exec index refusal))
+      → DataAnswers Makes exec texts (stops (refusal_of path (fault.Exec index refusal)))
   -- a clash is found among the first so many class files
-  report_clashes : (path : Word) (store : Store) (count : ℕ) (items : List ReportedFile) (refusal : ExecRefusal) → exec ≡ Some path
+  data_clashes : (path : Word) (store : Store) (count : ℕ) (items : List ReportedFile) (refusal : ExecRefusal) → exec ≡ Some path
       → IsUnionOf (data_texts exec texts) store → AreItems (take count (class_texts exec texts)) items
       → first_clash store.classes items ≡ Some refusal
-      → ReportAnswers out name exec paths texts (refusing path (fault.Exec 0 refusal))
+      → DataAnswers Makes exec texts (stops (refusal_of path (fault.Exec 0 refusal)))
+
+-- a line for each class file that is refused, and then the report
+abbrev pub IsReport : (out name : Word) → (paths : List Word) → List ClassHits → List ReportedFile → List Write → Type 0
+IsReport out name paths records items writes =
+    (counted : List Counted) × AreCountedItems records items counted
+    × (writes ≡ map to_err (lines_of paths items) ++ to_file out (report_text name counted) ∷ [])
+
+abbrev pub ReportAnswers : (out name : Word) (exec : Option Word) (paths : List Word) (texts : List (List ℕ)) → Answer → Type 0
+ReportAnswers out name exec paths texts answer = DataAnswers (IsReport out name paths) exec texts answer

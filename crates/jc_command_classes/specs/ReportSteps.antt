@@ -1,36 +1,34 @@
--- What the steps of a report give.
-use Rattle.std.specs.Prelude.{◌≡◌, ⊤, ℕ, Bool, List, [], ◌∷◌, ◌++◌, length, map, take, nat_eq, Option, Some, None, Result, Ok, Err}
-use Rattle.std.specs.Prelude.{Vec, if◌then◌else◌}
+-- What the steps give of a command on execution data and class files, as `report` is.
+use Rattle.std.specs.Prelude.{◌≡◌, ⊤, ℕ, Bool, List, [], ◌∷◌, ◌++◌, map, take, Option, Some, None, option_to_list, Result, Ok, Err, Vec}
 use Rattle.std.specs.Borrow.{Bor}
-use Rattle.std.specs.List.{list_any}
+use Rattle.std.specs.List.{AllZip}
 use Rattle.std.specs.declared.alloc.Global.{Global}
-use Rattle.jc_bytes.specs.FirstSeen.{first_seen}
 use Rattle.jc_methods.specs.declared.analysed.Analysed.{Analysed}
 use Rattle.jc_methods.specs.declared.body.Body.{Body}
-use Rattle.jc_bytes.specs.declared.refusal.Refusal.{Refusal}
+use Rattle.jc_plan.specs.Analysed.{IsAnalysed}
 use Rattle.jc_exec.specs.declared.hits.ClassHits.{ClassHits}
 use Rattle.jc_exec.specs.declared.refusal.ExecRefusal.{ExecRefusal}
-use Rattle.jc_cover.specs.Covered.{hits_or_none}
+use Rattle.jc_exec.specs.Store.{Store}
+use Rattle.jc_cover.specs.Covered.{hits_or_none, HasShape}
 use Rattle.jc_cover.specs.Marking.{coverage_of}
 use Rattle.jc_report.specs.declared.row.Counted.{Counted}
-use Rattle.jc_command_classes.specs.declared.class_report.Data.{Data}
-use Rattle.jc_command_classes.specs.declared.class_report.Looked.{Looked}
-use Rattle.jc_command_classes.specs.declared.class_report.Seen.{Seen}
+use Rattle.jc_command_classes.specs.declared.covered_class.CoveredClass.{CoveredClass}
+use Rattle.jc_command_classes.specs.declared.exec_data.Data.{Data}
+use Rattle.jc_command_classes.specs.declared.exec_data.ExecInput.{ExecInput}
+use Rattle.jc_command_classes.specs.declared.kept.Kept.{Kept}
+use Rattle.jc_command_classes.specs.declared.kept.Seen.{Seen}
+use Rattle.jc_command_classes.specs.declared.kept.Seen.TheVariants as seens
 use Rattle.jc_command_classes.specs.declared.options.ReportOptions.{ReportOptions}
-use Rattle.jc_command_classes.specs.declared.report.ExecInput.{ExecInput}
-use Rattle.jc_command_classes.specs.declared.class_report.Seen.TheVariants as seens
-use Rattle.jc_command_work.specs.declared.output.Write.{Write as Written}
 use Rattle.jc_command_work.specs.declared.status.Fault.TheVariants as faults
 use Rattle.jc_command_work.specs.declared.stop.Stop.{Stop}
 use Rattle.jc_command_work.specs.declared.stop.Stop.TheVariants as stops
-use Rattle.jc_command_work.specs.Seen.{write_seen}
+use Rattle.jc_command_work.specs.Seen.{write_seen, stop_seen}
+use Rattle.jc_command_exec.specs.ExecData.{IsUnionOf, IsFirstRefused}
 use Rattle.jc_command_exec.specs.Gathering.{IsGathered}
-use Rattle.jc_command_classes.specs.Report.{ReportedFile, refused_class, unchanged_class, changed_class, IsItem, AreItems, lines_of, changed_of}
+use Rattle.jc_command_classes.specs.Report.{frameless, ReportedFile, refused_class, unchanged_class, changed_class, IsItem, AreItems, lines_of, changed_of}
 use Rattle.jc_command_classes.specs.Report.{record_of, hits_of, clash_with, clash_of, first_clash, first_of_each_id, counted_with, report_text, ReportAnswers}
-use Rattle.jc_command_classes.specs.Lines.{refused_line}
-use Rattle.jc_command_work.specs.Answered.{Answer}
-use Rattle.jc_command_work.specs.Step.{Word}
-use Rattle.jc_command_work.specs.Step.{to_file, to_err}
+use Rattle.jc_command_work.specs.Answered.{Answer, refusal_of}
+use Rattle.jc_command_work.specs.Step.{Word, to_err}
 
 -- ---- the execution data
 
@@ -56,6 +54,22 @@ abbrev pub data_path : Option (Bor Data) → Option Word
 data_path None = None
 data_path (Some d) = Some d.now.path.now
 
+-- the records of execution data that is at hand
+abbrev pub held_records : Option Data → List ClassHits
+held_records None = []
+held_records (Some d) = d.store.classes
+
+abbrev pub held_path : Option Data → Option Word
+held_path None = None
+held_path (Some d) = Some d.path.now
+
+-- the union of what was read of a file, if one is named, or how the file stops the command that is refused
+abbrev pub TakesData : Option Word → List (List ℕ) → Result (Option Data) Stop → Type 0
+TakesData path read (Ok held) = (store : Store) × IsUnionOf read store × (held_records held ≡ store.classes) × (held_path held ≡ path)
+TakesData path read (Err stop) =
+    (index : ℕ) × (file : Word) × (refusal : ExecRefusal) × IsFirstRefused (option_to_list path) read index file refusal
+    × (stop_seen stop ≡ Some (refusal_of file (faults.Exec index refusal)))
+
 -- how a clash stops a command: it names the file of execution data; want of memory may come at any time
 abbrev pub StopsAtClash : Option Word → (ExecRefusal → Type 0) → Stop → Type 0
 StopsAtClash path Why stops.Memory = ⊤
@@ -80,23 +94,46 @@ counted_classes records items = map (counted_by records) (first_of_each_id (chan
 
 -- ---- one class file
 
--- what a class file is to a report, and what is kept of it
-abbrev pub seen_as : List ClassHits → ReportedFile → Seen
-seen_as records (refused_class why) = seens.Refused why
-seen_as records unchanged_class = seens.Unchanged
-seen_as records (changed_class a) = seens.Changed (counted_by records a)
+-- the class with its coverage by the hits of its record
+abbrev pub covered_class : List ClassHits → Analysed → CoveredClass
+covered_class records a = record { class = a; coverage = coverage_of a.bodies (hits_or_none (hits_of records a)) }
 
--- the class file doesn't clash, and this is kept of it
-pub record IsSeen (records : List ClassHits) (bytes : List ℕ) (seen : Seen) : Type 0 where
+-- the class is well made, and the coverage has its shape
+pub record IsShaped (c : CoveredClass) : Type 0 where
+  pub analysed : IsAnalysed c.class
+  pub shape : HasShape c.class.bodies c.coverage
+
+abbrev pub IsShapedSeen : Seen CoveredClass → Type 0
+IsShapedSeen (seens.Refused why) = ⊤
+IsShapedSeen seens.Unchanged = ⊤
+IsShapedSeen (seens.Changed id c) = IsShaped c
+
+-- what is made of a changed class is its coverage, by the hits of its record, beside the class with its frames
+abbrev pub IsCoveredClass : List ClassHits → Analysed → CoveredClass → Type 0
+IsCoveredClass records a c = (a ≡ frameless c.class) × (c ≡ covered_class records c.class)
+
+-- what is made of a changed class is the class with its counters
+abbrev pub IsCountedBy : List ClassHits → Analysed → Counted → Type 0
+IsCountedBy records a c = c ≡ counted_by records a
+
+-- this was seen of what the class file is to a report, where `Made` tells what is made of a changed class
+abbrev pub IsSeenAs : {X : Type 0} → (Analysed → X → Type 0) → ReportedFile → Seen X → Type 0
+IsSeenAs Made (refused_class why) (seens.Refused said) = said ≡ why
+IsSeenAs Made unchanged_class seens.Unchanged = ⊤
+IsSeenAs Made (changed_class a) (seens.Changed id made) = (id ≡ a.id) × Made a made
+IsSeenAs Made item seen = ⊥
+
+-- the class file doesn't clash, and this was seen of it
+pub record IsSeen {X : Type 0} (Made : Analysed → X → Type 0) (records : List ClassHits) (bytes : List ℕ) (seen : Seen X) : Type 0 where
   pub item : ReportedFile
   pub is : IsItem bytes item
   pub fits : clash_of records item ≡ None
-  pub kept : seen ≡ seen_as records item
+  pub as_is : IsSeenAs Made item seen
 
 -- a class without bodies is unchanged, and the record of any other fits it
-abbrev pub SeesClass : List ClassHits → Analysed → List Body → Seen → Type 0
+abbrev pub SeesClass : List ClassHits → Analysed → List Body → Seen CoveredClass → Type 0
 SeesClass records a [] seen = seen ≡ seens.Unchanged
-SeesClass records a (b ∷ bodies) seen = (clash_with a (record_of records a.id) ≡ None) × (seen ≡ seens.Changed (counted_by records a))
+SeesClass records a (b ∷ bodies) seen = (clash_with a (record_of records a.id) ≡ None) × (seen ≡ seens.Changed a.id (covered_class records a))
 
 -- the class has bodies, and its record doesn't fit it
 abbrev pub ClassClashes : List ClassHits → Analysed → List Body → ExecRefusal → Type 0
@@ -107,61 +144,41 @@ ClassClashes records a (b ∷ bodies) refusal = clash_with a (record_of records 
 abbrev pub FileClashes : List ClassHits → List ℕ → ExecRefusal → Type 0
 FileClashes records bytes refusal = (item : ReportedFile) × IsItem bytes item × (clash_of records item ≡ Some refusal)
 
--- what is kept of a class file, or the clash that stops the command
-abbrev pub IsLooked : List ClassHits → Option Word → List ℕ → Result Seen Stop → Type 0
-IsLooked records path bytes (Ok seen) = IsSeen records bytes seen
-IsLooked records path bytes (Err stop) = StopsAtClash path (FileClashes records bytes) stop
-
--- ---- one class file more
-
--- the line of a class file that is refused was put last, and nothing else changed
-pub record KeepsRefused (path : Word) (why : Refusal) (old new : Looked) : Type 0 where
-  pub lines : map write_seen new.lines.items ≡ map write_seen old.lines.items ++ to_err (refused_line path why) ∷ []
-  pub classes : new.classes.items ≡ old.classes.items
-  pub ids : new.ids.keys ≡ old.ids.keys
-
--- the item was put last, unless the id was there
-abbrev pub unless_known : {X : Type 0} → Bool → List X → X → List X
-unless_known known xs x = if known then xs else xs ++ x ∷ []
-
--- the counted class was put last, unless its id came before
-pub record Keeps (c : Counted) (old new : Looked) : Type 0 where
-  pub lines : new.lines.items ≡ old.lines.items
-  pub classes : new.classes.items ≡ unless_known (list_any (nat_eq c.id) old.ids.keys) old.classes.items c
-  pub ids : new.ids.keys ≡ unless_known (list_any (nat_eq c.id) old.ids.keys) old.ids.keys c.id
-
--- ---- the class files so far
-
--- the lines, the counted classes and the ids are those of the first class files
-pub record IsReportOf (records : List ClassHits) (paths : List Word) (items : List ReportedFile) (looked : Looked) : Type 0 where
-  pub lines : map write_seen looked.lines.items ≡ map to_err (lines_of paths items)
-  pub classes : looked.classes.items ≡ counted_classes records items
-  pub ids : looked.ids.keys ≡ first_seen (map (λ a. a.id) (changed_of items))
-
--- one class file more was looked at, and it doesn't clash
-abbrev pub LooksOn : List ClassHits → Word → List ℕ → Looked → Looked → Type 0
-LooksOn records path bytes old new =
-    (paths : List Word) (items : List ReportedFile) → length paths ≡ length items → IsReportOf records paths items old
-    → (item : ReportedFile) × IsItem bytes item × (clash_of records item ≡ None) × IsReportOf records (paths ++ path ∷ []) (items ++ item ∷ []) new
+-- what was seen of a class file, or the clash that stops the command
+abbrev pub IsLooked : {X : Type 0} → (Analysed → X → Type 0) → List ClassHits → Option Word → List ℕ → Result (Seen X) Stop → Type 0
+IsLooked Made records path bytes (Ok seen) = IsSeen Made records bytes seen
+IsLooked Made records path bytes (Err stop) = StopsAtClash path (FileClashes records bytes) stop
 
 -- ---- all class files
 
+-- none clashes, and this is kept of them: a line for each that is refused, and what is made of the changed classes, the first of each id
+abbrev pub LooksAs : {X : Type 0} → (Analysed → X → Type 0) → List ClassHits → List Word → List (List ℕ) → Kept X → Type 0
+LooksAs Made records paths texts kept =
+    (items : List ReportedFile) × AreItems texts items × (first_clash records items ≡ None)
+    × (map write_seen kept.lines.items ≡ map to_err (lines_of paths items))
+    × AllZip Made (first_of_each_id (changed_of items)) kept.made.items
+
+-- the lines and the counted classes are those of the class files
+pub record IsReportOf (records : List ClassHits) (paths : List Word) (items : List ReportedFile) (kept : Kept Counted) : Type 0 where
+  pub lines : map write_seen kept.lines.items ≡ map to_err (lines_of paths items)
+  pub made : kept.made.items ≡ counted_classes records items
+
 -- all were looked at, and none clashes
-abbrev pub LooksAtAll : List ClassHits → List Word → List (List ℕ) → Looked → Type 0
-LooksAtAll records paths texts looked =
-    (items : List ReportedFile) × AreItems texts items × (first_clash records items ≡ None) × IsReportOf records paths items looked
+abbrev pub LooksAtAll : List ClassHits → List Word → List (List ℕ) → Kept Counted → Type 0
+LooksAtAll records paths texts kept =
+    (items : List ReportedFile) × AreItems texts items × (first_clash records items ≡ None) × IsReportOf records paths items kept
 
 -- one of the first so many clashes
 abbrev pub FrontClashes : List ClassHits → List (List ℕ) → ExecRefusal → Type 0
 FrontClashes records texts refusal =
     (count : ℕ) × (items : List ReportedFile) × AreItems (take count texts) items × (first_clash records items ≡ Some refusal)
 
--- the writes of the report, or the clash that stops it
-abbrev pub ReportsWith : (out name : Word) → List ClassHits → Option Word → List Word → List (List ℕ) → Result (Vec Written Global) Stop → Type 0
-ReportsWith out name records path paths texts (Ok writes) =
-    (items : List ReportedFile) × AreItems texts items × (first_clash records items ≡ None)
-    × (map write_seen writes.items ≡ map to_err (lines_of paths items) ++ to_file out (report_text name (counted_classes records items)) ∷ [])
-ReportsWith out name records path paths texts (Err stop) = StopsAtClash path (FrontClashes records texts) stop
+-- what a command makes of class files, or the clash that stops it; `value` tells what the code's value stands for
+abbrev pub MakesWith : {V X : Type 0} → (V → X) → (List ClassHits → List ReportedFile → X → Type 0) → List ClassHits → Option Word → List (List ℕ)
+    → Result V Stop → Type 0
+MakesWith value Makes records path texts (Ok v) =
+    (items : List ReportedFile) × AreItems texts items × (first_clash records items ≡ None) × Makes records items (value v)
+MakesWith value Makes records path texts (Err stop) = StopsAtClash path (FrontClashes records texts) stop
 
 -- the CSV text of class files in the report of this name, or the clash that stops it
 abbrev pub CountsFiles : (name : Word) → List ClassHits → Option Word → List (List ℕ) → Result (Vec ℕ Global) Stop → Type 0

@@ -1,29 +1,21 @@
 //! The command `report`.
-ghost use Rattle.std.specs.Prelude.{◌≡◌, ◌∷◌, ◌++◌, [], ℕ, List, Some, None, IfOk};
-ghost use Rattle.jc_command_exec.specs.Gathering.{IsGathered};
-ghost use Rattle.jc_command_classes.specs.Report.{report_text, ReportAnswers};
-ghost use Rattle.jc_command_classes.specs.ReportSteps.{data_records, data_path, IsReadOf, ReportBy, CountsFiles, ReportsWith};
+ghost use Rattle.std.specs.Prelude.{◌≡◌, ◌∷◌, ◌++◌, [], ℕ, List, Some, IfOk};
+ghost use Rattle.jc_command_classes.specs.Report.{report_text, IsReport};
+ghost use Rattle.jc_command_classes.specs.ReportSteps.{data_records, data_path, IsReadOf, ReportBy, CountsFiles, MakesWith};
 ghost use Rattle.jc_command_work.specs.Seen.{words_of};
-ghost use Rattle.jc_command_work.specs.Answered.{AnswersWith, Prepares};
+ghost use Rattle.jc_command_work.specs.Answered.{AnswersWith, Prepares, writes_seen};
 ghost use Rattle.jc_command_work.specs.Handed.{BetweenFiles};
 
-use crate::class_report::{Data, Looked, look_at_all};
+use crate::class_report::look_at_all;
+use crate::exec_data::{Data, ExecInput, data_of};
 use crate::options::ReportOptions;
 use jc_bytes::Memory;
-use jc_command_exec::Gathered;
 use jc_command_work::{InputFiles, Stop, Write, read_listed};
 use jc_outside::Files;
 use jc_report::{Counted, csv_text, rows};
 use std::alloc::Global;
 use std::marker::Sync;
 use std::thread::Threads;
-
-/// The execution data of a report, or how it stops the command, and the file that it was read from.
-#[derive(Drop)]
-pub struct ExecInput<'a> {
-    pub path: &'a str,
-    pub gathered: Gathered<'a>,
-}
 
 /// The CSV text of classes.
 fn csv_of(alloc: Global, name: &str, classes: &[Counted]) -> Result<Vec<u8>, Memory>
@@ -54,12 +46,12 @@ fn reported<'a, R: Threads + Sync>(
     exec_data: Option<&Data<'a>>,
     inputs: &InputFiles<'_>,
 ) -> Result<Vec<Write<'a>>, Stop<'a>>
-    ensures { ReportsWith options.entry.now.csv.now options.entry.now.name.now (data_records exec_data.entry) (data_path exec_data.entry)
-        inputs.now.paths inputs.now.texts result }
+    ensures { MakesWith writes_seen (IsReport options.entry.now.csv.now options.entry.now.name.now inputs.now.paths)
+        (data_records exec_data.entry) (data_path exec_data.entry) inputs.now.texts result }
 {
-    let looked = look_at_all(rt, alloc, exec_data, inputs)?;
-    let bytes = csv_of(alloc, options.name, &looked.classes)?;
-    Ok(with_file(looked.lines, options.csv, bytes)?)
+    let kept = look_at_all(rt, alloc, exec_data, inputs)?;
+    let bytes = csv_of(alloc, options.name, &kept.made)?;
+    Ok(with_file(kept.lines, options.csv, bytes)?)
 }
 
 /// The CSV text of class files, by execution data. A class file that is refused has no
@@ -76,41 +68,8 @@ pub fn csv_of_files<'a, R: Threads + Sync>(
 ) -> Result<Vec<u8>, Stop<'a>>
     ensures { CountsFiles name.now exec_data.entry.now.store.classes (Some exec_data.entry.now.path.now) inputs.now.texts result }
 {
-    let looked = look_at_all(rt, alloc, Some(exec_data), inputs)?;
-    Ok(csv_of(alloc, name, &looked.classes)?)
-}
-
-/// The writes of a report without execution data.
-fn reported_without_data<'a, R: Threads + Sync>(
-    rt: &R,
-    alloc: Global,
-    options: &ReportOptions<'a>,
-    inputs: &InputFiles<'_>,
-) -> Result<Vec<Write<'a>>, Stop<'a>>
-    ensures { AnswersWith (ReportAnswers options.entry.now.csv.now options.entry.now.name.now None inputs.now.paths inputs.now.texts) result }
-{
-    reported(rt, alloc, options, None, inputs)
-}
-
-/// The writes of a report by the execution data of a file.
-fn reported_by_data<'a, R: Threads + Sync>(
-    rt: &R,
-    alloc: Global,
-    options: &ReportOptions<'a>,
-    exec: ExecInput<'a>,
-    inputs: &InputFiles<'_>,
-) -> Result<Vec<Write<'a>>, Stop<'a>>
-    ensures { (t : List ℕ) → IsGathered (exec.entry.path.now ∷ []) (t ∷ []) exec.entry.gathered
-        → AnswersWith (ReportAnswers options.entry.now.csv.now options.entry.now.name.now (Some exec.entry.path.now) inputs.now.paths (t ∷ inputs.now.texts)) result }
-{
-    let ExecInput { path, gathered } = exec;
-    match gathered {
-        Gathered::Union(store) => {
-            let exec_data = Data { path, store };
-            reported(rt, alloc, options, Some(&exec_data), inputs)
-        }
-        Gathered::Refused(stop) => Err(stop),
-    }
+    let kept = look_at_all(rt, alloc, Some(exec_data), inputs)?;
+    Ok(csv_of(alloc, name, &kept.made)?)
 }
 
 /// The writes of a report, of what was read.
@@ -124,10 +83,8 @@ fn reported_of<'a, R: Threads + Sync>(
     ensures { (read : List (List ℕ)) → IsReadOf exec.entry read
         → AnswersWith (ReportBy options.entry.now exec.entry read inputs.now.paths inputs.now.texts) result }
 {
-    match exec {
-        None => reported_without_data(rt, alloc, options, inputs),
-        Some(exec) => reported_by_data(rt, alloc, options, exec, inputs),
-    }
+    let exec_data = data_of(exec)?;
+    reported(rt, alloc, options, exec_data.as_ref(), inputs)
 }
 
 /// The writes of `report --csv OUT [--name NAME] [--exec IN] FILE..`, where the execution data of IN has been read.

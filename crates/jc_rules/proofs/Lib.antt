@@ -4,6 +4,7 @@ mod PlacedLaws
 mod SpanLaws
 mod SaidLaws
 mod ListingLaws
-mod OneListLaws
+pub mod OneListLaws
+pub mod SomeListLaws
 mod AddingLaws
 mod PlacingLaws

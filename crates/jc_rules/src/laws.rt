@@ -16,3 +16,8 @@ pub fn each_line_has_one_status()
 pub fn each_class_has_one_line_list()
     ensures { (methods : List Method) (a b : List LineStatus) → IsLineList methods a → IsLineList methods b → a ≡ b }
 {}
+
+/// They have a list of lines, whatever their instructions are.
+pub fn each_class_has_a_line_list()
+    ensures { (methods : List Method) → (list : List LineStatus) × IsLineList methods list }
+{}

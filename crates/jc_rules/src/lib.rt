@@ -12,7 +12,9 @@ mod status;
 mod total;
 
 pub use adding::totals;
-pub use laws::{each_class_has_one_line_list, each_line_has_one_status};
+pub use laws::{
+    each_class_has_a_line_list, each_class_has_one_line_list, each_line_has_one_status,
+};
 pub use listing::line_list;
 pub use rule::{CounterKind, Rule, holds};
 pub use status::{LineState, LineStatus};

@@ -1,12 +1,11 @@
-use Rattle.std.proofs.Common.{◌∙◌, ap}
-use Rattle.jc_cover.specs.Counters.{counters_of}
+use Rattle.std.proofs.Common.{ap}
 use Rattle.jc_cover.specs.declared.coverage.Counters.{Counters}
 use Rattle.jc_report.specs.declared.row.Counted.{Counted}
 use Rattle.jc_command_classes.proofs.class_report.counted.Goals as goal
 
 pub returns : goal.returns
 returns c =
-    let a = c.args.class in
+    let a = c.args.covered.class in
     let with_counters : Counters → Counted = λ counters. record {
       id = a.id;
       name = a.name;
@@ -14,4 +13,4 @@ returns c =
       interfaces = a.interfaces;
       counters = counters;
     } in
-    ap with_counters (c.in_ok-counters.ensures ∙ ap (counters_of a.bodies) c.in_ok-coverage.ensures.value)
+    ap with_counters c.in_ok-counters.ensures

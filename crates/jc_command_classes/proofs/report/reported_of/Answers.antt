@@ -1,15 +1,22 @@
-use Rattle.std.proofs.Common.{List, ℕ, [], ◌∷◌, ◌++◌, None, Some, sym, subst}
-use Rattle.jc_command_work.specs.Answered.{AnswersWith}
-use Rattle.jc_command_classes.specs.Report.{ReportAnswers}
-use Rattle.jc_command_classes.specs.ReportSteps.{IsReadOf}
+use Rattle.std.proofs.lemmas.Result.{err_from_is_err_and}
+use Rattle.jc_command_work.specs.Answered.{writes_seen}
+use Rattle.jc_command_classes.specs.Report.{IsReport}
+use Rattle.jc_command_classes.specs.ReportSteps.{exec_path}
+use Rattle.jc_command_classes.proofs.ReportRunLaws.{read_count, data_stops, data_answers}
 use Rattle.jc_command_classes.proofs.report.reported_of.Goals as goal
 
-pub returns-in-None : goal.returns-in-None
-returns-in-None g c = rw c.in-None.is (λ read none.
-    subst (λ (l : List (List ℕ)). AnswersWith (ReportAnswers c.args.options.now.csv.now c.args.options.now.name.now None c.args.inputs.now.paths (l ++ c.args.inputs.now.texts))
-    c.reported_without_data.result) (sym none) c.reported_without_data.ensures)
+pub returns-in_err-exec_data : goal.returns-in_err-exec_data
+returns-in_err-exec_data g c read is =
+    let p = err_from_is_err_and c.from_residual.result c.from_residual.ensures.1 in
+    let o = c.args.options.now in
+    let paths = c.args.inputs.now.paths in
+    rw (p.1, p.2)
+    (data_stops writes_seen (IsReport o.csv.now o.name.now paths) (exec_path c.args.exec) read c.args.inputs.now.texts (read_count c.args.exec read is)
+    c.in_err-exec_data.field-0.0 (c.in_err-exec_data.ensures read is))
 
-pub returns-in-Some : goal.returns-in-Some
-returns-in-Some g c = rw c.in-Some.is (λ read is.
-    subst (λ (l : List (List ℕ)). AnswersWith (ReportAnswers c.args.options.now.csv.now c.args.options.now.name.now (Some c.in-Some.exec.path.now) c.args.inputs.now.paths
-    (l ++ c.args.inputs.now.texts)) c.reported_by_data.result) (sym is.1) (c.reported_by_data.ensures is.0 is.2))
+pub returns : goal.returns
+returns g c read is =
+    let o = c.args.options.now in
+    let paths = c.args.inputs.now.paths in
+    data_answers writes_seen (IsReport o.csv.now o.name.now paths) (exec_path c.args.exec) read c.args.inputs.now.texts (read_count c.args.exec read is)
+    c.in_ok-exec_data.exec_data c.as_ref.result c.reported.result (c.in_ok-exec_data.ensures read is) c.as_ref.ensures.value c.reported.ensures

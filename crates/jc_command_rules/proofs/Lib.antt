@@ -1,0 +1,4 @@
+mod PrintingLaws
+mod ListingLaws
+mod JudgingLaws
+pub mod AnswerLaws

@@ -1,0 +1,19 @@
+use Rattle.std.proofs.lemmas.Result.{err_from_is_err_and}
+use Rattle.jc_command_classes.specs.ReportSteps.{exec_path}
+use Rattle.jc_command_classes.proofs.ReportRunLaws.{read_count, data_stops, data_answers}
+use Rattle.jc_command_rules.specs.CheckAnswers.{IsVerdict}
+use Rattle.jc_command_rules.specs.Printing.{verdict_seen}
+use Rattle.jc_command_rules.proofs.check.judged_of.Goals as goal
+
+pub returns-in_err-exec_data : goal.returns-in_err-exec_data
+returns-in_err-exec_data g c read is =
+    let p = err_from_is_err_and c.from_residual.result c.from_residual.ensures.1 in
+    rw (p.1, p.2)
+    (data_stops verdict_seen (IsVerdict c.args.rules.now c.args.inputs.now.paths) (exec_path c.args.exec) read c.args.inputs.now.texts
+    (read_count c.args.exec read is) c.in_err-exec_data.field-0.0 (c.in_err-exec_data.ensures read is))
+
+pub returns : goal.returns
+returns g c read is =
+    data_answers verdict_seen (IsVerdict c.args.rules.now c.args.inputs.now.paths) (exec_path c.args.exec) read c.args.inputs.now.texts
+    (read_count c.args.exec read is) c.in_ok-exec_data.exec_data c.as_ref.result c.judged_files.result (c.in_ok-exec_data.ensures read is)
+    c.as_ref.ensures.value c.judged_files.ensures

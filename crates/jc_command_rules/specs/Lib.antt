@@ -1,0 +1,3 @@
+pub mod LinesAnswers
+pub mod CheckAnswers
+pub mod Printing
