@@ -44,6 +44,10 @@ fn placed(fault: Fault, places: &[u32]) -> Fault
             let second = place_of(places, second);
             Fault::SameId { first, second }
         }
+        Fault::Refs { path, refusal } => {
+            let path = place_of(places, path);
+            Fault::Refs { path, refusal }
+        }
         Fault::Exec { path, refusal } => Fault::Exec { path, refusal },
         Fault::Plan { line } => Fault::Plan { line },
         Fault::NoEntry { line } => Fault::NoEntry { line },

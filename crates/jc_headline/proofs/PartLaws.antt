@@ -1,7 +1,7 @@
 -- What a part of `cover` did that is over, and parts that don't end a command as done.
 use Rattle.std.proofs.Common.{◌≡◌, ℕ, List, [], ◌∷◌, ◌++◌, inl, inr, refl, sym, ◌∙◌, ap, subst}
 use Rattle.jc_command_work.specs.Step.{Word, Outside, Landed, Write, to_read, to_list, to_write, Step, has_read, has_no, has_listed, has_written, Fit, after, after_write, IsRead}
-use Rattle.jc_command_work.specs.Part.{End, done, refused, misused, unread, unwritten, unprinted, Outcome, wants, gives, stops, Part, Command, giving, deciding, making, never, reading, listing, writing, reading_all, writing_all, Hands, ◌>>=◌}
+use Rattle.jc_command_work.specs.Part.{End, done, unmet, refused, misused, unread, unwritten, unprinted, Outcome, wants, gives, stops, Part, Command, giving, deciding, making, never, reading, listing, writing, reading_all, writing_all, Hands, ◌>>=◌}
 use Rattle.jc_outside.specs.Outside.{IsListing}
 use Rattle.jc_paths.specs.Paths.{FileText, plain, folder}
 use Rattle.jc_command_work.specs.Folders.{all_paths, paths_of, files_of, once}
@@ -20,6 +20,7 @@ Quiet p = (steps : List Step) → p steps (stops done) → ⊥
 
 abbrev pub IsDone : End → Type 0
 IsDone done = Unit {0}
+IsDone unmet = ⊥
 IsDone (refused fault line) = ⊥
 IsDone misused = ⊥
 IsDone (unread path) = ⊥

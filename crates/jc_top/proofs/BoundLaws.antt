@@ -6,7 +6,7 @@ use Rattle.std.specs.List.{list_all}
 use Rattle.jc_command_words.specs.Words.{Word}
 use Rattle.jc_command_words.specs.Numbers.{is_decimal, one_more_digit, decimal_value, IsNumber}
 use Rattle.jc_command_words.specs.Forms.{Call}
-use Rattle.jc_command_words.specs.Commands.{Called, instrument, run, merge, report, exec_info, class_info, cover, cover_sample, IsWorkers, IsCallOf, Means, by_call, by_sample}
+use Rattle.jc_command_words.specs.Commands.{Called, instrument, run, merge, report, exec_info, class_info, cover, cover_sample, refs, lines, check, IsWorkers, IsCallOf, Means, by_call, by_sample}
 use Rattle.jc_bytes.specs.declared.fail.Fail.{Fail}
 use Rattle.jc_bytes.specs.Digits.{is_digit}
 use Rattle.jc_command_words.specs.declared.command.Command.{Command}
@@ -45,6 +45,9 @@ call_bounded c (exec_info inputs) is = tt
 call_bounded c (class_info files) is = tt
 call_bounded c (cover dest plan destfile csv workers name files) is = workers_within _ workers is.5
 call_bounded c (cover_sample methods) is = absurd is
+call_bounded c (refs files) is = tt
+call_bounded c (lines exec files) is = tt
+call_bounded c (check rules exec files) is = tt
 
 pub means_bounded : (words : List Word) (command : Called) → Means words command → IsBounded command
 means_bounded words command (by_call c spelled stated is) = call_bounded c command is

@@ -1,6 +1,6 @@
 -- A command that reads and decides before it writes: what it has come to where it wants a call, and what is left where memory
 -- is refused.
-use Rattle.std.proofs.Common.{◌≡◌, ◌⊎◌, ℕ, List, [], ◌∷◌, ◌++◌, inl, inr, refl, sym, ◌∙◌, ap, subst, append_assoc, append-nil}
+use Rattle.std.proofs.Common.{◌≡◌, ◌⊎◌, ℕ, Bool, true, false, List, [], ◌∷◌, ◌++◌, inl, inr, refl, sym, ◌∙◌, ap, subst, append_assoc, append-nil}
 use Rattle.jc_paths.specs.Paths.{FileText, plain, folder}
 use Rattle.jc_command_work.specs.declared.status.Status.TheVariants as status
 use Rattle.jc_command_work.specs.Step.{Word, Outside, Counts, Landed, Write, Call, to_read, to_list, to_write, Step, has_read, has_no, has_listed, has_written, call_of, Fit, after, Broken}
@@ -9,14 +9,17 @@ use Rattle.jc_command_work.specs.Ending.{Began, BrokeOff, Ends}
 use Rattle.jc_command_work.specs.OneWay.{writes_of}
 use Rattle.jc_command_work.specs.Prefix.{after_writes, with_failed, IsFront}
 use Rattle.jc_command_work.specs.Folders.{paths_of, all_paths, files_of, once}
-use Rattle.jc_command_work.specs.Answered.{Answer, answering, preparing, making_all, answered}
+use Rattle.jc_command_work.specs.Answered.{Answer, answering, preparing, answered}
+use Rattle.jc_command_work.specs.Closing.{end_of, closing}
+use Rattle.jc_command_rules.specs.CheckAnswers.{Verdict}
 use Rattle.jc_command_work.specs.Causes.{IsReadCall, HasOwnEnds}
 use Rattle.jc_command_work.proofs.Behind.{over_then, fit_front}
 use Rattle.jc_command_work.proofs.OneWork.{not_over}
 use Rattle.jc_command_work.proofs.Prefix.{writes-append, stands_so, unread_so, broken_so}
 use Rattle.jc_command_work.proofs.NoWrites.{WritesNone, none_preparing}
 use Rattle.jc_command_work.proofs.CauseLaws.{cause}
-use Rattle.jc_top.specs.FirstWrite.{as_steps, WritesBegun}
+use Rattle.jc_top.specs.FirstWrite.{as_steps, HasWrittenAll, WritesBegun}
+use Rattle.jc_top.specs.Work.{judged}
 
 -- ---- calls
 
@@ -104,10 +107,10 @@ reads_reading_all : (paths : List Word) → WantsReads (reading_all paths)
 reads_reading_all [] = reads_giving []
 reads_reading_all (path ∷ paths) = reads_then (reading path) _ (reads_reading path) (λ text. reads_then (reading_all paths) _ (reads_reading_all paths) (λ texts. reads_giving (text ∷ texts)))
 
-reads_preparing : (inputs : List Word) (Answers : List (List ℕ) → Answer → Type 0) → WantsReads (preparing inputs Answers)
+reads_preparing : {X : Type 0} (inputs : List Word) (Answers : List (List ℕ) → Outcome X → Type 0) → WantsReads (preparing inputs Answers)
 reads_preparing inputs Answers =
     reads_then (reading_all inputs) (λ texts. answering (Answers texts)) (reads_reading_all inputs)
-    (λ texts. reads_deciding (λ writes. Answers texts (gives writes)) (λ end. Answers texts (stops end)))
+    (λ texts. reads_deciding (λ value. Answers texts (gives value)) (λ end. Answers texts (stops end)))
 
 -- ---- writes
 
@@ -152,12 +155,12 @@ next_write (write ∷ writes) steps call (inr h) = subst (λ (l : List Step). Ne
     first (has_no p ∷ ss) is next = absurd is
     first (has_listed f ps ∷ ss) is next = absurd is
 
-next_made : (writes : List Write) (steps : List Step) (call : Call) → making_all writes steps (wants call) → Next writes steps call
-next_made writes steps call (inl within) = next_write writes steps call within
-next_made writes steps call (inr h) = absurd (by h.behind h.goes_on)
+next_made : (writes : List Write) (holds : Bool) (steps : List Step) (call : Call) → closing writes holds steps (wants call) → Next writes steps call
+next_made writes holds steps call (inl within) = next_write writes steps call within
+next_made writes holds steps call (inr h) = absurd (by h.behind h.goes_on)
   where
-    by : (ss : List Step) → ending {X = ⊥} done ss (wants call) → ⊥
-    by [] is = not_over (stops done) call tt (sym is)
+    by : (ss : List Step) → ending {X = ⊥} (end_of holds) ss (wants call) → ⊥
+    by [] is = not_over (stops (end_of holds)) call tt (sym is)
     by (s ∷ ss) is = is
 
 all_written : (writes : List Write) → writing_all writes (as_steps writes) (gives tt)
@@ -165,10 +168,14 @@ all_written [] = refl
 all_written (write ∷ writes) =
     over_then (writing write) (λ _. writing_all writes) tt (has_written write ∷ []) (as_steps writes) (gives tt) (refl, refl) (all_written writes)
 
-all_made : (writes : List Write) → making_all writes (as_steps writes) (stops done)
-all_made writes =
-    subst (λ (l : List Step). making_all writes l (stops done)) (append-nil (as_steps writes))
-    (over_then (writing_all writes) (λ _. ending {X = ⊥} done) tt (as_steps writes) [] (stops done) (all_written writes) refl)
+all_made : (writes : List Write) (holds : Bool) → closing writes holds (as_steps writes) (stops (end_of holds))
+all_made writes holds =
+    subst (λ (l : List Step). closing writes holds l (stops (end_of holds))) (append-nil (as_steps writes))
+    (over_then (writing_all writes) (λ _. ending {X = ⊥} (end_of holds)) tt (as_steps writes) [] (stops (end_of holds)) (all_written writes) refl)
+
+ends_all : (holds : Bool) → HasWrittenAll (end_of holds)
+ends_all true = inl refl
+ends_all false = inr refl
 
 -- ---- commands
 
@@ -181,7 +188,9 @@ pub record AtWrite (command : Command) (steps : List Step) (call : Call) : Type 
   pub none : writes_of reads ≡ []
   pub parts : steps ≡ reads ++ as_steps before
   pub is : call ≡ to_write write
-  pub decided : command (reads ++ as_steps (before ++ write ∷ behind)) (stops done)
+  pub end : End
+  pub all : HasWrittenAll end
+  pub decided : command (reads ++ as_steps (before ++ write ∷ behind)) (stops end)
 
 -- where the command wants a call, it is a read and nothing is written, or it is a write that is decided on
 abbrev pub WritesLast : Command → Type 0
@@ -191,7 +200,7 @@ pub last_answered : (inputs : List Word) (Answers : List (List ℕ) → Answer �
 last_answered inputs Answers steps call (inl within) =
     inl (none_preparing inputs Answers steps (wants call) within, reads_preparing inputs Answers steps call within)
 last_answered inputs Answers steps call (inr h) =
-    let next = next_made h.value h.behind call h.goes_on in
+    let next = next_made h.value true h.behind call h.goes_on in
     inr (record {
       reads = h.front;
       before = next.before;
@@ -200,8 +209,33 @@ last_answered inputs Answers steps call (inr h) =
       none = none_preparing inputs Answers h.front (gives h.value) h.over;
       parts = h.parts ∙ ap (λ (l : List Step). h.front ++ l) next.made;
       is = next.is;
+      end = done;
+      all = inl refl;
       decided = subst (λ (ws : List Write). answered inputs Answers (h.front ++ as_steps ws) (stops done)) next.all
-          (over_then (preparing inputs Answers) making_all h.value h.front (as_steps h.value) (stops done) h.over (all_made h.value));
+          (over_then (preparing inputs Answers) (λ writes. closing writes true) h.value h.front (as_steps h.value) (stops done) h.over (all_made h.value true));
+    })
+
+-- where rules are judged
+pub last_judged : (inputs : List Word) (Answers : List (List ℕ) → Outcome Verdict → Type 0) → WritesLast (judged inputs Answers)
+last_judged inputs Answers steps call (inl within) =
+    inl (none_preparing inputs Answers steps (wants call) within, reads_preparing inputs Answers steps call within)
+last_judged inputs Answers steps call (inr h) =
+    let verdict = h.value in
+    let end = end_of verdict.holds in
+    let next = next_made verdict.writes verdict.holds h.behind call h.goes_on in
+    inr (record {
+      reads = h.front;
+      before = next.before;
+      write = next.write;
+      behind = next.behind;
+      none = none_preparing inputs Answers h.front (gives verdict) h.over;
+      parts = h.parts ∙ ap (λ (l : List Step). h.front ++ l) next.made;
+      is = next.is;
+      end = end;
+      all = ends_all verdict.holds;
+      decided = subst (λ (ws : List Write). judged inputs Answers (h.front ++ as_steps ws) (stops end)) next.all
+          (over_then (preparing inputs Answers) (λ (v : Verdict). closing v.writes v.holds) verdict h.front (as_steps verdict.writes) (stops end) h.over
+          (all_made verdict.writes verdict.holds));
     })
 
 pub last_ending : (end : End) → WritesLast (ending end)
@@ -221,6 +255,8 @@ last_one write steps call (inl within) = inr (first steps within)
       none = refl;
       parts = refl;
       is = same_call (Unit {0}) call (to_write write) (wants call) refl is;
+      end = done;
+      all = inl refl;
       decided = over_then (writing write) (λ _. ending done) tt (has_written write ∷ []) [] (stops done) (refl, refl) refl;
     }
     first (has_written v ∷ []) is = absurd (not_over (gives tt) call tt (sym is.1))
@@ -254,8 +290,10 @@ last_then p q none reads last steps call (inr h) = by (last h.value h.front h.ov
           none = nothing at.reads at.none;
           parts = h.parts ∙ ap (λ (l : List Step). h.front ++ l) at.parts ∙ sym (append_assoc h.front at.reads (as_steps at.before));
           is = at.is;
-          decided = subst (λ (l : List Step). (p >>= q) l (stops done)) (sym (append_assoc h.front at.reads (as_steps (at.before ++ at.write ∷ at.behind))))
-              (over_then p q h.value h.front (at.reads ++ as_steps (at.before ++ at.write ∷ at.behind)) (stops done) h.over at.decided);
+          end = at.end;
+          all = at.all;
+          decided = subst (λ (l : List Step). (p >>= q) l (stops at.end)) (sym (append_assoc h.front at.reads (as_steps (at.before ++ at.write ∷ at.behind))))
+              (over_then p q h.value h.front (at.reads ++ as_steps (at.before ++ at.write ∷ at.behind)) (stops at.end) h.over at.decided);
         })
 
 -- ---- what is left where memory is refused
@@ -279,6 +317,8 @@ module _ (landed : Landed) (command : Command) (last : WritesLast command) (old 
       writes = at.before ++ at.write ∷ at.behind;
       none = at.none;
       fit = fit_front landed old at.reads (as_steps at.before) (subst (Fit landed old) at.parts fits);
+      end = at.end;
+      all = at.all;
       decided = at.decided;
       front = front;
     }

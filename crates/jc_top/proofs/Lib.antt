@@ -1,4 +1,5 @@
 pub mod CommandLaws
+pub mod CheckLaws
 pub mod FirstWriteLaws
 pub mod WorkLaws
 pub mod BoundLaws
@@ -6,3 +7,4 @@ pub mod RunLaws
 pub mod SampleLaws
 pub mod ApartLaws
 pub mod HeadlineLaws
+pub mod RefsLaws

@@ -23,8 +23,8 @@ RunsAnswerOnce = (plan exec : Word) (paths : List Word) (text : List ℕ) → Ha
 refused_so : (f : Fault) (line : List ℕ) (end : End) → end ≡ refused f line → IsRefusal end
 refused_so f line end is = subst IsRefusal (sym is) tt
 
-module _ (plan exec : Word) (paths : List Word) (text : List ℕ) (read : List (List ℕ)) where
-  link_refuses : (end : End) → IsLinkEnd paths read end → IsRefusal end
+module _ (paths : List Word) (read : List (List ℕ)) where
+  pub link_refuses : (end : End) → IsLinkEnd paths read end → IsRefusal end
   link_refuses end is = by is.0 is.2
     where
       by : (r : LinkRefusal) → EndsAs paths read r end → IsRefusal end
@@ -32,11 +32,12 @@ module _ (plan exec : Word) (paths : List Word) (text : List ℕ) (read : List (
       by (refusals.SameName first second) so = refused_so _ _ end so.2
       by (refusals.SameId first second) so = refused_so _ _ end so.2
 
+module _ (plan exec : Word) (paths : List Word) (text : List ℕ) (read : List (List ℕ)) where
   answer_refuses : (p : RunPlan) (program : Program) (o : Option ThreadLine) (end : End) → stops end ≡ run_answer plan exec p program o → IsRefusal end
   answer_refuses p program None end is = absurd (gives_or_stops _ end (sym is))
   answer_refuses p program (Some thread) end is = is_refusal plan (fault.NoEntry thread.line) end is
 
   pub run_refuses : (end : End) → RunAnswers plan exec paths (text ∷ read) (stops end) → IsRefusal end
   run_refuses end (inr (e, is, same)) = refused_so _ _ end (same_end (List Write) end e (stops end) refl same ∙ is.2)
-  run_refuses end (inl (p, is, inr (e, link, same))) = subst IsRefusal (sym (same_end (List Write) end e (stops end) refl same)) (link_refuses e link)
+  run_refuses end (inl (p, is, inr (e, link, same))) = subst IsRefusal (sym (same_end (List Write) end e (stops end) refl same)) (link_refuses paths read e link)
   run_refuses end (inl (p, is, inl (program, made, same))) = answer_refuses p program (first_without program (threads_of p)) end same

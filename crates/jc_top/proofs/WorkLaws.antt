@@ -2,12 +2,12 @@
 use Rattle.std.proofs.Common.{◌≡◌, ◌⊎◌, inl, inr, ℕ, List, [], ◌∷◌, ◌++◌, Option, None, Some, map, refl, sym, ◌∙◌, ap, subst}
 use Rattle.std.proofs.lemmas.List.{length-map}
 use Rattle.jc_paths.specs.Paths.{FileText, in_folder}
-use Rattle.jc_command_words.specs.Commands.{Called, instrument, run, merge, report, exec_info, class_info, cover, cover_sample, Means, NoForm}
+use Rattle.jc_command_words.specs.Commands.{Called, instrument, run, merge, report, exec_info, class_info, cover, cover_sample, refs, lines, check, Means, NoForm}
 use Rattle.jc_command_words.proofs.CommandLaws.{one_command, some_or_none}
 use Rattle.jc_command_work.specs.declared.status.Status.{Status}
 use Rattle.jc_command_work.specs.declared.status.Status.TheVariants as status
 use Rattle.jc_command_work.specs.Step.{Word, IsFile, Outside, Counts, Landed, Call, Step}
-use Rattle.jc_command_work.specs.Part.{End, done, refused, misused, unread, unwritten, unprinted, status_of, Outcome, wants, gives, stops, Part, Command, deciding, reading, ◌>>=◌}
+use Rattle.jc_command_work.specs.Part.{End, done, unmet, refused, misused, unread, unwritten, unprinted, status_of, Outcome, wants, gives, stops, Part, Command, deciding, reading, ◌>>=◌}
 use Rattle.jc_command_work.specs.Ending.{Ends}
 use Rattle.jc_command_work.specs.Folders.{files_of}
 use Rattle.jc_command_work.specs.OneWay.{IsOver, HasOne, OneDecision, writes_of}
@@ -16,6 +16,10 @@ use Rattle.jc_command_work.specs.Causes.{IsOwnEnd, IsRefusal, EndsIn, HasOwnEnds
 use Rattle.jc_command_work.proofs.OneWork.{has_then, has_then_if, one_deciding, one_reading}
 use Rattle.jc_command_work.proofs.AnsweredLaws.{file_read, has_answered, has_files}
 use Rattle.jc_command_work.proofs.CauseLaws.{ends_then, ends_deciding, ends_reading, ends_answered, done_or_none}
+use Rattle.jc_rules.specs.declared.rule.Rule.{Rule}
+use Rattle.jc_command_rules.specs.LinesAnswers.{LinesAnswers}
+use Rattle.jc_command_rules.specs.CheckAnswers.{Verdict, CheckAnswers}
+use Rattle.jc_command_rules.proofs.AnswerLaws.{lines_has_one, lines_refuses, check_has_one, check_refuses}
 use Rattle.jc_command_work.proofs.FileLaws.{ends_files, none_files}
 use Rattle.jc_command_work.proofs.NoWrites.{WritesNone, none_deciding, none_reading}
 use Rattle.jc_command_work.proofs.Prefix.{writes-append}
@@ -27,16 +31,19 @@ use Rattle.jc_command_classes.specs.Instrument.{InstrumentAnswers}
 use Rattle.jc_command_classes.specs.Report.{ReportAnswers}
 use Rattle.jc_command_classes.proofs.ClassAnswers.{list_has_one, list_refuses, report_has_one, report_refuses, instrument_has_one, instrument_refuses}
 use Rattle.jc_command_run.specs.RunAnswers.{RunAnswers}
+use Rattle.jc_command_refs.specs.RefsAnswers.{RefsFiles}
 use Rattle.jc_headline.proofs.OneCoverLaws.{PlansAreOne, has_cover}
 use Rattle.jc_headline.proofs.OwnEndLaws.{cover_ends}
-use Rattle.jc_top.specs.Work.{on_files, reporting, work_of, IsUsage, the_work}
-use Rattle.jc_top.specs.FirstWrite.{DecidesFirst, DecideFirst}
+use Rattle.jc_top.specs.Work.{on_files, reporting, lining, checking, judging_files, judged, work_of, IsUsage, the_work}
+use Rattle.jc_top.specs.FirstWrite.{DecidesFirst, DecideFirst, HasWrittenAll}
 use Rattle.jc_command_sample.proofs.OneSampleLaws.{has_sample}
 use Rattle.jc_top.specs.Bounds.{IsBounded}
 use Rattle.jc_top.proofs.BoundLaws.{means_bounded}
 use Rattle.jc_top.proofs.SampleLaws.{ends_sample, last_sample, sample_or_nothing}
 use Rattle.jc_top.proofs.RunLaws.{RunsAnswerOnce, run_refuses}
-use Rattle.jc_top.proofs.FirstWriteLaws.{WritesLast, last_answered, last_then, reads_files, reads_reading, reads_deciding}
+use Rattle.jc_top.proofs.RefsLaws.{RefsAnswerOnce, refs_refuses}
+use Rattle.jc_top.proofs.CheckLaws.{has_judged, ends_judged, judged_or_none}
+use Rattle.jc_top.proofs.FirstWriteLaws.{WritesLast, last_answered, last_judged, last_then, reads_files, reads_reading, reads_deciding}
 
 -- ---- answers
 
@@ -48,6 +55,12 @@ report_answers csv name exec texts paths read = ReportAnswers csv name exec path
 
 abbrev run_answers : (plan destfile : Word) → List ℕ → List Word → List (List ℕ) → Answer → Type 0
 run_answers plan destfile text paths read = RunAnswers plan destfile paths (text ∷ read)
+
+abbrev lines_answers : Option Word → List (List ℕ) → List Word → List (List ℕ) → Answer → Type 0
+lines_answers exec texts paths read = LinesAnswers exec paths (texts ++ read)
+
+abbrev check_answers : List Rule → Option Word → List (List ℕ) → List Word → List (List ℕ) → Outcome Verdict → Type 0
+check_answers rules exec texts paths read = CheckAnswers rules exec paths (texts ++ read)
 
 abbrev running : (plan destfile : Word) → List FileText → List ℕ → Command
 running plan destfile files text = on_files files (run_answers plan destfile text)
@@ -81,12 +94,17 @@ module _ (landed : Landed) where
   has_on_files files Answers one =
       has_then landed (files_of files) (λ paths. answered paths (Answers paths)) (has_files landed files) (λ paths. has_answered landed paths (Answers paths) (one paths))
 
+  has_judging : (files : List FileText) (Answers : List Word → List (List ℕ) → Outcome Verdict → Type 0) → ((paths : List Word) → HasOneAnswer paths (Answers paths))
+      → HasOne landed (judging_files files Answers)
+  has_judging files Answers one =
+      has_then landed (files_of files) (λ paths. judged paths (Answers paths)) (has_files landed files) (λ paths. has_judged paths (Answers paths) landed (one paths))
+
   -- behind a file that was read
   has_behind : (path : Word) (q : List ℕ → Command) → ((text : List ℕ) → IsFile text → HasOne landed (q text)) → HasOne landed (reading path >>= q)
   has_behind path q one =
       has_then_if landed (reading path) q (λ w told. one_reading landed w path told) (λ w steps text read fits. one text (file_read landed w path text steps read fits))
 
-  module _ (runs : RunsAnswerOnce) (plans : PlansAreOne) where
+  module _ (runs : RunsAnswerOnce) (refs_once : RefsAnswerOnce) (plans : PlansAreOne) where
     has_work : (command : Called) → IsBounded command → HasOne landed (work_of command)
     has_work (instrument dest files) bounded =
         has_on_files files (instrument_answers dest) (λ paths. instrument_has_one (map (in_folder dest) paths) paths (length-map paths (in_folder dest)))
@@ -103,6 +121,15 @@ module _ (landed : Landed) where
     has_work (cover dest plan destfile csv workers name files) bounded =
         has_cover plans landed (record { dest = dest; plan = plan; exec = destfile; csv = csv; name = name; files = files })
     has_work (cover_sample methods) bounded = has_sample landed methods bounded.1
+    has_work (refs files) bounded = has_on_files files RefsFiles refs_once
+    has_work (lines None files) bounded = has_on_files files (lines_answers None []) (λ paths. lines_has_one None paths)
+    has_work (lines (Some exec) files) bounded =
+        has_behind exec (λ text. lining (Some exec) (text ∷ []) files)
+        (λ text file. has_on_files files (lines_answers (Some exec) (text ∷ [])) (λ paths read are. lines_has_one (Some exec) paths (text ∷ read) (file, are)))
+    has_work (check rules None files) bounded = has_judging files (check_answers rules None []) (λ paths. check_has_one rules None paths)
+    has_work (check rules (Some exec) files) bounded =
+        has_behind exec (λ text. checking rules (Some exec) (text ∷ []) files)
+        (λ text file. has_judging files (check_answers rules (Some exec) (text ∷ [])) (λ paths read are. check_has_one rules (Some exec) paths (text ∷ read) (file, are)))
 
     pub has_the_work : (words : List Word) → HasOne landed (the_work words)
     has_the_work words =
@@ -114,6 +141,7 @@ module _ (landed : Landed) where
 -- an end of a command
 abbrev IsCommandEnd : End → Type 0
 IsCommandEnd done = Unit {0}
+IsCommandEnd unmet = Unit {0}
 IsCommandEnd (refused fault line) = Unit {0}
 IsCommandEnd misused = ⊥
 IsCommandEnd (unread path) = Unit {0}
@@ -122,6 +150,7 @@ IsCommandEnd unprinted = ⊥
 
 of_refusal : (end : End) → IsRefusal end → IsCommandEnd end
 of_refusal done is = absurd is
+of_refusal unmet is = absurd is
 of_refusal (refused fault line) is = tt
 of_refusal misused is = absurd is
 of_refusal (unread path) is = absurd is
@@ -130,17 +159,28 @@ of_refusal unprinted is = absurd is
 
 command_own : (end : End) → IsCommandEnd end → IsOwnEnd end
 command_own done is = tt
+command_own unmet is = tt
 command_own (refused fault line) is = tt
 command_own misused is = absurd is
 command_own (unread path) is = tt
 command_own (unwritten path) is = absurd is
 command_own unprinted is = absurd is
 
-ends_on_files : (files : List FileText) (Answers : List Word → List (List ℕ) → Answer → Type 0)
-    → ((paths : List Word) (texts : List (List ℕ)) (end : End) → Answers paths texts (stops end) → IsRefusal end) → EndsIn IsCommandEnd (on_files files Answers)
+-- where the answer ends the command, it refuses an input
+abbrev RefusesInputs : {X : Type 0} → (List Word → List (List ℕ) → Outcome X → Type 0) → Type 0
+RefusesInputs Answers = (paths : List Word) (texts : List (List ℕ)) (end : End) → Answers paths texts (stops end) → IsRefusal end
+
+ends_on_files : (files : List FileText) (Answers : List Word → List (List ℕ) → Answer → Type 0) → RefusesInputs Answers
+    → EndsIn IsCommandEnd (on_files files Answers)
 ends_on_files files Answers refuses =
     ends_then IsCommandEnd (files_of files) (λ paths. answered paths (Answers paths)) (ends_files IsCommandEnd files)
     (λ paths. ends_answered IsCommandEnd paths (Answers paths) tt (λ path. tt) (λ texts end is. of_refusal end (refuses paths texts end is)))
+
+ends_judging : (files : List FileText) (Answers : List Word → List (List ℕ) → Outcome Verdict → Type 0) → RefusesInputs Answers
+    → EndsIn IsCommandEnd (judging_files files Answers)
+ends_judging files Answers refuses =
+    ends_then IsCommandEnd (files_of files) (λ paths. judged paths (Answers paths)) (ends_files IsCommandEnd files)
+    (λ paths. ends_judged paths (Answers paths) IsCommandEnd tt tt (λ path. tt) (λ texts end is. of_refusal end (refuses paths texts end is)))
 
 ends_behind : (path : Word) (q : List ℕ → Command) → ((text : List ℕ) → EndsIn IsCommandEnd (q text)) → EndsIn IsCommandEnd (reading path >>= q)
 ends_behind path q own = ends_then IsCommandEnd (reading path) q (ends_reading IsCommandEnd (λ path. tt) path) own
@@ -159,6 +199,15 @@ work_ends (class_info files) = ends_on_files files ListAnswers list_refuses
 work_ends (cover dest plan destfile csv workers name files) =
     cover_ends IsCommandEnd tt (λ fault line. tt) (λ path. tt) (record { dest = dest; plan = plan; exec = destfile; csv = csv; name = name; files = files })
 work_ends (cover_sample methods) = ends_sample IsCommandEnd tt (λ fault line. tt) methods
+work_ends (refs files) = ends_on_files files RefsFiles refs_refuses
+work_ends (lines None files) = ends_on_files files (lines_answers None []) (lines_refuses None)
+work_ends (lines (Some exec) files) =
+    ends_behind exec (λ text. lining (Some exec) (text ∷ []) files)
+    (λ text. ends_on_files files (lines_answers (Some exec) (text ∷ [])) (λ paths read. lines_refuses (Some exec) paths (text ∷ read)))
+work_ends (check rules None files) = ends_judging files (check_answers rules None []) (check_refuses rules None)
+work_ends (check rules (Some exec) files) =
+    ends_behind exec (λ text. checking rules (Some exec) (text ∷ []) files)
+    (λ text. ends_judging files (check_answers rules (Some exec) (text ∷ [])) (λ paths read. check_refuses rules (Some exec) paths (text ∷ read)))
 
 usage_own : (words : List Word) (end : End) → IsUsage words end → IsOwnEnd end
 usage_own words end is = subst IsOwnEnd (sym is.1) tt
@@ -170,44 +219,64 @@ own_ends words =
 
 -- ---- commands that decide first
 
--- the command is done at its end, or has written nothing
-abbrev DoneOrNothing : Command → Type 0
-DoneOrNothing command = (steps : List Step) (end : End) → command steps (stops end) → (end ≡ done) ⊎ (writes_of steps ≡ [])
+-- the command has written all at its end, or nothing
+abbrev AllOrNothing : Command → Type 0
+AllOrNothing command = (steps : List Step) (end : End) → command steps (stops end) → HasWrittenAll end ⊎ (writes_of steps ≡ [])
 
-nothing_before : {X : Type 0} (p : Part X) (q : X → Command) → WritesNone p → ((x : X) (front : List Step) → p front (gives x) → DoneOrNothing (q x))
-    → DoneOrNothing (p >>= q)
+all_of : {end : End} {Nothing : Type 0} → (end ≡ done) ⊎ Nothing → HasWrittenAll end ⊎ Nothing
+all_of (inl finished) = inl (inl finished)
+all_of (inr nothing) = inr nothing
+
+nothing_before : {X : Type 0} (p : Part X) (q : X → Command) → WritesNone p → ((x : X) (front : List Step) → p front (gives x) → AllOrNothing (q x))
+    → AllOrNothing (p >>= q)
 nothing_before p q none or steps end (inl within) = inr (none steps (stops end) within)
 nothing_before p q none or steps end (inr h) = by (or h.value h.front h.over h.behind end h.goes_on)
   where
-    by : (end ≡ done) ⊎ (writes_of h.behind ≡ []) → (end ≡ done) ⊎ (writes_of steps ≡ [])
+    by : HasWrittenAll end ⊎ (writes_of h.behind ≡ []) → HasWrittenAll end ⊎ (writes_of steps ≡ [])
     by (inl finished) = inl finished
     by (inr nothing) =
         inr (ap writes_of h.parts ∙ writes-append h.front h.behind ∙ ap (λ ws. ws ++ writes_of h.behind) (none h.front (gives h.value) h.over) ∙ nothing)
 
-nothing_on_files : (files : List FileText) (Answers : List Word → List (List ℕ) → Answer → Type 0) → DoneOrNothing (on_files files Answers)
-nothing_on_files files Answers = nothing_before (files_of files) (λ paths. answered paths (Answers paths)) (none_files files) (λ paths front over. done_or_none paths (Answers paths))
+nothing_on_files : (files : List FileText) (Answers : List Word → List (List ℕ) → Answer → Type 0) → AllOrNothing (on_files files Answers)
+nothing_on_files files Answers =
+    nothing_before (files_of files) (λ paths. answered paths (Answers paths)) (none_files files)
+    (λ paths front over steps end is. all_of (done_or_none paths (Answers paths) steps end is))
 
-work_or_nothing : (command : Called) → DecidesFirst command → DoneOrNothing (work_of command)
+nothing_judging : (files : List FileText) (Answers : List Word → List (List ℕ) → Outcome Verdict → Type 0) → AllOrNothing (judging_files files Answers)
+nothing_judging files Answers =
+    nothing_before (files_of files) (λ paths. judged paths (Answers paths)) (none_files files) (λ paths front over. judged_or_none paths (Answers paths))
+
+work_or_nothing : (command : Called) → DecidesFirst command → AllOrNothing (work_of command)
 work_or_nothing (instrument dest files) first = nothing_on_files files (instrument_answers dest)
 work_or_nothing (run plan destfile workers files) first =
     nothing_before (reading plan) (running plan destfile files) (none_reading plan) (λ text front over. nothing_on_files files (run_answers plan destfile text))
-work_or_nothing (merge destfile inputs) first = done_or_none inputs (MergeAnswers destfile inputs)
+work_or_nothing (merge destfile inputs) first = λ steps end is. all_of (done_or_none inputs (MergeAnswers destfile inputs) steps end is)
 work_or_nothing (report csv name None files) first = nothing_on_files files (report_answers csv name None [])
 work_or_nothing (report csv name (Some exec) files) first = nothing_before (reading exec) (λ text. reporting csv name (Some exec) (text ∷ []) files)
     (none_reading exec) (λ text front over. nothing_on_files files (report_answers csv name (Some exec) (text ∷ [])))
-work_or_nothing (exec_info inputs) first = done_or_none inputs (InfoAnswers inputs)
+work_or_nothing (exec_info inputs) first = λ steps end is. all_of (done_or_none inputs (InfoAnswers inputs) steps end is)
 work_or_nothing (class_info files) first = nothing_on_files files ListAnswers
 work_or_nothing (cover dest plan destfile csv workers name files) first = absurd first
-work_or_nothing (cover_sample methods) first = sample_or_nothing methods
+work_or_nothing (cover_sample methods) first = λ steps end is. all_of (sample_or_nothing methods steps end is)
+work_or_nothing (refs files) first = nothing_on_files files RefsFiles
+work_or_nothing (lines None files) first = nothing_on_files files (lines_answers None [])
+work_or_nothing (lines (Some exec) files) first = nothing_before (reading exec) (λ text. lining (Some exec) (text ∷ []) files)
+    (none_reading exec) (λ text front over. nothing_on_files files (lines_answers (Some exec) (text ∷ [])))
+work_or_nothing (check rules None files) first = nothing_judging files (check_answers rules None [])
+work_or_nothing (check rules (Some exec) files) first = nothing_before (reading exec) (λ text. checking rules (Some exec) (text ∷ []) files)
+    (none_reading exec) (λ text front over. nothing_judging files (check_answers rules (Some exec) (text ∷ [])))
 
--- words that end otherwise than done have written nothing
-pub done_or_nothing : (words : List Word) → DecideFirst words → DoneOrNothing (the_work words)
-done_or_nothing words first =
+-- words that haven't written all have written nothing
+pub all_or_nothing : (words : List Word) → DecideFirst words → AllOrNothing (the_work words)
+all_or_nothing words first =
     nothing_before (deciding (Means words) (IsUsage words)) work_of (none_deciding (Means words) (IsUsage words))
     (λ command front over. work_or_nothing command (first command (meant words command front over)))
 
 last_on_files : (files : List FileText) (Answers : List Word → List (List ℕ) → Answer → Type 0) → WritesLast (on_files files Answers)
 last_on_files files Answers = last_then (files_of files) (λ paths. answered paths (Answers paths)) (none_files files) (reads_files files) (λ paths front over. last_answered paths (Answers paths))
+
+last_judging : (files : List FileText) (Answers : List Word → List (List ℕ) → Outcome Verdict → Type 0) → WritesLast (judging_files files Answers)
+last_judging files Answers = last_then (files_of files) (λ paths. judged paths (Answers paths)) (none_files files) (reads_files files) (λ paths front over. last_judged paths (Answers paths))
 
 last_work : (command : Called) → DecidesFirst command → WritesLast (work_of command)
 last_work (instrument dest files) first = last_on_files files (instrument_answers dest)
@@ -221,6 +290,13 @@ last_work (exec_info inputs) first = last_answered inputs (InfoAnswers inputs)
 last_work (class_info files) first = last_on_files files ListAnswers
 last_work (cover dest plan destfile csv workers name files) first = absurd first
 last_work (cover_sample methods) first = last_sample methods
+last_work (refs files) first = last_on_files files RefsFiles
+last_work (lines None files) first = last_on_files files (lines_answers None [])
+last_work (lines (Some exec) files) first = last_then (reading exec) (λ text. lining (Some exec) (text ∷ []) files)
+    (none_reading exec) (reads_reading exec) (λ text front over. last_on_files files (lines_answers (Some exec) (text ∷ [])))
+last_work (check rules None files) first = last_judging files (check_answers rules None [])
+last_work (check rules (Some exec) files) first = last_then (reading exec) (λ text. checking rules (Some exec) (text ∷ []) files)
+    (none_reading exec) (reads_reading exec) (λ text front over. last_judging files (check_answers rules (Some exec) (text ∷ [])))
 
 pub last_the_work : (words : List Word) → DecideFirst words → WritesLast (the_work words)
 last_the_work words first =

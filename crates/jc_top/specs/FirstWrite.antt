@@ -1,8 +1,8 @@
 -- What is left by a command that reads and decides before it writes.
-use Rattle.std.specs.Prelude.{◌≡◌, ⊤, List, [], ◌++◌, map}
-use Rattle.jc_command_words.specs.Commands.{Called, instrument, run, merge, report, exec_info, class_info, cover, cover_sample, Means}
+use Rattle.std.specs.Prelude.{◌≡◌, ◌⊎◌, ⊤, List, [], ◌++◌, map}
+use Rattle.jc_command_words.specs.Commands.{Called, instrument, run, merge, report, exec_info, class_info, cover, cover_sample, refs, lines, check, Means}
 use Rattle.jc_command_work.specs.Step.{Word, Outside, Landed, Write, Step, has_written, Fit}
-use Rattle.jc_command_work.specs.Part.{done, stops, Command}
+use Rattle.jc_command_work.specs.Part.{End, done, unmet, stops, Command}
 use Rattle.jc_command_work.specs.OneWay.{writes_of}
 use Rattle.jc_command_work.specs.Prefix.{IsFront}
 
@@ -16,10 +16,17 @@ DecidesFirst (exec_info inputs) = ⊤
 DecidesFirst (class_info files) = ⊤
 DecidesFirst (cover dest plan destfile csv workers name files) = ⊥
 DecidesFirst (cover_sample methods) = ⊤
+DecidesFirst (refs files) = ⊤
+DecidesFirst (lines exec files) = ⊤
+DecidesFirst (check rules exec files) = ⊤
 
 -- so does the command that the words call, if they call one
 abbrev pub DecideFirst : List Word → Type 0
 DecideFirst words = (command : Called) → Means words command → DecidesFirst command
+
+-- the command has written all, whether rules hold or not
+abbrev pub HasWrittenAll : End → Type 0
+HasWrittenAll end = (end ≡ done) ⊎ (end ≡ unmet)
 
 abbrev pub as_steps : List Write → List Step
 as_steps writes = map (λ w. has_written w) writes
@@ -30,5 +37,7 @@ pub record WritesBegun (landed : Landed) (command : Command) (old new : Outside)
   pub writes : List Write
   pub none : writes_of reads ≡ []
   pub fit : Fit landed old reads
-  pub decided : command (reads ++ as_steps writes) (stops done)
+  pub end : End
+  pub all : HasWrittenAll end
+  pub decided : command (reads ++ as_steps writes) (stops end)
   pub front : IsFront landed old writes new

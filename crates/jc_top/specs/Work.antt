@@ -1,17 +1,22 @@
 -- The work of words: that of the command that they call.
 use Rattle.std.specs.Prelude.{◌≡◌, ℕ, List, [], ◌∷◌, ◌++◌, Option, None, Some, map}
 use Rattle.jc_paths.specs.Paths.{FileText, in_folder}
-use Rattle.jc_command_words.specs.Commands.{Called, instrument, run, merge, report, exec_info, class_info, cover, cover_sample, Means, NoForm}
+use Rattle.jc_command_words.specs.Commands.{Called, instrument, run, merge, report, exec_info, class_info, cover, cover_sample, refs, lines, check, Means, NoForm}
 use Rattle.jc_command_work.specs.Step.{Word}
-use Rattle.jc_command_work.specs.Part.{End, misused, Command, deciding, reading, ◌>>=◌}
+use Rattle.jc_command_work.specs.Part.{End, misused, Outcome, Command, deciding, reading, ◌>>=◌}
 use Rattle.jc_command_work.specs.Folders.{files_of}
-use Rattle.jc_command_work.specs.Answered.{Answer, answered}
+use Rattle.jc_command_work.specs.Answered.{Answer, answered, preparing}
+use Rattle.jc_command_work.specs.Closing.{closing}
+use Rattle.jc_rules.specs.declared.rule.Rule.{Rule}
 use Rattle.jc_command_exec.specs.Merge.{MergeAnswers}
 use Rattle.jc_command_exec.specs.ExecInfo.{InfoAnswers}
 use Rattle.jc_command_classes.specs.ClassInfo.{ListAnswers}
 use Rattle.jc_command_classes.specs.Report.{ReportAnswers}
 use Rattle.jc_command_classes.specs.Instrument.{InstrumentAnswers}
 use Rattle.jc_command_run.specs.RunAnswers.{RunAnswers}
+use Rattle.jc_command_refs.specs.RefsAnswers.{RefsFiles}
+use Rattle.jc_command_rules.specs.LinesAnswers.{LinesAnswers}
+use Rattle.jc_command_rules.specs.CheckAnswers.{Verdict, CheckAnswers}
 use Rattle.jc_headline.specs.CoverWork.{cover_work}
 use Rattle.jc_command_sample.specs.SampleWork.{sample_work}
 
@@ -24,6 +29,25 @@ on_files files Answers = do
 -- a report by these texts of execution data
 abbrev pub reporting : (csv name : Word) → Option Word → List (List ℕ) → List FileText → Command
 reporting csv name exec texts files = on_files files (λ paths read. ReportAnswers csv name exec paths (texts ++ read))
+
+-- the lines of classes by these texts of execution data
+abbrev pub lining : Option Word → List (List ℕ) → List FileText → Command
+lining exec texts files = on_files files (λ paths read. LinesAnswers exec paths (texts ++ read))
+
+-- the inputs are read, rules are judged, and what is to be said is written; the command ends by whether they hold
+abbrev pub judged : List Word → (List (List ℕ) → Outcome Verdict → Type 0) → Command
+judged inputs Answers = do
+  verdict ← preparing inputs Answers
+  closing verdict.writes verdict.holds
+
+abbrev pub judging_files : List FileText → (List Word → List (List ℕ) → Outcome Verdict → Type 0) → Command
+judging_files files Answers = do
+  paths ← files_of files
+  judged paths (Answers paths)
+
+-- rules on classes by these texts of execution data
+abbrev pub checking : List Rule → Option Word → List (List ℕ) → List FileText → Command
+checking rules exec texts files = judging_files files (λ paths read. CheckAnswers rules exec paths (texts ++ read))
 
 abbrev pub work_of : Called → Command
 work_of (instrument dest files) = on_files files (λ paths. InstrumentAnswers (map (in_folder dest) paths) paths)
@@ -40,6 +64,15 @@ work_of (class_info files) = on_files files ListAnswers
 work_of (cover dest plan destfile csv workers name files) =
     cover_work (record { dest = dest; plan = plan; exec = destfile; csv = csv; name = name; files = files })
 work_of (cover_sample methods) = sample_work methods
+work_of (refs files) = on_files files RefsFiles
+work_of (lines None files) = lining None [] files
+work_of (lines (Some exec) files) = do
+  text ← reading exec
+  lining (Some exec) (text ∷ []) files
+work_of (check rules None files) = checking rules None [] files
+work_of (check rules (Some exec) files) = do
+  text ← reading exec
+  checking rules (Some exec) (text ∷ []) files
 
 -- the words are of no stated form, and the command ends as misused
 abbrev pub IsUsage : List Word → End → Type 0

@@ -1,7 +1,7 @@
 //! The commands, each with all that it reads, writes and says.
 ghost use Rattle.std.specs.Prelude.{◌≤◌, ◌<◌, ◌^◌, ℕ, List, length, map};
 ghost use Rattle.jc_paths.specs.Looks.{file_view};
-ghost use Rattle.jc_command_words.specs.Commands.{exec_info, class_info, cover_sample, files_of};
+ghost use Rattle.jc_command_words.specs.Commands.{exec_info, class_info, cover_sample, refs, files_of};
 ghost use Rattle.jc_command_words.specs.Seen.{instrument_called, run_called, merge_called, report_called, cover_called, command_seen};
 ghost use Rattle.jc_command_work.specs.Ending.{Ends};
 ghost use Rattle.jc_command_work.specs.Handed.{OnOutside};
@@ -11,11 +11,13 @@ ghost use Rattle.jc_top.specs.Bounds.{IsBounded};
 ghost use Rattle.jc_top.specs.Work.{reporting, work_of};
 
 use crate::complete::{complete, complete_listing};
+use crate::rules::{check, lines};
 use jc_command_classes::{
     ExecInput, ReportOptions, prepare_class_info, prepare_instrument, prepare_report,
 };
 use jc_command_cover::CoverOptions;
 use jc_command_exec::{prepare_exec_info, prepare_merge, read_alone};
+use jc_command_refs::prepare_refs;
 use jc_command_run::{RunOptions, prepare_run};
 use jc_command_words::{Command, CoverWords, InstrumentWords, MergeWords, ReportWords, RunWords};
 use jc_command_work::{Outside, Resources, Status, list_files, read_one};
@@ -215,6 +217,23 @@ fn cover_sample<R: Threads + Sync, F: Files, O: Sink, E: Sink, G: Gate + Sync>(
     }
 }
 
+/// Says whether each reference suits what takes it, or the first instruction at which one doesn't.
+fn refs<F: Files, O: Sink, E: Sink>(
+    alloc: Global,
+    outside: &mut Outside<'_, '_, '_, F, O, E>,
+    words: &[FileWord<'_>],
+) -> Status
+    ensures { OnOutside F.Files O.Sink E.Sink outside.old outside.new
+        (Ends F.landed (work_of (refs (map file_view words.now)))) result }
+{
+    let paths = match list_files(alloc, outside.files, words) {
+        Ok(paths) => paths,
+        Err(stop) => return jc_command_work::report(alloc, outside.err, stop),
+    };
+    let prepared = prepare_refs(alloc, outside.files, &paths);
+    complete(alloc, outside, prepared)
+}
+
 /// Does what the command asks for.
 pub fn run_command<R: Threads + Sync, F: Files, O: Sink, E: Sink, G: Gate + Sync>(
     resources: &Resources<'_, '_, R, G>,
@@ -235,5 +254,8 @@ pub fn run_command<R: Threads + Sync, F: Files, O: Sink, E: Sink, G: Gate + Sync
         Command::ClassInfo { files } => class_info(rt, alloc, outside, files),
         Command::Cover(words) => cover(resources, outside, words),
         Command::CoverSample { methods } => cover_sample(resources, outside, *methods),
+        Command::Refs { files } => refs(alloc, outside, files),
+        Command::Lines(words) => lines(rt, alloc, outside, words),
+        Command::Check(words) => check(rt, alloc, outside, words),
     }
 }

@@ -3,16 +3,17 @@ ghost use Rattle.std.specs.Prelude.{◌≡◌, ◌≢◌, ◌⊎◌, [], List};
 ghost use Rattle.jc_command_work.specs.declared.status.Status.{Status};
 ghost use Rattle.jc_command_work.specs.declared.status.Status.TheVariants as status;
 ghost use Rattle.jc_command_work.specs.Step.{Word, Outside, Counts, Landed, Step};
-ghost use Rattle.jc_command_work.specs.Part.{End, done, status_of, stops};
+ghost use Rattle.jc_command_work.specs.Part.{End, status_of, stops};
 ghost use Rattle.jc_command_work.specs.Ending.{NoneRose, Ends};
 ghost use Rattle.jc_command_work.specs.OneWay.{IsTold, Work, IsWork, writes_of};
 ghost use Rattle.jc_command_work.specs.Prefix.{LeavesFront, with_failed};
 ghost use Rattle.jc_command_work.specs.Causes.{Cause, WorkFailed};
 ghost use Rattle.jc_command_words.specs.Commands.{NoForm};
 ghost use Rattle.jc_headline.specs.Runs.{ToldRun, MakesItsWork};
-ghost use Rattle.jc_top.specs.FirstWrite.{DecideFirst, WritesBegun};
+ghost use Rattle.jc_top.specs.FirstWrite.{DecideFirst, HasWrittenAll, WritesBegun};
 ghost use Rattle.jc_top.specs.Work.{the_work};
 
+use jc_command_refs::refs_have_an_answer;
 use jc_command_run::a_run_has_an_answer;
 use jc_run_plans::each_text_is_a_plan_or_has_a_first_unfit_line;
 
@@ -23,6 +24,7 @@ pub fn words_have_one_work()
         → IsWork landed (the_work words) w a → IsWork landed (the_work words) w b → a ≡ b }
 {
     a_run_has_an_answer();
+    refs_have_an_answer();
     each_text_is_a_plan_or_has_a_first_unfit_line();
 }
 
@@ -34,6 +36,7 @@ pub fn words_have_one_work()
 /// - `ReadFault`: the path that the work wants next is missing or too large, as is told; or a read failed, and its count rose.
 /// - `WriteFault`: a write failed, its count rose, and it was made in part.
 /// - `Memory`: some first steps were made, or the call behind them failed too. Nothing is said.
+/// - `Broken`: no count moved, all steps were made, and a rule doesn't hold.
 pub fn each_status_has_its_cause()
     ensures { (landed : Landed) (words : List Word) (old new : Outside) (f g : Counts) (s : Status)
         → Ends landed (the_work words) old new f g s → Cause landed (the_work words) old new f g s }
@@ -53,6 +56,7 @@ pub fn each_run_ends_as_its_work()
         → NoneRose run.old_counts run.new_counts → run.ended ≢ status.Memory → MakesItsWork run }
 {
     a_run_has_an_answer();
+    refs_have_an_answer();
     each_text_is_a_plan_or_has_a_first_unfit_line();
 }
 
@@ -65,6 +69,7 @@ pub fn each_run_leaves_a_front_of_its_work()
         → LeavesFront landed run.old run.work run.ended run.new }
 {
     a_run_has_an_answer();
+    refs_have_an_answer();
     each_text_is_a_plan_or_has_a_first_unfit_line();
 }
 
@@ -76,11 +81,11 @@ pub fn usage_comes_for_words_of_no_form()
         → Ends landed (the_work words) old new f g s → (s ≡ status.Usage) ⊎ (s ≡ status.Memory) }
 {}
 
-/// A command other than `cover` that isn't done at its end has written nothing but the message: it refuses its inputs before its
-/// first write.
+/// A command other than `cover` that hasn't written all at its end has written nothing but the message: it refuses its inputs
+/// before its first write. It has written all where it is done, or a rule doesn't hold.
 pub fn a_command_but_cover_that_refuses_has_written_nothing()
     ensures { (words : List Word) (steps : List Step) (end : End) → DecideFirst words → the_work words steps (stops end)
-        → (end ≡ done) ⊎ (writes_of steps ≡ []) }
+        → HasWrittenAll end ⊎ (writes_of steps ≡ []) }
 {}
 
 /// Where a command other than `cover` ends for want of memory, files and texts are as they were, whichever read of them failed last,

@@ -4,6 +4,7 @@
 mod commands;
 mod complete;
 mod laws;
+mod rules;
 mod run;
 
 pub use jc_command_work::{Fault, Status};

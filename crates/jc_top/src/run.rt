@@ -41,6 +41,9 @@ fn read_command<'a>(alloc: Global, words: &'a [String]) -> Result<Command<'a>, F
 /// - `execinfo IN..`
 /// - `classinfo FILE..`
 /// - `cover --dest DIR --plan PLAN --destfile OUT --csv CSV [--workers N] [--name NAME] FILE..`, or `cover --sample N`
+/// - `refs FILE..`
+/// - `lines [--exec IN] FILE..`
+/// - `check --min RULES [--exec IN] FILE..`
 ///
 /// where options stand in any order in front of the files, and a FILE that ends with `/` stands for the class files of the folder
 /// of that path. A command reads its run plan or execution data, lists the folders and reads the files. Then it refuses

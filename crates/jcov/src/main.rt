@@ -27,7 +27,7 @@ fn words(rt: &(impl rt::Env + AllocGlobal)) -> Result<Vec<String>, AllocError> {
     Ok(words)
 }
 
-/// The exit status: 0 to 5, in the order of the variants.
+/// The exit status: 0 to 6, in the order of the variants.
 fn exit_status(status: Status) -> u8
     ensures { result ≡ exit_status status }
 {
@@ -38,6 +38,7 @@ fn exit_status(status: Status) -> u8
         Status::ReadFault => 3,
         Status::WriteFault => 4,
         Status::Memory => 5,
+        Status::Broken => 6,
     }
 }
 

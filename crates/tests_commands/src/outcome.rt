@@ -21,6 +21,7 @@ fn put_refused(fault: &Fault, out: &mut Answer) {
         }
         Fault::SameId { first, second } => put_pair("refused: class ids ", *first, *second, out),
         Fault::NoEntry { line } => out.label("refused: no entry at line ", line),
+        Fault::Refs { path, .. } => out.label("refused: references of class ", path),
     }
 }
 
@@ -33,6 +34,7 @@ pub fn put_status(status: &Status, out: &mut Answer) {
         Status::ReadFault => out.put("read fault"),
         Status::WriteFault => out.put("write fault"),
         Status::Memory => out.put("memory"),
+        Status::Broken => out.put("broken"),
     }
 }
 

@@ -3,6 +3,7 @@ use Rattle.jc_paths.specs.Looks.{file_view}
 use Rattle.jc_command_work.specs.Seen.{texts_of}
 use Rattle.jc_command_classes.specs.ClassInfo.{ListAnswers}
 use Rattle.jc_command_exec.specs.ExecInfo.{InfoAnswers}
+use Rattle.jc_command_refs.specs.RefsAnswers.{RefsFiles}
 use Rattle.jc_top.specs.Work.{on_files}
 use Rattle.jc_top.proofs.CommandLaws.{ends_on, ends_same}
 use Rattle.jc_top.proofs.commands.run_command.Goals as goal
@@ -37,3 +38,17 @@ returns-in-Cover g c = rw c.in-Cover.is c.cover.ensures
 
 pub returns-in-CoverSample : goal.returns-in-CoverSample
 returns-in-CoverSample g c = rw c.in-CoverSample.is c.cover_sample.ensures
+
+pub returns-in-Refs : goal.returns-in-Refs
+returns-in-Refs g c =
+    rw c.in-Refs.is (
+      c.refs.ensures.0,
+      ends_on g.F.Files.landed (λ files. on_files files RefsFiles) (map file_view c.deref-in-Refs.result.now) (map file_view c.in-Refs.files.items)
+          (ap (map file_view) c.deref-in-Refs.ensures.value) _ _ _ _ c.refs.result c.refs.ensures.1,
+    )
+
+pub returns-in-Lines : goal.returns-in-Lines
+returns-in-Lines g c = rw c.in-Lines.is c.lines.ensures
+
+pub returns-in-Check : goal.returns-in-Check
+returns-in-Check g c = rw c.in-Check.is c.check.ensures

@@ -1,5 +1,5 @@
-use Rattle.jc_top.proofs.WorkLaws.{done_or_nothing}
+use Rattle.jc_top.proofs.WorkLaws.{all_or_nothing}
 use Rattle.jc_top.proofs.laws.a_command_but_cover_that_refuses_has_written_nothing.Goals as goal
 
 pub returns : goal.returns
-returns c words steps end first comes = done_or_nothing words first steps end comes
+returns c words steps end first comes = all_or_nothing words first steps end comes

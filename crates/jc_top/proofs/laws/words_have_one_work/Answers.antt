@@ -8,10 +8,10 @@ pub returns-clause-some : goal.returns-clause-some
 returns-clause-some c landed words w told =
     let laws = c.each_text_is_a_plan_or_has_a_first_unfit_line.ensures in
     let plans : PlansAreOne = record { each = laws.each; apart = laws.apart; one_plan = laws.one_plan; one_line = laws.one_line } in
-    some_work landed (the_work words) w (has_the_work landed c.a_run_has_an_answer.ensures plans words w told)
+    some_work landed (the_work words) w (has_the_work landed c.a_run_has_an_answer.ensures c.refs_have_an_answer.ensures plans words w told)
 
 pub returns-clause-one : goal.returns-clause-one
 returns-clause-one c landed words w a b told p q =
     let laws = c.each_text_is_a_plan_or_has_a_first_unfit_line.ensures in
     let plans : PlansAreOne = record { each = laws.each; apart = laws.apart; one_plan = laws.one_plan; one_line = laws.one_line } in
-    one_work landed (the_work words) w (has_the_work landed c.a_run_has_an_answer.ensures plans words w told) a b p q
+    one_work landed (the_work words) w (has_the_work landed c.a_run_has_an_answer.ensures c.refs_have_an_answer.ensures plans words w told) a b p q
