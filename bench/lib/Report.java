@@ -82,7 +82,7 @@ public final class Report {
         }
     }
 
-    private static CoverageBuilder analysed(List<String> paths, ExecutionDataStore store, boolean plain) throws Exception {
+    static CoverageBuilder analysed(List<String> paths, ExecutionDataStore store, boolean plain) throws Exception {
         CoverageBuilder builder = new CoverageBuilder();
         Field filters = ClassAnalyzer.class.getDeclaredField("filter");
         filters.setAccessible(true);
@@ -110,7 +110,7 @@ public final class Report {
     }
 
     /** Leaves out the list of a sealed class's subclasses, which this version of the library refuses to see. */
-    private static final class Unsealed extends ClassVisitor {
+    static final class Unsealed extends ClassVisitor {
         Unsealed(ClassVisitor next) {
             super(Opcodes.ASM9, next);
         }

@@ -86,7 +86,7 @@ class Pool:
         tag, value = self.entries[place]
         if tag == 17:
             return "dynamic", (value[0], *self.signature_of(value[1]))
-        kinds = {3: "int", 4: "float", 5: "long", 6: "double", 7: "class", 8: "string"}
+        kinds = {3: "int", 4: "float", 5: "long", 6: "double", 7: "class", 8: "string", 15: "handle", 16: "type"}
         return kinds.get(tag, "other"), self.utf8(value[0]) if tag in (7, 8) else value[0]
 
 
@@ -98,11 +98,11 @@ class Field:
 
 class Method:
     """A method: `code` is None where it has none, and `wide` says whether it has a `goto_w`. Variables have their names and
-    descriptors as places of the pool."""
+    descriptors as places of the pool. `frames` has the bytes of its stack map frames, and the instructions by their offsets."""
 
     def __init__(self, data, pool):
         self.flags, self.name, self.desc = data.u2(), pool.utf8(data.u2()), pool.utf8(data.u2())
-        self.code, self.wide, self.handlers, self.lines, self.vars, self.types = None, False, [], [], [], []
+        self.code, self.wide, self.handlers, self.lines, self.vars, self.types, self.frames = None, False, [], [], [], [], None
         for name, body in attributes(data, pool):
             if name == "Code":
                 self.read_code(Bytes(body), pool)
@@ -124,6 +124,8 @@ class Method:
             if name == "LineNumberTable":
                 table = Bytes(body)
                 self.lines += [(places[table.u2()], table.u2()) for _ in range(table.u2())]
+            if name == "StackMapTable":
+                self.frames = body, places
             if name in ("LocalVariableTable", "LocalVariableTypeTable"):
                 (self.vars if name == "LocalVariableTable" else self.types).extend(variables(Bytes(body), places))
 

@@ -18,6 +18,8 @@ def kind_of(desc):
     """The type of a value on the stack, by its descriptor."""
     if desc == "J":
         return "long"
+    if desc[0] == "L":
+        return "class:" + desc[1:-1]
     return "class:" + desc if desc[0] == "[" else "int"
 
 
