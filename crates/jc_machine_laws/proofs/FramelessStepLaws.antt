@@ -31,7 +31,7 @@ use Rattle.jc_machine_laws.proofs.FramelessOperationLaws.{frameless_at, same_ope
 
 -- ---- the instruction of a frame
 
-abbrev frameless_insn : LocatedInsn → LocatedInsn
+abbrev pub frameless_insn : LocatedInsn → LocatedInsn
 frameless_insn i = record { at = frameless_at i.at; insn = i.insn }
 
 -- the instruction at a place of a method of this class
@@ -68,7 +68,7 @@ module _ (p : Program) where
   same_at None = refl
   same_at (Some i) = same_operation p i.at i.insn
 
-  same_result : (s : Shared) (f : Frame) → result_of (frameless p) s f ≡ result_of p s f
+  pub same_result : (s : Shared) (f : Frame) → result_of (frameless p) s f ≡ result_of p s f
   same_result s f =
       ap (λ (o : Operation). perform o s f) (ap (operation_at (frameless p)) (same_located f.method f.place) ∙ same_at (located p f.method f.place))
 
@@ -97,7 +97,7 @@ module _ (p : Program) where
       by None = refl
       by (Some b) = refl
 
-  same_counted : (frames : List Frame) → counted_frames (frameless p) frames ≡ counted_frames p frames
+  pub same_counted : (frames : List Frame) → counted_frames (frameless p) frames ≡ counted_frames p frames
   same_counted frames = ap (λ (t : Frame → Bool). length (filter t frames)) (λ i f. not (same_init f.method i))
 
   same_overflows : (callee : Entry) (frames : List Frame) → overflows (frameless p) callee frames ≡ overflows p callee frames
@@ -105,7 +105,7 @@ module _ (p : Program) where
 
   -- ---- a turn
 
-  same_after : (r : Result) (s : Shared) (f : Frame) (waiting : List Frame) → after_result (frameless p) r s f waiting ≡ after_result p r s f waiting
+  pub same_after : (r : Result) (s : Shared) (f : Frame) (waiting : List Frame) → after_result (frameless p) r s f waiting ≡ after_result p r s f waiting
   same_after (goes s' g) s f waiting = refl
   same_after (hits class id g) s f waiting = refl
   same_after (calls callee locals g) s f waiting =
@@ -122,7 +122,7 @@ module _ (p : Program) where
   same_turn s (threw c) = refl
   same_turn s (stuck method place) = refl
 
-  same_step : (w : World) (t : ℕ) → step (frameless p) w t ≡ step p w t
+  pub same_step : (w : World) (t : ℕ) → step (frameless p) w t ≡ step p w t
   unfolding step
   same_step w t = by (slice_get w.threads t)
     where
@@ -161,14 +161,14 @@ module _ (p : Program) where
   same_threads (t ∷ threads) [] = refl
   same_threads (t ∷ threads) (e ∷ entries) = ap₂ (λ (x : Thread) (xs : List Thread). x ∷ xs) (same_first e t.args) (same_threads threads entries)
 
-  same_begin : (threads : List ThreadLine) (entries : List Entry) → begin (frameless p) threads entries ≡ begin p threads entries
+  pub same_begin : (threads : List ThreadLine) (entries : List Entry) → begin (frameless p) threads entries ≡ begin p threads entries
   unfolding begin
   same_begin threads entries =
       ap₂ (λ (ts : List Thread) (statics : List (List Value)).
       let w : World = record { threads = ts; shared = record { statics = statics; heap = []; output = []; raised = false }; hits = [] } in w)
       (same_threads threads entries) same_statics
 
-  same_entries : (threads : List ThreadLine) → entries_of (frameless p) threads ≡ entries_of p threads
+  pub same_entries : (threads : List ThreadLine) → entries_of (frameless p) threads ≡ entries_of p threads
   same_entries [] = refl
   same_entries (t ∷ threads) =
       ap₂ (λ (o : Option Entry) (l : List Entry). elim o [ None ↦ l | Some entry ↦ entry ∷ l ]) (same_entry p t) (same_entries threads)

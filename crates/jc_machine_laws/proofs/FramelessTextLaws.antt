@@ -24,7 +24,7 @@ same_class_ends k (c ∷ classes) [] = refl
 same_class_ends k (c ∷ classes) (values ∷ statics) = ap (λ (l : List StaticEnd). field_ends k 0 c.statics values ++ l) (same_class_ends (k + 1) classes statics)
 
 module _ (p : Program) where
-  same_end : (w : World) → case_end_in (frameless p) w ≡ case_end_in p w
+  pub same_end : (w : World) → case_end_in (frameless p) w ≡ case_end_in p w
   same_end w =
       ap (λ (l : List StaticEnd). let e : CaseEnd = record { output = w.shared.output; ends = ends_in w; statics = l; raised = w.shared.raised } in e)
       (same_class_ends 0 p.classes w.shared.statics)
@@ -42,7 +42,7 @@ module _ (p : Program) where
       by None = refl
       by (Some c) = refl
 
-  same_text : (k : ℕ) (end : CaseEnd) → case_text (frameless p) k end ≡ case_text p k end
+  pub same_text : (k : ℕ) (end : CaseEnd) → case_text (frameless p) k end ≡ case_text p k end
   same_text k end =
       ap (λ (f : StaticEnd → List ℕ). case_line k ++ (end.output ++ (thread_lines 0 end.ends ++ flat_map f end.statics))) (λ i s. same_static_text s i)
 

@@ -19,6 +19,8 @@ pub mod ThreadLaws
 pub mod SimpleLaws
 pub mod PoolLaws
 pub mod WorldLaws
+pub mod LockedLaws
+pub mod LockedTurnLaws
 pub mod RoomLaws
 pub mod FramelessListLaws
 pub mod FramelessLookupLaws

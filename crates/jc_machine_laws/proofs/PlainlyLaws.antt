@@ -107,7 +107,7 @@ reference_fits verification.null name a = inr (inr (tt, tt))
 reference_fits (verification.object other) name a = inr (inr (tt, tt))
 reference_fits h name a = absurd (false≢true a)
 
-accepted_fits : (type : FieldType) (h : VerificationType) → accepts (want_of type) h ≡ true → Fits h (held_of type)
+pub accepted_fits : (type : FieldType) (h : VerificationType) → accepts (want_of type) h ≡ true → Fits h (held_of type)
 accepted_fits Byte h a = int_fits h a
 accepted_fits Char h a = int_fits h a
 accepted_fits Int h a = int_fits h a

@@ -102,15 +102,15 @@ desc_of program name desc callee d body n e g =
     ap (λ (x : Body). x.desc) (same_Some body n.body o) ∙ n.desc_is
 
 -- an instruction that calls the method
-record CallsIt (program : Program) (uses : List Use) (insn : Insn) (callee : Entry) : Type 0 where
-  class : List ℕ
-  name : List ℕ
-  desc : List ℕ
-  named : callee_named program class name desc ≡ Some callee
-  step : (r : Option FieldType) → step_of uses r insn ≡ kinds.moves (call_form (method_type_in desc) ∷ [])
-  falls : FallsThrough insn
+pub record CallsIt (program : Program) (uses : List Use) (insn : Insn) (callee : Entry) : Type 0 where
+  pub class : List ℕ
+  pub name : List ℕ
+  pub desc : List ℕ
+  pub named : callee_named program class name desc ≡ Some callee
+  pub step : (r : Option FieldType) → step_of uses r insn ≡ kinds.moves (call_form (method_type_in desc) ∷ [])
+  pub falls : FallsThrough insn
 
-calls_it : (program : Program) (at : Location) (insn : Insn) (callee : Entry) → called_by program at insn ≡ Some callee
+pub calls_it : (program : Program) (at : Location) (insn : Insn) (callee : Entry) → called_by program at insn ≡ Some callee
     → CallsIt program at.body.uses insn callee
 calls_it program at (insns.Member op place) callee e = by (nat_eq op opcode.invokestatic) refl (what_used at.body.uses place) refl e
   where

@@ -116,7 +116,7 @@ module _ (ty : HoldingTyping) (program : Program) (flowing : IsFlowing ty.typing
   turn_lands s (stuck method place) w r = record { thread = r; shared = w; grows = same_heap s.heap; hits = tt }
 
   -- the world with what a turn of one thread leaves
-  world_lands : (w : World) (t : ℕ) (a : After) → FitsWorldBy ty.typing program w → Lands ty program w.shared a
+  pub world_lands : (w : World) (t : ℕ) (a : After) → FitsWorldBy ty.typing program w → Lands ty program w.shared a
       → FitsWorldBy ty.typing program (with_after t w a)
   world_lands w t a h l = record {
     statics = (l.shared).statics;

@@ -1,13 +1,19 @@
 //! What turns keep.
 ghost use Rattle.jc_machine_laws.specs.Laws.{EffectFits, RoomFits, RunFits, StepFits, StepHits};
-ghost use Rattle.std.specs.Prelude.{◌≡◌, ℕ, List};
+ghost use Rattle.std.specs.Prelude.{◌≡◌, ℕ, List, Some};
 ghost use Rattle.jc_programs.specs.declared.program.Program.{Program};
 ghost use Rattle.jc_programs.specs.declared.run_plan.Case.{Case};
 ghost use Rattle.jc_programs.specs.declared.run_plan.RunPlan.{RunPlan};
 ghost use Rattle.jc_programs.specs.declared.run_plan.ThreadLine.{ThreadLine};
+ghost use Rattle.jc_programs.specs.declared.run_end.Entry.{Entry};
+ghost use Rattle.jc_programs.specs.declared.run_end.Thrown.{Thrown};
 ghost use Rattle.jc_programs.specs.Entries.{entry_of};
 ghost use Rattle.jc_machine_model.specs.CaseText.{case_texts};
 ghost use Rattle.jc_machine_model.specs.Run.{run, hits_of};
+ghost use Rattle.jc_machine_model.specs.Programs.{IsProgram};
+ghost use Rattle.jc_machine_model.specs.World.{World};
+ghost use Rattle.jc_machine_model.specs.Fits.{FitsWorld};
+ghost use Rattle.jc_machine_model.specs.Locked.{turn_by, MonitorInsn, monitor_at, dropping, raising, callee, calling};
 ghost use Rattle.jc_machine_laws.specs.Frameless.{frameless};
 
 /// What an opcode that reads and writes the stack alone leaves there is of the types that the kind check gives it.
@@ -33,6 +39,17 @@ pub fn each_world_of_a_run_fits()
 /// A frame of a world that fits has no more values on its stack than its method's stack has slots.
 pub fn each_stack_has_room()
     ensures { RoomFits }
+{}
+
+/// A turn in which a throwable is raised, the operand of a monitor instruction is dropped, or a synchronized method is called keeps a
+/// world fitting.
+pub fn turns_of_monitors_keep_a_world_fitting()
+    ensures raise { (program : Program) (w : World) (t : ℕ) (c : Thrown) → IsProgram program → FitsWorld program w
+        → FitsWorld program (turn_by program (raising c) w t) }
+    ensures drop { (program : Program) (w : World) (t : ℕ) (insn : MonitorInsn) → IsProgram program → FitsWorld program w
+        → monitor_at program w t ≡ Some insn → FitsWorld program (turn_by program dropping w t) }
+    ensures call { (program : Program) (w : World) (t : ℕ) (method : Entry) → IsProgram program → FitsWorld program w
+        → callee program w t ≡ Some method → FitsWorld program (turn_by program (calling program) w t) }
 {}
 
 /// Programs that are equal but for the frames of their bodies and for the names of the classes in them have the same entries,

@@ -2,3 +2,4 @@ pub mod ArithmeticLaws
 pub mod PairLaws
 pub mod BeginLaws
 pub mod TurnLaws
+pub mod LockedLaws

@@ -22,4 +22,6 @@ pub mod Taken
 pub mod CaseText
 pub mod Programs
 pub mod Fits
+pub mod Standings
+pub mod Locked
 pub mod Laws
