@@ -21,7 +21,7 @@ use Rattle.jc_machine_model.specs.Fits.{FitsTop}
 use Rattle.jc_machine_model.proofs.BeginLaws.{slots_length}
 use Rattle.jc_machine_laws.proofs.CallLaws.{body_is}
 use Rattle.jc_machine_laws.proofs.OnwardLaws.{here_of}
-use Rattle.jc_machine.specs.Turned.{call_of}
+use Rattle.jc_machine_model.specs.Locked.{call_of}
 use Rattle.jc_machine_laws.proofs.StateLaws.{state_count}
 use Rattle.jc_machine.proofs.RoomLaws.{top_bounded}
 

@@ -10,6 +10,9 @@ pub mod CallingLaws
 pub mod TurnLaws
 pub mod ProbeLaws
 pub mod MachineLaws
+pub mod StandingLaws
+pub mod StandingSeenLaws
+pub mod LockedTurnLaws
 pub mod ArgumentLaws
 pub mod FirstLaws
 pub mod BeginLaws

@@ -8,14 +8,16 @@ use Rattle.jc_programs.specs.declared.program.Program.{Program}
 use Rattle.jc_programs.specs.declared.run_end.End.{End}
 use Rattle.jc_programs.specs.declared.run_end.End.TheVariants as ends
 use Rattle.jc_machine_code.specs.Prepared.{IsPrepared}
-use Rattle.std.proofs.lemmas.Option.{slice_get-get_or}
+use Rattle.std.proofs.lemmas.Option.{slice_get-get_or, same_Some}
 use Rattle.jc_bytes.proofs.ListLaws.{all_at, item_at}
 use Rattle.jc_machine_model.specs.Programs.{IsProgram}
-use Rattle.jc_machine_model.specs.World.{Thread, running, Shared, Hit, World}
-use Rattle.jc_machine_model.specs.Step.{turn_of, with_after, step_of, step}
+use Rattle.jc_machine_model.specs.World.{Frame, Thread, running, Shared, Hit, World}
+use Rattle.jc_machine_model.specs.Results.{Result}
+use Rattle.jc_machine_model.specs.Step.{turn_of, after, after_result, with_after, step_of, step}
 use Rattle.jc_machine_model.specs.CaseEnds.{ends_in}
 use Rattle.jc_machine_model.specs.Laws.{IsOver}
 use Rattle.jc_machine_model.specs.Fits.{FitsThread, FitsWorld, IsProbe}
+use Rattle.jc_machine_model.specs.Locked.{turn_by_of, turn_by}
 use Rattle.jc_machine_model.proofs.TurnLaws.{ended_stays}
 use Rattle.jc_machine_laws.proofs.WorldLaws.{step_fits, step_hits}
 use Rattle.jc_machine.specs.declared.world.World.TheInside.{Inside}
@@ -70,6 +72,13 @@ keeps_on first before after so_far more = (more.0 ∙ so_far.0, more.1 ∙ so_fa
 
 -- ---- the threads
 
+-- one that runs is kept as one
+is_running : (e : End) (x : ThreadFrames) (f : Frame) (waiting : List Frame) → thread_of e x ≡ running f waiting → e ≡ ends.Running
+is_running ends.Running x f waiting same = refl
+is_running ends.Stuck x f waiting same = absurd (cc)
+is_running (ends.Returned v) x f waiting same = absurd (cc)
+is_running (ends.Threw c) x f waiting same = absurd (cc)
+
 over : (e : End) (f : ThreadFrames) → (e ≡ ends.Running → ⊥) → IsOver (thread_of e f)
 over ends.Running f not = absurd (not refl)
 over ends.Stuck f not = tt
@@ -109,6 +118,21 @@ module _ (w : Inside) (is : IsMachine w) where
     runs_at frames running_is frames_is =
         at ends.Running running_is frames (slice_get-get_or w.stacks.items t frames (omega (arith, below, is.stacks, is.few)) ∙ ap Some (sym frames_is))
 
+    pub runs_by : (f : Frame) (waiting : List Frame) → slice_get (machine_of w).threads t ≡ Some (running f waiting)
+        → slice_index_or w.ends t ends.Running ≡ ends.Running
+    runs_by f waiting is_there =
+        let x = item_at w.stacks.items t (omega (arith, below, is.stacks, is.few)) in
+        let e = slice_index_or w.ends t ends.Running in
+        is_running e x.0 f waiting (same_Some (thread_of e x.0) (running f waiting) (sym (at e refl x.0 x.1) ∙ is_there))
+
+    -- one that isn't kept as one that runs has ended or is stuck
+    pub over_at : (slice_index_or w.ends t ends.Running ≡ ends.Running → ⊥)
+        → (thread : Thread) × (slice_get (machine_of w).threads t ≡ Some thread) × IsOver thread
+    over_at not =
+        let x = item_at w.stacks.items t (omega (arith, below, is.stacks, is.few)) in
+        let e = slice_index_or w.ends t ends.Running in
+        (thread_of e x.0, at e refl x.0 x.1, over e x.0 not)
+
     -- a thread that doesn't run stays
     pub idle : (program : Program) → (slice_index_or w.ends t ends.Running ≡ ends.Running → ⊥)
         → step program (world_of (machine_of w)) t ≡ world_of (machine_of w)
@@ -120,7 +144,8 @@ module _ (w : Inside) (is : IsMachine w) where
     -- the world with the turn of a thread that runs
     module _ (program : Program) (frames : ThreadFrames) (running_is : slice_index_or w.ends t ends.Running ≡ ends.Running)
         (frames_is : frames ≡ slice_index_or w.stacks.items t frames)
-        (turn : ThreadTurn) (next : ThreadFrames) (s : Shared) (turned : after_of turn next s ≡ turn_of program w.shared.content (running frames.top frames.waiting))
+        (turn : ThreadTurn) (next : ThreadFrames) (s : Shared)
+        (turned : after_of turn next s ≡ turn_of program w.shared.content (running frames.top frames.waiting))
       where
         moved : step program (world_of (machine_of w)) t ≡ with_after t (world_of (machine_of w)) (after_of turn next s)
         unfolding step
@@ -138,3 +163,17 @@ module _ (w : Inside) (is : IsMachine w) where
 
         pub step_hits_are : hits_in turn.hit ≡ (step program (world_of (machine_of w)) t).hits
         step_hits_are = sym (append-nil (hits_in turn.hit)) ∙ sym (ap (λ (x : World). x.hits) moved)
+
+    -- the world with a turn in which a thread that runs comes to a given result
+    module _ (program : Program) (act : Shared → Frame → Result) (frames : ThreadFrames) (running_is : slice_index_or w.ends t ends.Running ≡ ends.Running)
+        (frames_is : frames ≡ slice_index_or w.stacks.items t frames) (end : End) (next : ThreadFrames) (s : Shared)
+        (turned : after (thread_of end next) s ≡ after_result program (act w.shared.content frames.top) w.shared.content frames.top frames.waiting)
+      where
+        pub acted_world : record { threads = threads_of (take w.count (slice_set w.ends t end)) (slice_set w.stacks.items t next); shared = s; hits = [] }
+            ≡ turn_by program act (world_of (machine_of w)) t
+        acted_world =
+            ap (λ (ts : List Thread). record { threads = ts; shared = s; hits = [] })
+            (ap (λ es. threads_of es (slice_set w.stacks.items t next)) (take-set-lt w.count w.ends t end below)
+            ∙ threads_of-set (take w.count w.ends) w.stacks.items t end next (omega (arith, below, in_front)) few_ends)
+            ∙ sym (ap (turn_by_of program act (world_of (machine_of w)) t) (runs_at frames running_is frames_is)
+            ∙ ap (with_after t (world_of (machine_of w))) (sym turned))

@@ -29,6 +29,7 @@ use Rattle.jc_machine_model.specs.Jumps.{by_switch}
 use Rattle.jc_machine_model.specs.Perform.{perform}
 use Rattle.jc_machine_model.specs.Step.{LocatedInsn, located, operation_at, result_of, counted_frames, overflows, new_frame, after, after_result}
 use Rattle.jc_machine_model.specs.Fits.{FitsRunning, FitsWorld}
+use Rattle.jc_machine_model.specs.Locked.{call_of}
 use Rattle.jc_machine_model.proofs.BeginLaws.{all_at}
 use Rattle.jc_machine_laws.proofs.CallLaws.{body_is}
 use Rattle.jc_machine_laws.proofs.PlainlyLaws.{plain, plainly_flows}
@@ -38,7 +39,7 @@ use Rattle.jc_machine_laws.proofs.ThreadLaws.{Lands}
 use Rattle.jc_machine_laws.proofs.WorldLaws.{running_lands}
 use Rattle.jc_machine.specs.Room.{IsBounded, AreBounded}
 use Rattle.jc_machine.specs.Threads.{ThreadFrames}
-use Rattle.jc_machine.specs.Turned.{alone, call_of, StandsBefore, FitsAfter}
+use Rattle.jc_machine.specs.Turned.{alone, StandsBefore, FitsAfter}
 use Rattle.jc_machine.proofs.RoomLaws.{each_counts, running_bounded}
 use Rattle.jc_machine.proofs.CallingLaws.{arguments_within, call_is, call_fit, call_enters}
 

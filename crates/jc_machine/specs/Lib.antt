@@ -6,5 +6,6 @@ pub mod Stacks
 pub mod IntegralFields
 pub mod StaticEnds
 pub mod Machines
+pub mod Standings
 pub mod Kept
 pub mod FirstThreads

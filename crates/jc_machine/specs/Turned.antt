@@ -1,14 +1,9 @@
 -- What turns leave, as the machine keeps it.
 use Rattle.std.specs.Prelude.{Bool, true, false, List, [], ◌∷◌, Option, Some, None, ◌≡◌}
 use Rattle.jc_programs.specs.declared.program.Program.{Program}
-use Rattle.jc_programs.specs.declared.run_end.Entry.{Entry}
 use Rattle.jc_programs.specs.declared.run_end.Thrown.{Thrown}
-use Rattle.jc_methods.specs.declared.body.Body.{Body}
 use Rattle.jc_methods.specs.declared.insn.Insn.{Insn}
-use Rattle.jc_methods.specs.DescriptorTypes.{method_type_in}
-use Rattle.jc_machine_model.specs.World.{Frame, Thread, running, threw, Shared, Hit, World}
-use Rattle.jc_machine_model.specs.Results.{Result, gets_stuck}
-use Rattle.jc_machine_model.specs.Calls.{taken_for, by_call}
+use Rattle.jc_machine_model.specs.World.{Thread, running, threw, Shared, Hit, World}
 use Rattle.jc_machine_model.specs.Step.{LocatedInsn, After, Raised}
 use Rattle.jc_machine_model.specs.Fits.{FitsThread}
 use Rattle.jc_machine.specs.declared.thread_turn.ProbeHit.{ProbeHit}
@@ -49,13 +44,6 @@ thrown_to false c frames = threw c
 -- it is the instruction that was located
 abbrev pub StandsBefore : Option LocatedInsn → Insn → Type 0
 StandsBefore located insn = (i : LocatedInsn) × (located ≡ Some i) × (i.insn ≡ insn)
-
--- ---- calls
-
--- what a call of the method comes to
-abbrev pub call_of : Option Body → Entry → Frame → Result
-call_of None callee f = gets_stuck
-call_of (Some b) callee f = by_call callee b.max_locals (taken_for (method_type_in b.desc).parameters f.stack) f
 
 -- ---- what fits
 

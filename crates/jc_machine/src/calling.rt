@@ -7,9 +7,10 @@ ghost use Rattle.jc_machine_code.specs.Prepared.{IsPrepared};
 ghost use Rattle.jc_machine_model.specs.World as world;
 ghost use Rattle.jc_machine_model.specs.Programs.{IsProgram};
 ghost use Rattle.jc_machine_model.specs.Step.{after, after_result, left, counted_frames, overflows};
+ghost use Rattle.jc_machine_model.specs.Locked.{call_of};
 ghost use Rattle.jc_machine_memory.specs.Values.{value_of};
 ghost use Rattle.jc_machine.specs.Room.{IsBounded, AreBounded};
-ghost use Rattle.jc_machine.specs.Turned.{after_of, call_of, FitsAfter};
+ghost use Rattle.jc_machine.specs.Turned.{after_of, FitsAfter};
 
 use crate::seen::seen;
 use crate::thread_stack::ThreadStack;

@@ -11,7 +11,7 @@ use crate::world::World;
 use jc_programs::{ProbeSink, Program, Schedule};
 
 /// The number that follows in a series of numbers.
-fn next_drawn(x: u64) -> u64
+pub fn next_drawn(x: u64) -> u64
     ensures { result ≡ next_drawn x }
 {
     x.wrapping_mul(6_364_136_223_846_793_005)
@@ -19,7 +19,7 @@ fn next_drawn(x: u64) -> u64
 }
 
 /// The thread that a number draws.
-fn drawn_thread(threads: u32, x: u64) -> u32
+pub fn drawn_thread(threads: u32, x: u64) -> u32
     requires { 0 < threads }
     ensures { (result ≡ drawn_thread threads x) × (result < threads) }
 {

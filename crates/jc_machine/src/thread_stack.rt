@@ -1,12 +1,16 @@
 //! The frames of a thread.
-ghost use Rattle.std.specs.Prelude.{◌≡◌, ◌<◌, ◌≤◌, List, [], ◌∷◌, length, replicate, None, Some, option_map, is_some, slice_set, IfOk, MatchBool};
+ghost use Rattle.std.specs.Prelude.{◌≡◌, ◌<◌, ◌≤◌, List, [], ◌∷◌, length, replicate, None, Some, option_map, is_some, drop, slice_get, slice_set, IfOk, MatchBool};
 ghost use Rattle.jc_bytes.specs.Descriptor.{FieldType};
 ghost use Rattle.jc_methods.specs.Insn.{IsWellFormed};
+ghost use Rattle.jc_programs.specs.declared.program.Program.{Program};
 ghost use Rattle.jc_machine_model.specs.Operations as operations;
 ghost use Rattle.jc_machine_model.specs.Calls.{Arguments, taken_for, spread_values};
-ghost use Rattle.jc_machine_model.specs.Step.{given_back, new_frame};
+ghost use Rattle.jc_machine_model.specs.Results.{next_with};
+ghost use Rattle.jc_machine_model.specs.Step.{counted_frames, given_back, new_frame};
+ghost use Rattle.jc_machine_model.specs.Locked.{callee_of_frame};
 ghost use Rattle.jc_machine_memory.specs.Values.{value_of};
 ghost use Rattle.jc_machine_code.specs.Shown.{Shows};
+ghost use Rattle.jc_machine_code.specs.Prepared.{IsPrepared};
 ghost use Rattle.jc_machine_code.specs.Invoked.{GoesByKey, IsSwitch};
 ghost use Rattle.jc_machine_turn.specs.Nexts.{ComesTo, KeepsFrame, KeepsShared};
 ghost use Rattle.jc_machine_turn.specs.Parameters.{AreParameters};
@@ -14,7 +18,7 @@ ghost use Rattle.jc_machine.specs.Room.{IsBounded};
 ghost use Rattle.jc_machine.specs.Threads.{called};
 
 use jc_bytes::Memory;
-use jc_machine_code::{Operation, PreparedMethod};
+use jc_machine_code::{Operation, PreparedMethod, PreparedProgram};
 use jc_machine_memory::{Frame, Value};
 use jc_machine_turn::{Next, Shared, arguments_fit, enter_callee, perform};
 use jc_methods::Insn;
@@ -87,6 +91,44 @@ impl ThreadStack {
         ensures { result ≡ length self.now.waiting }
     {
         self.waiting
+    }
+
+    /// How many frames there are, those of `$jacocoInit` not counted, of which only the one on top may be one.
+    pub fn depth(&self, prepared: &PreparedProgram) -> u32
+        ensures { (program : Program) → IsPrepared program prepared.now → counted_frames program self.now.waiting ≡ length self.now.waiting
+            → result ≡ counted_frames program (self.now.top ∷ self.now.waiting) }
+    {
+        let waiting = self.waiting as u32;
+        if prepared.is_init(self.top.method()) {
+            waiting
+        } else {
+            waiting + 1
+        }
+    }
+
+    /// The operand on top, if there is one.
+    pub fn top_value(&self) -> Option<Value>
+        ensures { option_map value_of result ≡ slice_get self.now.top.stack 0 }
+    {
+        self.top.peek(0)
+    }
+
+    /// Drops the operand on top, and goes on at the next instruction.
+    pub fn drop_top(&mut self)
+        requires { IsBounded self.old.top }
+        ensures { self.new ≡ record self.old { top = next_with self.old.top (drop 1 self.old.top.stack) } }
+    {
+        self.top.cut(1);
+        let place = self.top.place();
+        self.top.go_to(place + 1);
+    }
+
+    /// The method that the instruction calls at which the frame on top stands, if only its being synchronized keeps it from being
+    /// called.
+    pub fn locked_callee(&self, prepared: &PreparedProgram) -> Option<Entry>
+        ensures { (program : Program) → IsPrepared program prepared.now → result ≡ callee_of_frame program self.now.top }
+    {
+        prepared.locked_callee(self.top.method(), self.top.place())
     }
 
     /// Whether the operands on top are arguments for the parameters of a method.

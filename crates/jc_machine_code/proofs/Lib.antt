@@ -8,6 +8,7 @@ mod TypeLaws
 mod ThrownLaws
 mod FirstValueLaws
 mod CodeLaws
+pub mod LockedLaws
 pub mod PrepareLaws
 pub mod SwitchLaws
 pub mod InvokedLaws

@@ -17,19 +17,18 @@ use Rattle.jc_programs.specs.Members.{body_of}
 use Rattle.jc_machine_model.specs.Programs.{IsStatic, IsProgram, IsLinked}
 use Rattle.jc_machine_model.specs.Begin.{first_value, first_statics}
 use Rattle.jc_machine_model.specs.World.{Frame}
-use Rattle.jc_machine_model.specs.Operations.{outside}
-use Rattle.jc_machine_model.specs.Step.{located_in_body, located_in_class, located, operation_at, handles, handler_in, handler_of}
+use Rattle.jc_machine_model.specs.Step.{located_in_body, located_in_class, located, handles, handler_in, handler_of}
 use Rattle.jc_machine_model.proofs.BeginLaws.{all_at}
 use Rattle.jc_machine_code.specs.declared.index.ProgramIndex.{ProgramIndex}
-use Rattle.jc_machine_code.specs.declared.operation.Operation.{Operation as ShownOperation}
 use Rattle.jc_machine_code.specs.declared.operation.Operation.TheVariants as shown
+use Rattle.jc_machine_code.specs.declared.prepared.PreparedOperation.{PreparedOperation}
+use Rattle.jc_machine_code.specs.declared.prepared.PreparedOperation.TheVariants as table
 use Rattle.jc_machine_code.specs.declared.prepared.PreparedRow.{PreparedRow}
 use Rattle.jc_machine_code.specs.declared.prepared.PreparedMethod.{PreparedMethod}
 use Rattle.jc_machine_code.specs.declared.prepared.PreparedClass.{PreparedClass}
 use Rattle.jc_machine_code.specs.declared.prepared.PreparedProgram.{PreparedProgram}
-use Rattle.jc_machine_code.specs.Shown.{Shows}
 use Rattle.jc_machine_code.specs.Sites.{IsClassIndex, IsIndex, IsMade}
-use Rattle.jc_machine_code.specs.Prepared.{Correspond, IsRow, row_handles, handling, shown_at, ShowsInsn, IsPreparedMethod, IsMethodOf, value_of, IsPreparedClass, IsPrepared}
+use Rattle.jc_machine_code.specs.Prepared.{Correspond, IsRow, row_handles, handling, prepared_at, Tells, TellsInsn, IsPreparedMethod, IsMethodOf, value_of, IsPreparedClass, IsPrepared}
 use Rattle.jc_machine_code.proofs.CorrespondLaws.{made_of, made_none, same_map}
 
 -- ---- the preparing
@@ -80,26 +79,27 @@ module _ (program : Program) (method : Entry) (m : PreparedMethod) (is : IsMetho
       ap (λ (o : Option Linked). option_and_then (λ (l : Linked). located_in_class method.class place l (slice_get l.bodies method.method)) o) is.class_is
       ∙ ap (λ (o : Option Body). located_in_class method.class place is.linked o) is.body_is
 
-  shows_insn : (place : ℕ) (o : Option ShownOperation) → slice_get m.operations place ≡ o
-      → Shows (shown_at m.operations place) (operation_at program (located_in_body method.class is.linked place is.body (slice_get is.body.code place)))
-  shows_insn place None e =
-      let none = made_none (ShowsInsn program method.class is.linked is.body) is.body.code m.operations is.prepared.operations place e in
-      subst (λ (x : Option Insn). Shows (shown_at m.operations place) (operation_at program (located_in_body method.class is.linked place is.body x))) (sym none)
-      (subst (λ (x : ShownOperation). Shows x outside) (sym (past m.operations place e)) refl)
+  tells_insn : (place : ℕ) (o : Option PreparedOperation) → slice_get m.operations place ≡ o
+      → Tells program (located_in_body method.class is.linked place is.body (slice_get is.body.code place)) (prepared_at m.operations place)
+  tells_insn place None e =
+      let none = made_none (TellsInsn program method.class is.linked is.body) is.body.code m.operations is.prepared.operations place e in
+      subst (λ (x : Option Insn). Tells program (located_in_body method.class is.linked place is.body x) (prepared_at m.operations place)) (sym none)
+      (subst (λ (x : PreparedOperation). Tells program None x) (sym (past m.operations place e)) (record { shows = refl; locked = refl }))
     where
-      past : (xs : List ShownOperation) (i : ℕ) → slice_get xs i ≡ None → slice_index_or xs i shown.Outside ≡ shown.Outside
+      past : (xs : List PreparedOperation) (i : ℕ) → slice_get xs i ≡ None → slice_index_or xs i (table.Plain shown.Outside) ≡ table.Plain shown.Outside
       past [] i g = refl
       past (x ∷ xs) zero g = absurd (cc)
       past (x ∷ xs) (suc i) g = past xs i g
-  shows_insn place (Some x) e =
-      let insn = made_of (ShowsInsn program method.class is.linked is.body) is.body.code m.operations is.prepared.operations place x e in
-      subst (λ (o : Option Insn). Shows (shown_at m.operations place) (operation_at program (located_in_body method.class is.linked place is.body o))) (sym insn.1)
-      (subst (λ (o : ShownOperation). ShowsInsn program method.class is.linked is.body place insn.0 o) (sym (get_or_from_slice_get m.operations place x shown.Outside e)) insn.2)
+  tells_insn place (Some x) e =
+      let insn = made_of (TellsInsn program method.class is.linked is.body) is.body.code m.operations is.prepared.operations place x e in
+      subst (λ (o : Option Insn). Tells program (located_in_body method.class is.linked place is.body o) (prepared_at m.operations place)) (sym insn.1)
+      (subst (λ (o : PreparedOperation). TellsInsn program method.class is.linked is.body place insn.0 o)
+      (sym (get_or_from_slice_get m.operations place x (table.Plain shown.Outside) e)) insn.2)
 
-  -- what stands at a place of the method shows what the instruction there is
-  pub shows_at : (place : ℕ) → Shows (shown_at m.operations place) (operation_at program (located program method place))
-  shows_at place =
-      subst (λ o. Shows (shown_at m.operations place) (operation_at program o)) (sym (located_is place)) (shows_insn place (slice_get m.operations place) refl)
+  -- what stands at a place of the method tells of the instruction there
+  pub tells_at : (place : ℕ) → Tells program (located program method place) (prepared_at m.operations place)
+  tells_at place =
+      subst (λ o. Tells program o (prepared_at m.operations place)) (sym (located_is place)) (tells_insn place (slice_get m.operations place) refl)
 
   handled : (place : ℕ) (c : Thrown) (handlers : List Handler) (rows : List PreparedRow) → Correspond (IsRow is.body) handlers rows
       → handling rows place c ≡ option_map (λ (row : Handler). row.target) (find (handles is.body place c) handlers)

@@ -1,5 +1,5 @@
 -- Members that an instruction names, as the index of a program finds them.
-use Rattle.std.proofs.Common.{◌≡◌, ◌⊎◌, inl, inr, ℕ, Bool, true, false, ◌&&◌, List, length, Option, Some, None, MatchOption, IfSome, refl, sym, ap, ap₂, ◌∙◌, subst}
+use Rattle.std.proofs.Common.{◌≡◌, ◌⊎◌, inl, inr, ℕ, Bool, true, false, ◌&&◌, List, [], ◌∷◌, length, Option, Some, None, is_some, MatchOption, IfSome, refl, sym, ap, ap₂, ◌∙◌, subst}
 use Rattle.std.specs.Borrow.{Bor}
 use Rattle.std.specs.List.{slice_get}
 use Rattle.std.specs.Option.{option_map, option_and_then}
@@ -9,19 +9,21 @@ use Rattle.jc_methods.specs.declared.insn.Insn.{Insn}
 use Rattle.jc_methods.specs.declared.insn.Insn.TheVariants as insns
 use Rattle.jc_methods.specs.declared.body.Body.{Body}
 use Rattle.jc_methods.specs.declared.body.What.{What}
+use Rattle.jc_methods.specs.declared.body.What.TheVariants as whats
 use Rattle.jc_methods.specs.InsnUse.{pool_place, Suits, IsMemberFor}
 use Rattle.jc_programs.specs.declared.program.Program.{Program}
 use Rattle.jc_programs.specs.declared.program.Linked.{Linked}
+use Rattle.jc_programs.specs.declared.program.ProbeInit.{ProbeInit}
 use Rattle.jc_programs.specs.declared.run_end.Entry.{Entry}
 use Rattle.jc_programs.specs.Members.{class_named, class_at, method_named}
 use Rattle.jc_machine_model.specs.Methods.{is_enterable}
 use Rattle.jc_machine_model.specs.Operations.{outside}
-use Rattle.jc_machine_model.specs.Profile.{Location, may_name_method, method_in, callee_named, enters, entered_if, body_entered}
+use Rattle.jc_machine_model.specs.Profile.{Location, what_at, given_in, begins_with_array, may_name_method, method_in, callee_named, enters, entered_if, body_entered}
 use Rattle.jc_machine_code.specs.declared.index.ClassIndex.{ClassIndex}
 use Rattle.jc_machine_code.specs.declared.index.ProgramIndex.{ProgramIndex}
 use Rattle.jc_machine_code.specs.declared.site.Site.{Site}
 use Rattle.jc_machine_code.specs.Places.{what_in}
-use Rattle.jc_machine_code.specs.Sites.{IsClassIndex, IsClassAt, IsIndex, UsesFit}
+use Rattle.jc_machine_code.specs.Sites.{IsClassIndex, IsClassAt, IsIndex, IsSite, UsesFit}
 use Rattle.jc_machine_code.proofs.CorrespondLaws.{made_of, made_none}
 
 -- ---- an item of a list
@@ -67,3 +69,30 @@ pub member_fits : (site : Site) (insn : Insn) (op place : ℕ) (r : Option (Bor 
 member_fits site insn op place None is e fit = tt
 member_fits site insn op place (Some w) is e fit =
     subst (λ (i : Insn). Suits i w.now) is (fit place w.now (ap pool_place is) (sym e))
+
+-- ---- other places of the method
+
+abbrev pub at_place : Location → ℕ → Location
+at_place at place = record at { place = place }
+
+given_same : (at : Location) (place : ℕ) (o : Option What) → given_in (at_place at place) o ≡ given_in at o
+given_same at place (Some (whats.Computed name desc bootstrap)) = refl
+given_same at place o = refl
+
+begins_same : (at : Location) (place : ℕ) (code : List Insn) → begins_with_array (at_place at place) code ≡ begins_with_array at code
+begins_same at place (insns.Constant index ∷ code) = ap (λ (o : Option ProbeInit). is_some o) (given_same at place (what_at at index))
+begins_same at place code = refl
+
+-- what is known of the method doesn't depend on the place
+pub site_at : (program : Program) (at : Location) (site : Site) (place : ℕ) → IsSite program at site → IsSite program (at_place at place) site
+site_at program at site place is = record {
+  index = is.index;
+  class = is.class;
+  is_init = is.is_init;
+  init = is.init;
+  has_constant_is = is.has_constant_is;
+  given = is.given;
+  begins = begins_same at place at.body.code ∙ is.begins;
+  narrowing = is.narrowing;
+  whats = is.whats;
+}

@@ -1,5 +1,5 @@
 -- A program prepared for the machine.
-use Rattle.std.specs.Prelude.{◌≡◌, ℕ, Bool, true, false, ◌&&◌, List, length, map, Option, Some, nat_le, nat_lt, slice_get, slice_index_or, find}
+use Rattle.std.specs.Prelude.{◌≡◌, ℕ, Bool, true, false, ◌&&◌, List, length, map, Option, Some, None, nat_le, nat_lt, slice_get, slice_index_or, find}
 use Rattle.std.specs.Option.{option_map}
 use Rattle.jc_methods.specs.declared.insn.Insn.{Insn}
 use Rattle.jc_methods.specs.declared.body.Handler.{Handler}
@@ -13,11 +13,13 @@ use Rattle.jc_programs.specs.Members.{class_at}
 use Rattle.jc_programs.specs.Throwables.{name_of, is_named_in}
 use Rattle.jc_machine_model.specs.Values.{Value, int, long, null, computational_type}
 use Rattle.jc_machine_model.specs.Methods.{is_init_name, is_enterable}
-use Rattle.jc_machine_model.specs.Profile.{operation_of}
 use Rattle.jc_machine_model.specs.Begin.{first_value}
-use Rattle.jc_machine_model.specs.Step.{catches}
+use Rattle.jc_machine_model.specs.Step.{catches, LocatedInsn, located_in_body, operation_at}
+use Rattle.jc_machine_model.specs.Locked.{locked_call}
 use Rattle.jc_machine_code.specs.declared.operation.Operation.{Operation}
 use Rattle.jc_machine_code.specs.declared.operation.Operation.TheVariants as shown
+use Rattle.jc_machine_code.specs.declared.prepared.PreparedOperation.{PreparedOperation}
+use Rattle.jc_machine_code.specs.declared.prepared.PreparedOperation.TheVariants as table
 use Rattle.jc_machine_code.specs.declared.prepared.Catches.{Catches}
 use Rattle.jc_machine_code.specs.declared.prepared.Catches.TheVariants as caught
 use Rattle.jc_machine_code.specs.declared.prepared.PreparedRow.{PreparedRow}
@@ -57,19 +59,35 @@ row_handles place c r = nat_le r.start place && (nat_lt place r.end && catches_c
 abbrev pub handling : List PreparedRow → ℕ → Thrown → Option ℕ
 handling rows place c = option_map (λ (r : PreparedRow). r.target) (find (row_handles place c) rows)
 
--- ---- methods
+-- ---- instructions
+
+-- what it is to the machine, whose threads take no locks
+abbrev pub plain_of : PreparedOperation → Operation
+plain_of (table.Plain operation) = operation
+plain_of (table.Locked callee) = shown.Outside
+
+-- the synchronized method that it calls
+abbrev pub locked_of : PreparedOperation → Option Entry
+locked_of (table.Plain operation) = None
+locked_of (table.Locked callee) = Some callee
 
 -- what stands at the place
-abbrev pub shown_at : List Operation → ℕ → Operation
-shown_at operations place = slice_index_or operations place shown.Outside
+abbrev pub prepared_at : List PreparedOperation → ℕ → PreparedOperation
+prepared_at operations place = slice_index_or operations place (table.Plain shown.Outside)
 
--- it shows the instruction at the place of the body
-abbrev pub ShowsInsn : Program → ℕ → Linked → Body → ℕ → Insn → Operation → Type 0
-ShowsInsn program class c b place insn operation =
-    Shows operation (operation_of program (record { class = class; linked = c; body = b; place = place }) insn)
+-- it shows what the instruction is, if there is one, and which synchronized method it calls
+pub record Tells (program : Program) (insn : Option LocatedInsn) (operation : PreparedOperation) : Type 0 where
+  pub shows : Shows (plain_of operation) (operation_at program insn)
+  pub locked : locked_of operation ≡ locked_call program insn
+
+-- ---- methods
+
+-- it tells of the instruction at the place of the body
+abbrev pub TellsInsn : Program → ℕ → Linked → Body → ℕ → Insn → PreparedOperation → Type 0
+TellsInsn program class c b place insn operation = Tells program (located_in_body class c place b (Some insn)) operation
 
 pub record IsPreparedMethod (program : Program) (class : ℕ) (c : Linked) (i : ℕ) (b : Body) (m : PreparedMethod) : Type 0 where
-  pub operations : Correspond (ShowsInsn program class c b) b.code m.operations
+  pub operations : Correspond (TellsInsn program class c b) b.code m.operations
   pub parameters : map (option_map computational) m.parameters ≡ map computational_type (method_type_in b.desc).parameters
   pub max_locals : m.max_locals ≡ b.max_locals
   pub is_init : m.is_init ≡ is_init_name b.name

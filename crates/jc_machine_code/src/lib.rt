@@ -10,6 +10,7 @@ mod given;
 mod index;
 mod laws;
 mod locals;
+mod locked;
 mod methods;
 mod operation;
 mod places;
@@ -33,7 +34,8 @@ pub use locals::local_operation;
 pub use methods::{is_enterable, is_init_name, most_frame_slots};
 pub use operation::{ComputationalType, ElementTypes, Operation, PrimitiveType, Printed};
 pub use prepared::{
-    Catches, FirstValue, PreparedClass, PreparedMethod, PreparedProgram, PreparedRow,
+    Catches, FirstValue, PreparedClass, PreparedMethod, PreparedOperation, PreparedProgram,
+    PreparedRow,
 };
 pub use simple::{array_operation, simple_operation};
 pub use switches::{lookup_target, switch_target, table_target};

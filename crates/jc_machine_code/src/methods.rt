@@ -1,6 +1,7 @@
 //! Which methods threads may enter.
 ghost use Rattle.std.specs.Prelude.{◌≡◌};
 ghost use Rattle.jc_machine_model.specs.Methods.{is_init_name, declares_init, most_frame_slots, is_wide, is_synchronized, is_native, is_plain, is_enterable};
+ghost use Rattle.jc_machine_model.specs.Locked.{is_locked};
 
 use jc_methods::{Body, INIT_NAME, is_static};
 use jc_programs::Linked;
@@ -64,4 +65,12 @@ pub fn is_enterable(class: &Linked, body: &Body, most: u32) -> bool
     ensures { most_frame_slots class.now ≡ most → result ≡ is_enterable class.now body.now }
 {
     is_plain(class, body, most) && !is_synchronized(body)
+}
+
+/// Whether a thread could enter a method of a class if it weren't synchronized, and the method isn't named `$jacocoInit`. `most`
+/// is the most slots that a method of the class may have.
+pub fn is_locked(class: &Linked, body: &Body, most: u32) -> bool
+    ensures { most_frame_slots class.now ≡ most → result ≡ is_locked class.now body.now }
+{
+    is_plain(class, body, most) && (is_synchronized(body) && !is_init_name(body.name.as_slice()))
 }

@@ -5,8 +5,9 @@ ghost use Rattle.jc_programs.specs.declared.program.Program.{Program};
 ghost use Rattle.jc_programs.specs.Members.{body_of};
 ghost use Rattle.jc_machine_model.specs.World.{Frame};
 ghost use Rattle.jc_machine_model.specs.Step.{operation_at, located, handler_of, is_init_method};
+ghost use Rattle.jc_machine_model.specs.Locked.{locked_call};
 ghost use Rattle.jc_machine_code.specs.Shown.{Shows};
-ghost use Rattle.jc_machine_code.specs.Prepared.{catches_class, row_handles, handling, shown_at, IsMethodOf, IsPrepared};
+ghost use Rattle.jc_machine_code.specs.Prepared.{catches_class, row_handles, handling, plain_of, locked_of, prepared_at, IsMethodOf, IsPrepared};
 
 use crate::throwables::extends;
 use crate::{ComputationalType, Operation};
@@ -37,11 +38,21 @@ pub struct PreparedRow {
     pub catches: Catches,
 }
 
+/// An instruction of a method.
+#[derive(Clone, Copy, Debug)]
+pub enum PreparedOperation {
+    /// What it is to the machine.
+    Plain(Operation),
+    /// A call of a method that a thread could enter if it weren't synchronized. The machine, whose threads take no locks, doesn't
+    /// execute it.
+    Locked(Entry),
+}
+
 /// A method.
 #[derive(Debug, Drop)]
 pub struct PreparedMethod {
     /// What each instruction is, in the order of the code.
-    pub operations: List<Operation>,
+    pub operations: List<PreparedOperation>,
     /// The types of the parameters; none for a float or a double, of which the machine has no values.
     pub parameters: List<Option<ComputationalType>>,
     /// How many local variables there are.
@@ -112,14 +123,36 @@ fn first_row(rows: &[PreparedRow], place: u32, thrown: Thrown) -> Option<Prepare
     rows.iter().copied().find(|row| row.handles(place, thrown))
 }
 
+impl PreparedOperation {
+    /// What the instruction is to the machine.
+    pub fn plain(self) -> Operation
+        ensures { result ≡ plain_of self }
+    {
+        match self {
+            PreparedOperation::Plain(operation) => operation,
+            PreparedOperation::Locked(_) => Operation::Outside,
+        }
+    }
+
+    /// The synchronized method that the instruction calls.
+    pub fn locked(self) -> Option<Entry>
+        ensures { result ≡ locked_of self }
+    {
+        match self {
+            PreparedOperation::Plain(_) => None,
+            PreparedOperation::Locked(callee) => Some(callee),
+        }
+    }
+}
+
 impl PreparedMethod {
-    /// What the instruction at a place is; `Outside` where there is none.
-    pub fn operation(&self, place: u32) -> Operation
-        ensures { result ≡ shown_at self.now.operations place }
+    /// The instruction at a place; `Outside` where there is none.
+    pub fn operation(&self, place: u32) -> PreparedOperation
+        ensures { result ≡ prepared_at self.now.operations place }
     {
         match self.operations.as_slice().get(place as usize) {
             Some(operation) => *operation,
-            None => Operation::Outside,
+            None => PreparedOperation::Plain(Operation::Outside),
         }
     }
 
@@ -147,8 +180,19 @@ impl PreparedProgram {
         ensures { (program : Program) → IsPrepared program self.now → Shows result (operation_at program (located program method place)) }
     {
         match self.method(method) {
-            Some(found) => found.operation(place),
+            Some(found) => found.operation(place).plain(),
             None => Operation::Outside,
+        }
+    }
+
+    /// The method that the instruction at a place of a method calls, if only its being synchronized keeps it from being called: by
+    /// an `invokestatic` outside of `$jacocoInit`, of a method of another name.
+    pub fn locked_callee(&self, method: Entry, place: u32) -> Option<Entry>
+        ensures { (program : Program) → IsPrepared program self.now → result ≡ locked_call program (located program method place) }
+    {
+        match self.method(method) {
+            Some(found) => found.operation(place).locked(),
+            None => None,
         }
     }
 

@@ -165,7 +165,7 @@ impl<'a, 'i> Site<'a, 'i> {
     }
 
     /// The first method with code of these names.
-    fn callee_named(&self, named: Named<'a>) -> Option<Entry>
+    pub fn callee_named(&self, named: Named<'a>) -> Option<Entry>
         ensures { (program : Program) (at : Location) → IsSite program at self.now
             → result ≡ callee_named program named.entry.class.now named.entry.name.now named.entry.desc.now }
     {

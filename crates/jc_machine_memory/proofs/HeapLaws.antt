@@ -77,6 +77,19 @@ pub heap_words-objects : (blocks : List (List ℕ)) → AreObjects blocks → he
 heap_words-objects [] all = refl
 heap_words-objects (b ∷ blocks) all = omega (arith, all.0, heap_words-objects blocks all.1)
 
+-- the objects before one take as many words as the blocks before its own have
+pub words_before-objects : (blocks : List (List ℕ)) (k : ℕ) → AreObjects blocks → heap_words (take k (map object_of blocks)) ≡ words_in (take k blocks)
+words_before-objects blocks zero all = refl
+words_before-objects [] (suc k) all = refl
+words_before-objects (b ∷ blocks) (suc k) all = omega (arith, all.0, words_before-objects blocks k all.1)
+
+-- behind the last there are no more
+pub words_in-all : (blocks : List (List ℕ)) (k : ℕ) → length blocks ≤ k → words_in (take k blocks) ≡ words_in blocks
+words_in-all [] zero less = refl
+words_in-all [] (suc k) less = refl
+words_in-all (b ∷ blocks) zero less = absurd (omega arith)
+words_in-all (b ∷ blocks) (suc k) less = ap (λ n. length b + n) (words_in-all blocks k (omega arith))
+
 -- ---- what is told of an object
 
 array_told : (words : List ℕ) (len : ℕ) (e : Element) → length words ≡ len → 0 < len

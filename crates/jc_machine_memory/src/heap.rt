@@ -1,8 +1,8 @@
 //! The heap.
-ghost use Rattle.std.specs.Prelude.{◌≡◌, ◌↔◌, ◌+◌, ◌<◌, ◌^◌, ◌%◌, [], ◌∷◌, ◌++◌, pos, length, replicate, slice_get, IsTrue, IsSome, IfSome, IfOk, IfNone, OnSome};
+ghost use Rattle.std.specs.Prelude.{◌≡◌, ◌↔◌, ◌+◌, ◌<◌, ◌^◌, ◌%◌, [], ◌∷◌, ◌++◌, pos, length, take, replicate, slice_get, IsTrue, IsSome, IfSome, IfOk, IfNone, OnSome};
 ghost use Rattle.std.specs.Int.{w32, cast_signed};
 ghost use Rattle.jc_bytes.specs.Descriptor.{Long};
-ghost use Rattle.jc_machine_model.specs.Heap.{has_room, array, throwable};
+ghost use Rattle.jc_machine_model.specs.Heap.{heap_words, has_room, array, throwable};
 ghost use Rattle.jc_machine_model.specs.Arrays.{element_value};
 ghost use Rattle.jc_machine_memory.specs.Values.{value_of};
 ghost use Rattle.jc_machine_memory.specs.Heaps.{element_type, TellsOf, HasFewElements, object_at, HasElement, HasIntElement, element_in, with_element_at};
@@ -87,6 +87,17 @@ impl Heap {
                 count: block.len - 1,
             }),
             None => Some(HeapObject::Throwable(class_of_number(head.saturating_sub(16)))),
+        }
+    }
+
+    /// How many words the objects take that were made before the one with a number, or all, where there is none.
+    pub fn words_before(&self, number: u32) -> u32
+        ensures { result ≡ heap_words (take number self.now.objects) }
+    {
+        if number < self.region.count() {
+            self.region.block(number).at
+        } else {
+            self.region.used()
         }
     }
 

@@ -2,7 +2,7 @@
 ghost use Rattle.std.specs.Prelude.{◌≡◌, ◌↔◌, ◌+◌, ◌<◌, ◌^◌, [], ◌∷◌, ◌++◌, true, pos, length, map, take, drop, replicate, nat_le, option_map, slice_get, slice_set, IsTrue, IsSome, IfSome, IfOk, IfNone, OnSome};
 ghost use Rattle.std.specs.Bool.{OnTrue, OnFalse};
 ghost use Rattle.jc_bytes.specs.Descriptor.{Long};
-ghost use Rattle.jc_machine_model.specs.Heap.{has_room, array, throwable};
+ghost use Rattle.jc_machine_model.specs.Heap.{heap_words, has_room, array, throwable};
 ghost use Rattle.jc_machine_model.specs.Arrays.{element_value};
 ghost use Rattle.jc_machine_model.specs.Statics.{static_at, with_static};
 ghost use Rattle.jc_machine_model.specs.Objects.{most_printed};
@@ -131,6 +131,13 @@ impl Shared {
         ensures few { IfSome result HasFewElements }
     {
         self.heap.object(number)
+    }
+
+    /// How many words the objects take that were made before the one with a number, or all, where there is none.
+    pub fn words_before(&self, number: u32) -> u32
+        ensures { result ≡ heap_words (take number self.now.content.heap) }
+    {
+        self.heap.words_before(number)
     }
 
     /// Element `i` of the array with a number.

@@ -14,7 +14,7 @@ use Rattle.jc_machine_model.specs.Profile.{Location, has_constant, begins_with_a
 use Rattle.jc_machine_model.specs.Values.{computational_type}
 use Rattle.jc_machine_code.specs.Types.{return_narrowing}
 use Rattle.jc_machine_code.specs.Places.{AreWhats}
-use Rattle.jc_machine_code.specs.Prepared.{Correspond, ShowsInsn, IsRow}
+use Rattle.jc_machine_code.specs.Prepared.{Correspond, TellsInsn, IsRow}
 use Rattle.jc_machine_code.proofs.CodeLaws.{few_insns}
 use Rattle.jc_machine_code.proofs.prepare.prepared_method.Goals as goal
 
@@ -32,7 +32,7 @@ returns c = λ program linked i index members.
     let named = c.is_init_name.ensures ∙ ap is_init_name c.as_slice-3.ensures in
     let whats : AreWhats b.uses c.in_ok-whats.whats.entries = subst (λ (uses : List Use). AreWhats uses c.in_ok-whats.whats.entries) c.as_slice-2.ensures c.in_ok-whats.ensures in
     record {
-      operations = subst (λ (code : List Insn). Correspond (ShowsInsn program c.args.class linked b) code c.in_ok-operations.operations) c.as_slice-5.ensures
+      operations = subst (λ (code : List Insn). Correspond (TellsInsn program c.args.class linked b) code c.in_ok-operations.operations) c.as_slice-5.ensures
           (c.in_ok-operations.ensures program at (record {
             index = index;
             class = refl;
