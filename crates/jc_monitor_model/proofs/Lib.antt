@@ -1,0 +1,4 @@
+pub mod AccessLaws
+pub mod HeldLaws
+pub mod FrameLaws
+pub mod PlaceLaws

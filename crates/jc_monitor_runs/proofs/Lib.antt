@@ -1,0 +1,3 @@
+pub mod FramelessMethodLaws
+pub mod FramelessMonitorLaws
+pub mod FramelessRunLaws
