@@ -22,7 +22,7 @@ use Rattle.jc_programs.specs.Members.{class_named, class_at, method_named, stati
 use Rattle.jc_twin_programs.specs.TwinProgram.{IsPair, IsChangedPair}
 use Rattle.jc_emit.specs.Seen.{with_more}
 use Rattle.jc_machine_model.specs.Values.{computational_type}
-use Rattle.jc_machine_model.specs.Methods.{is_init_name, declares_init, is_wide, is_enterable}
+use Rattle.jc_machine_model.specs.Methods.{is_init_name, declares_init, is_wide, is_plain, is_enterable}
 use Rattle.jc_machine_model.specs.Operations.{FieldAt, Operation, invokes, outside, Printed}
 use Rattle.jc_machine_model.specs.Profile.{Location, in_init, has_constant, may_name_field, field_operation, declared_field, linked_field, is_print_stream, field_named, may_name_method, method_in, callee_named, entered_if, body_entered, class_entered, method_entered, is_fetch, init_call, init_of, static_call, printed_by, print_operation, virtual_call, made_class, build_operation, special_call, call_named, member_operation}
 use Rattle.jc_twin_simulation.specs.Sides.{Side, IsSide, AreSides}
@@ -32,9 +32,11 @@ use Rattle.jc_twin_simulation.proofs.ClassLaws.{class_same, class_there, static_
 
 -- ---- a thread may enter a method where it may enter its twin
 
+abbrev pub plain_by : (flags : ℕ) → (clinit wide : Bool) → Bool
+plain_by flags clinit wide = is_static flags && (not (not (nat_eq (bit_and flags 0x0100) 0)) && (not clinit && not wide))
+
 abbrev pub enter_by : (flags : ℕ) → (clinit wide : Bool) → Bool
-enter_by flags clinit wide =
-    (is_static flags && (not (not (nat_eq (bit_and flags 0x0100) 0)) && (not clinit && not wide))) && not (not (nat_eq (bit_and flags 0x0020) 0))
+enter_by flags clinit wide = plain_by flags clinit wide && not (not (nat_eq (bit_and flags 0x0020) 0))
 
 wider : (n k : ℕ) → k ≡ n + 4 → nat_lt 1004 k ≡ nat_lt 1000 n
 wider n k e = ⊎_elim
@@ -57,17 +59,25 @@ module _ (p p' : Program) (m : Entry) (t : Side) (side : IsSide p p' m t) where
       ∙ wider (t.body.max_locals + t.body.max_stack) (t.twin.max_locals + t.twin.max_stack) (omega (arith, locals, stack))
       ∙ sym (ap (λ b. nat_lt (if b then 1004 else 1000) (t.body.max_locals + t.body.max_stack)) side.declares)
 
+  -- but for whether it is synchronized
+  pub plain_same : is_plain t.new t.twin ≡ is_plain t.class t.body
+  plain_same =
+      ap (λ f. plain_by f t.new.has_clinit (is_wide t.new t.twin)) side.same.flags
+      ∙ ap (λ c. plain_by t.body.flags c (is_wide t.new t.twin)) side.has_clinit
+      ∙ ap (plain_by t.body.flags t.class.has_clinit) (wide_same t.slot refl)
+
   pub enterable_same : is_enterable t.new t.twin ≡ is_enterable t.class t.body
   enterable_same =
-      ap (λ f. enter_by f t.new.has_clinit (is_wide t.new t.twin)) side.same.flags
-      ∙ ap (λ c. enter_by t.body.flags c (is_wide t.new t.twin)) side.has_clinit
-      ∙ ap (enter_by t.body.flags t.class.has_clinit) (wide_same t.slot refl)
+      ap₂ (λ plain f. plain && not (not (nat_eq (bit_and f 0x0020) 0))) plain_same side.same.flags
 
 -- what it needs
-pub entered_static : (c : Linked) (b : Body) → is_enterable c b ≡ true → (is_static b.flags ≡ true) × (c.has_clinit ≡ false)
-entered_static c b e =
-    let plain = and_parts _ _ (and_parts _ _ e).0 in
+pub plain_static : (c : Linked) (b : Body) → is_plain c b ≡ true → (is_static b.flags ≡ true) × (c.has_clinit ≡ false)
+plain_static c b e =
+    let plain = and_parts _ _ e in
     (plain.0, not-true c.has_clinit (and_parts _ _ (and_parts _ _ plain.1).1).0)
+
+pub entered_static : (c : Linked) (b : Body) → is_enterable c b ≡ true → (is_static b.flags ≡ true) × (c.has_clinit ≡ false)
+entered_static c b e = plain_static c b (and_parts _ _ e).0
 
 module _ (p p' : Program) (sides : Entry → Side) (are : AreSides p p' sides) (m : Entry) (side : IsSide p p' m (sides m)) (q i : ℕ)
     (past : (v : ℕ) → (sides m).slot ≡ Some v → nat_eq q 0 ≡ false) where

@@ -306,7 +306,7 @@ module _ (p p' : Program) (sides : Entry → Side) (are : AreSides p p' sides) (
   code_at : (insn : Insn) → slice_get t.body.code i ≡ Some insn → i < length t.body.code
   code_at insn here = slice_get_within t.body.code i insn here
 
-  what_same : (insn : Insn) (place : ℕ) → slice_get t.body.code i ≡ Some insn → pool_place insn ≡ Some place → what_at at' place ≡ what_at at place
+  pub what_same : (insn : Insn) (place : ℕ) → slice_get t.body.code i ≡ Some insn → pool_place insn ≡ Some place → what_at at' place ≡ what_at at place
   what_same insn place here e =
       let is = get_or_from_slice_get t.body.code i insn (insns.Simple 0) here in
       let used = side.well.uses.by_insns i (insns.Simple 0) (code_at insn here) place (ap pool_place is ∙ e) in
@@ -321,10 +321,10 @@ module _ (p p' : Program) (sides : Entry → Side) (are : AreSides p p' sides) (
   led op x e h = subst (λ y. Both op (operation_of p' at' y)) (sym e) h
 
   -- what goes on
-  moved : (insn : Insn) → IsOk insn flows.GoesOn → new ≡ with_slots (twin_slot t.slot) insn
+  pub moved : (insn : Insn) → IsOk insn flows.GoesOn → new ≡ with_slots (twin_slot t.slot) insn
   moved insn h = h.0 ∙ moved_is t.slot insn
 
-  go_on : (insn : Insn) → IsOk insn flows.GoesOn → Go
+  pub go_on : (insn : Insn) → IsOk insn flows.GoesOn → Go
   go_on insn h = (t.ids (sequence i), h.1.stands)
 
   alike_simple : (op : ℕ) (r a : Bool) → is_return op ≡ r → nat_eq op opcode.athrow ≡ a

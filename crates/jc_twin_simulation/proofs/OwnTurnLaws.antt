@@ -29,12 +29,12 @@ module _ (p p' : Program) (sides : Entry → Side) where
 
   -- ---- counting frames
 
-  counted_more : (r : Program) (f : Frame) (fs : List Frame) → is_init_method r f.method ≡ false → counted_frames r (f ∷ fs) ≡ suc (counted_frames r fs)
+  pub counted_more : (r : Program) (f : Frame) (fs : List Frame) → is_init_method r f.method ≡ false → counted_frames r (f ∷ fs) ≡ suc (counted_frames r fs)
   counted_more r f fs e =
       ap (λ b. length (if not b then f
       ∷ filter (λ (g : Frame). not (is_init_method r g.method)) fs else filter (λ (g : Frame). not (is_init_method r g.method)) fs)) e
 
-  waits_counted : (fs fs' : List Frame) → SameWaits p p' sides fs fs' → counted_frames p' fs' ≡ counted_frames p fs
+  pub waits_counted : (fs fs' : List Frame) → SameWaits p p' sides fs fs' → counted_frames p' fs' ≡ counted_frames p fs
   waits_counted [] [] w = refl
   waits_counted (f ∷ fs) (f' ∷ fs') w =
       counted_more p' f' fs' (new_no_init f f' w.0.one) ∙ ap suc (waits_counted fs fs' w.1) ∙ sym (counted_more p f fs (old_no_init f f' w.0.one))

@@ -3,6 +3,7 @@ use Rattle.std.proofs.Common.{◌≡◌, ℕ, List, Option, Some, None, refl, sy
 use Rattle.std.specs.Prelude.{slice_get}
 use Rattle.std.proofs.lemmas.Option.{none-some}
 use Rattle.jc_methods.specs.declared.body.Body.{Body}
+use Rattle.jc_methods.specs.declared.probe_members.Fetch.TheVariants as fetches
 use Rattle.jc_programs.specs.declared.program.Program.{Program}
 use Rattle.jc_programs.specs.declared.program.Linked.{Linked}
 use Rattle.jc_programs.specs.declared.run_plan.Case.{Case}
@@ -14,7 +15,8 @@ use Rattle.jc_twin_programs.specs.TwinProgram.{TwinProgram}
 use Rattle.jc_twin_programs.proofs.SeenProgramLaws.{body_seen, marks_one}
 use Rattle.jc_machine_model.specs.Begin.{begin_case}
 use Rattle.jc_twin_simulation.specs.Marking.{AreMarks}
-use Rattle.jc_twin_simulation.specs.Laws.{HaveMarks, HaveOneMarks, HaveSides, CasesBeginBeside, TurnsStayBeside, BesideIsSame, RunsAreSame, IsKeptBySpread, SchedulesAreKept, ProbeTurnsAreFew, ProbeTurnsAreFewer}
+use Rattle.jc_twin_simulation.specs.Laws.{HaveMarks, HaveOneMarks, HaveSides, CasesBeginBeside, TurnsStayBeside, BesideIsSame, RunsAreSame, IsKeptBySpread, SchedulesAreKept, ProbeTurnsAreFew, AllByConstant, ProbeTurnsAreFewer}
+use Rattle.jc_twin_simulation.specs.Sides.{Side, way_of, IsSide}
 use Rattle.jc_twin_simulation.specs.Beside.{Beside}
 use Rattle.jc_twin_simulation.specs.Mid.{EachBeginsInMid, EachTurnKeeps}
 use Rattle.jc_twin_simulation.proofs.BesideLaws.{mid_beside}
@@ -61,10 +63,15 @@ probe_turns_are_few p p' marks t are case entries h k turns =
     runs.few_probe_turns p p' (sides p p' t marks are) marks (are_sides p p' t marks are) (are_told p p' t marks are) k turns (begin_case p case)
     (begin_case p' case) (begins p p' marks t are case entries h)
 
+-- where each class gets its array by a constant, the methods of each do
+pub each_by_constant : (p p' : Program) (each : Entry → Side) → AllByConstant p p' → (m : Entry) → IsSide p p' m (each m)
+    → (v : ℕ) → (each m).slot ≡ Some v → way_of (each m) ≡ fetches.Constant
+each_by_constant p p' each all m side v e = let s = each m in all m.class s.class s.new side.class_is side.new_is (side.changed v e).pair
+
 pub probe_turns_are_fewer : ProbeTurnsAreFewer
 probe_turns_are_fewer p p' marks t are case entries h all k turns =
     runs.fewer_probe_turns p p' (sides p p' t marks are) marks (are_sides p p' t marks are) (are_told p p' t marks are)
-    (λ m side v e. let s = sides p p' t marks are m in all m.class s.class s.new side.class_is side.new_is (side.changed v e).pair) k turns (begin_case p case)
+    (each_by_constant p p' (sides p p' t marks are) all) k turns (begin_case p case)
     (begin_case p' case) (begins p p' marks t are case entries h)
 
 -- ---- one turn

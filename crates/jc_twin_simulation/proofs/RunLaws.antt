@@ -128,7 +128,7 @@ module _ (p p' : Program) (sides : Entry → Side) (marks : Entry → Marks) (ar
 
   -- ---- a turn that isn't kept brings its thread nearer to one that is
 
-  abbrev option_rank : Option Thread → ℕ
+  abbrev pub option_rank : Option Thread → ℕ
   option_rank None = 0
   option_rank (Some x) = thread_rank p p' sides x
 
@@ -238,7 +238,7 @@ module _ (p p' : Program) (sides : Entry → Side) (marks : Entry → Marks) (ar
   each_row fetches.Member = omega arith
   each_row fetches.Constant = omega arith
 
-  is_simulated : IsSimulated (step p) (step p') (is_kept p' marks) runs runs Pair rank_of 17
+  pub is_simulated : IsSimulated (step p) (step p') (is_kept p' marks) runs runs Pair rank_of 17
   is_simulated = simulated_by 17 (λ m side v e. each_row (way_of (sides m)))
 
   pub same_run : (turns : List ℕ) (w w' : World) → Pair w w' → Pair (run_from p w (kept p' marks w' turns)) (run_from p' w' turns)
@@ -263,8 +263,14 @@ module _ (p p' : Program) (sides : Entry → Side) (marks : Entry → Marks) (ar
   pub few_probe_turns : (t : ℕ) (turns : List ℕ) (w w' : World) → Pair w w' → row p' marks w' t turns 0 ≤ 17
   few_probe_turns = schedules.few_probe_turns (step p) (step p') (is_kept p' marks) runs runs Pair rank_of 17 is_simulated
 
-  -- fewer, where each class gets its array by a constant
-  pub fewer_probe_turns : ((m : Entry) → IsSide p p' m (sides m) → (v : ℕ) → (sides m).slot ≡ Some v → way_of (sides m) ≡ fetches.Constant)
-      → (t : ℕ) (turns : List ℕ) (w w' : World) → Pair w w' → row p' marks w' t turns 0 ≤ 9
-  fewer_probe_turns each = schedules.few_probe_turns (step p) (step p') (is_kept p' marks) runs runs Pair rank_of 9
-      (simulated_by 9 (λ m side v e. subst (λ fetch. most_row fetch ≤ 9) (sym (each m side v e)) (omega arith)))
+  -- ---- where each class gets its array by a constant
+
+  abbrev pub EachByConstant : Type 0
+  EachByConstant = (m : Entry) → IsSide p p' m (sides m) → (v : ℕ) → (sides m).slot ≡ Some v → way_of (sides m) ≡ fetches.Constant
+
+  pub is_simulated_by_constant : EachByConstant → IsSimulated (step p) (step p') (is_kept p' marks) runs runs Pair rank_of 9
+  is_simulated_by_constant each = simulated_by 9 (λ m side v e. subst (λ fetch. most_row fetch ≤ 9) (sym (each m side v e)) (omega arith))
+
+  -- there are fewer
+  pub fewer_probe_turns : EachByConstant → (t : ℕ) (turns : List ℕ) (w w' : World) → Pair w w' → row p' marks w' t turns 0 ≤ 9
+  fewer_probe_turns each = schedules.few_probe_turns (step p) (step p') (is_kept p' marks) runs runs Pair rank_of 9 (is_simulated_by_constant each)

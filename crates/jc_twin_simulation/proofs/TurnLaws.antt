@@ -459,17 +459,23 @@ module _ (p p' : Program) (sides : Entry → Side) where
 
     -- ---- an own turn
 
-    pub own_turned : (f f' : Frame) (fs fs' : List Frame) (h : SameFrame p p' sides f f') → SameWaits p p' sides fs fs'
-        → (insn : Insn) (at : ℕ) (early : Option ℕ) → h.item ≡ image insn at early
-        → SameAfter p p' sides (after_result p (result_of p s f) s f fs) (after_result p' (result_of p' s' f') s' f' fs')
-    own_turned f f' fs fs' h w insn at early e =
+    -- a frame at an own instruction, and the frame at its image
+    pub at_image : (f f' : Frame) (h : SameFrame p p' sides f f') (insn : Insn) (at : ℕ) (early : Option ℕ) → h.item ≡ image insn at early
+        → AtImage p p' sides f f' insn early
+    at_image f f' h insn at early e =
         let t = sides f.method in
         let place : at ≡ f.place = ap at_of (sym e) ∙ h.at in
         let is : h.item ≡ image insn f.place early = e ∙ ap (λ k. image insn k early) place in
-        let o : AtImage p p' sides f f' insn early = record {
+        record {
           one = h.one;
           here = h.here ∙ ap Some is;
           stack = h.stack ∙ ap (λ y. pushed_of (array_of t f.method.class) y ++ f.stack) is;
           locals = subst (λ y. SameLocals (array_of t f.method.class) t.slot f.locals f'.locals y) is h.locals;
-        } in
+        }
+
+    pub own_turned : (f f' : Frame) (fs fs' : List Frame) (h : SameFrame p p' sides f f') → SameWaits p p' sides fs fs'
+        → (insn : Insn) (at : ℕ) (early : Option ℕ) → h.item ≡ image insn at early
+        → SameAfter p p' sides (after_result p (result_of p s f) s f fs) (after_result p' (result_of p' s' f') s' f' fs')
+    own_turned f f' fs fs' h w insn at early e =
+        let o = at_image f f' h insn at early e in
         after_same p p' sides s s' ss f f' fs fs' insn early o w (result_of p s f) (result_of p' s' f') (own_result p p' sides are f f' insn early o s s' ss)

@@ -88,7 +88,7 @@ module _ (p p' : Program) (sides : Entry → Side) (marks : Entry → Marks) (ar
   same_get [] (x' ∷ xs') h k = absurd h
   same_get (x ∷ xs) [] h k = absurd h
 
-  same_set : (xs xs' : List Thread) → SameThreads p p' sides xs xs' → (k : ℕ) (y y' : Thread) → SameThread p p' sides y y'
+  pub same_set : (xs xs' : List Thread) → SameThreads p p' sides xs xs' → (k : ℕ) (y y' : Thread) → SameThread p p' sides y y'
       → SameThreads p p' sides (slice_set xs k y) (slice_set xs' k y')
   same_set [] [] h k y y' s = tt
   same_set (x ∷ xs) (x' ∷ xs') h zero y y' s = (s, h.1)

@@ -1,0 +1,12 @@
+pub mod FormLaws
+pub mod CalleeLaws
+pub mod ImageLaws
+pub mod StuckLaws
+pub mod DepthLaws
+pub mod ReleaseLaws
+pub mod ElsewhereLaws
+pub mod ProbeTurnLaws
+pub mod SameTurnLaws
+pub mod KeptTurnLaws
+pub mod SystemLaws
+pub mod MonitorRunLaws

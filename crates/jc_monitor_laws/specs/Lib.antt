@@ -1,0 +1,3 @@
+pub mod MonitorKept
+pub mod MonitorSame
+pub mod SameMonitored
