@@ -1,8 +1,8 @@
-mod BitLaws
+pub mod BitLaws
 mod ClosingLaws
 mod CopyingLaws
-mod HitSetLaws
+pub mod HitSetLaws
 mod PartLaws
-mod PlaceLaws
+pub mod PlaceLaws
 mod StepLaws
-mod ViewLaws
+pub mod ViewLaws

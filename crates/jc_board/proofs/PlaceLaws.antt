@@ -14,14 +14,20 @@ word_below [] c i h = absurd (omega (arith, h.0))
 word_below (n ∷ ns) zero i h = omega (arith, within_class n i h.1)
 word_below (n ∷ ns) (suc c) i h = omega (arith, word_below ns c i (omega (arith, h.0), h.1))
 
-pub same_place : (counts : List ℕ) (c i d j : ℕ) → InRange counts c i → InRange counts d j → word_at counts c i ≡ word_at counts d j → i % 64 ≡ j % 64 → (c ≡ d) × (i ≡ j)
-same_place [] c i d j h k w b = absurd (omega (arith, h.0))
-same_place (n ∷ ns) zero i zero j h k w b = (refl, omega (arith, w, b, div-add-mod' i 64, div-add-mod' j 64))
-same_place (n ∷ ns) zero i (suc d) j h k w b = absurd (omega (arith, w, within_class n i h.1))
-same_place (n ∷ ns) (suc c) i zero j h k w b = absurd (omega (arith, w, within_class n j k.1))
-same_place (n ∷ ns) (suc c) i (suc d) j h k w b =
-    let e = same_place ns c i d j (omega (arith, h.0), h.1) (omega (arith, k.0), k.1) (omega (arith, w)) b in
+-- two probes of one word are of one class
+pub same_word : (counts : List ℕ) (c i d j : ℕ) → InRange counts c i → InRange counts d j → word_at counts c i ≡ word_at counts d j → (c ≡ d) × (i / 64 ≡ j / 64)
+same_word [] c i d j h k w = absurd (omega (arith, h.0))
+same_word (n ∷ ns) zero i zero j h k w = (refl, omega (arith, w))
+same_word (n ∷ ns) zero i (suc d) j h k w = absurd (omega (arith, w, within_class n i h.1))
+same_word (n ∷ ns) (suc c) i zero j h k w = absurd (omega (arith, w, within_class n j k.1))
+same_word (n ∷ ns) (suc c) i (suc d) j h k w =
+    let e = same_word ns c i d j (omega (arith, h.0), h.1) (omega (arith, k.0), k.1) (omega (arith, w)) in
     (ap suc e.0, e.1)
+
+pub same_place : (counts : List ℕ) (c i d j : ℕ) → InRange counts c i → InRange counts d j → word_at counts c i ≡ word_at counts d j → i % 64 ≡ j % 64 → (c ≡ d) × (i ≡ j)
+same_place counts c i d j h k w b =
+    let e = same_word counts c i d j h k w in
+    (e.0, omega (arith, e.1, b, div-add-mod' i 64, div-add-mod' j 64))
 
 pub mask_is : (k : ℕ) → k < 64 → 1 * 2 ^ k % 18446744073709551616 ≡ 2 ^ k
 mask_is k h = ap (λ n. n % 18446744073709551616) (one-mul (2 ^ k)) ∙ mod-eq_of_lt (pow_below k 64 h)
@@ -47,3 +53,15 @@ pub class_below : (counts : List ℕ) (c : ℕ) → c < length counts → first_
 class_below [] c h = absurd (omega (arith, h))
 class_below (n ∷ ns) zero h = omega arith
 class_below (n ∷ ns) (suc c) h = omega (arith, class_below ns c (omega (arith, h)))
+
+-- the words of a class lie in front of those of a class behind it
+pub word_in_front : (counts : List ℕ) (c i d : ℕ) → InRange counts c i → c < d → d ≤ length counts → word_at counts c i < first_word counts d
+word_in_front [] c i d h lt le = absurd (omega (arith, h.0))
+word_in_front (n ∷ ns) c i zero h lt le = absurd (omega (arith, lt))
+word_in_front (n ∷ ns) zero i (suc d) h lt le = omega (arith, within_class n i h.1)
+word_in_front (n ∷ ns) (suc c) i (suc d) h lt le = omega (arith, word_in_front ns c i d (omega (arith, h.0), h.1) (omega (arith, lt)) (omega (arith, le)))
+
+pub first_word_le : (counts : List ℕ) (c : ℕ) → first_word counts c ≤ words_of counts
+first_word_le [] c = omega arith
+first_word_le (n ∷ ns) zero = omega arith
+first_word_le (n ∷ ns) (suc c) = omega (arith, first_word_le ns c)

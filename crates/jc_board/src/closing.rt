@@ -23,7 +23,7 @@ fn copy_class(closed: &Closed<(), Global>, start: usize, class: u32, count: u32,
     }
 }
 
-// Hits the probes whose bits are set. A class whose number has more than 32 bits has no probe that can be hit.
+/// Hits the probes whose bits are set. A class whose number has more than 32 bits has no probe that can be hit.
 pub fn copy(closed: &Closed<(), Global>, starts: &[usize], counts: &[u32], into: &mut HitSet)
     requires words { IsFull closed.now.words }
     requires layout { IsLayout counts.now starts.now (slots_len closed.now.words) }

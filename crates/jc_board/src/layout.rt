@@ -5,7 +5,11 @@ ghost use Rattle.jc_board.specs.Layout.{IsLayout};
 use jc_bytes::Memory;
 use std::alloc::Global;
 
-// The first word of each class, and the words, all zero. There is at least one word.
+/// The first word of each class, and the words, all zero. There is at least one word.
+///
+/// # Errors
+///
+/// `Memory` where memory was refused.
 pub fn lay(alloc: Global, counts: &[u32]) -> Result<(Vec<usize>, Vec<u64>), Memory>
     ensures layout { IfOk result (λ t. IsLayout counts.now t.0.items (length t.1.items)) }
     ensures zero { IfOk result (λ t. (k : ℕ) → slice_index t.1.items k ≡ 0) }

@@ -8,3 +8,5 @@ mod seat;
 mod steps;
 
 pub use board::{Board, Seat};
+pub use closing::copy;
+pub use layout::lay;

@@ -1,0 +1,10 @@
+mod ListLaws
+mod ViewLaws
+mod PartLaws
+mod HitLaws
+mod SwapLaws
+mod SplitLaws
+mod ClosingLaws
+mod OpeningLaws
+mod TakenLaws
+mod PuttingLaws

@@ -1,0 +1,14 @@
+use Rattle.std.proofs.Common.{◌≡◌, ◌+◌, List, Bool}
+use Rattle.jc_programs.specs.Probes.{counts_of}
+use Rattle.jc_dump_board.specs.declared.seat.View.{View}
+use Rattle.jc_dump_board.specs.Taking.{Taken}
+use Rattle.jc_dump_board.proofs.taking.take_class.Given as goal
+
+abbrev pub ghosts-take_word : goal.ghosts-take_word
+ghosts-take_word a = record { counts = a.words.now.key.items; word = a.word }
+
+abbrev pub invariant-loop-nth : goal.invariant-loop-nth
+invariant-loop-nth l = (l.seat.table_id ≡ l.initial.seat.table_id) × (l.seat.me.1 ≡ l.initial.seat.me.1) × (l.seat.me.0.part ≡ l.initial.seat.me.0.part)
+    × (counts_of l.into ≡ counts_of l.initial.into)
+    × ((was : View) (into_was : List (List Bool)) → Taken l.words.key.items l.start was l.initial.seat.me.0 into_was l.initial.into
+    → Taken l.words.key.items (l.start + l.nth) was l.seat.me.0 into_was l.into)

@@ -1,0 +1,4 @@
+pub mod Rule
+pub mod Seen
+pub mod Taking
+pub mod Views
