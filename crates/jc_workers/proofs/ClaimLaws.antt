@@ -31,11 +31,11 @@ total_le : (f g : Drawn → ℕ) → ((v : Drawn) → f v ≤ g v) → (l : List
 total_le f g h [] = omega arith
 total_le f g h (x ∷ xs) = omega (arith, h x, total_le f g h xs)
 
-times-append : (x : ℕ) (l m : List ℕ) → times x (l ++ m) ≡ times x l + times x m
+pub times-append : (x : ℕ) (l m : List ℕ) → times x (l ++ m) ≡ times x l + times x m
 times-append x [] m = omega arith
 times-append x (y ∷ ys) m = omega (arith, times-append x ys m)
 
-times_le : (x : ℕ) (l : List ℕ) → times x l ≤ length l
+pub times_le : (x : ℕ) (l : List ℕ) → times x l ≤ length l
 times_le x [] = omega arith
 times_le x (y ∷ ys) = let e = times_le x ys in grind (arith, nat_tests)
 

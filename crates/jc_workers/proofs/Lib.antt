@@ -1,4 +1,4 @@
-mod ClaimLaws
-mod NumberLaws
-mod RanLaws
-mod CaseLaws
+pub mod ClaimLaws
+pub mod NumberLaws
+pub mod RanLaws
+pub mod CaseLaws

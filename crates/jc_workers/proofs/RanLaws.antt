@@ -15,6 +15,10 @@ no_ends cases end_of Ran none = record { each = λ k e h. absurd (nothing (k, e)
 pub no_hits : (cases : ℕ) (hit_by : ℕ → ℕ → ℕ → Type 0) (Ran : ℕ → Type 0) → ((k : ℕ) → Ran k → ⊥) → HitsOf cases hit_by Ran []
 no_hits cases hit_by Ran none = record { by = λ c i h. absurd (nothing (c, i) h); all = λ k c i lt r. absurd (none k r) }
 
+-- no case, and no hit
+pub none_ran : (cases : ℕ) (hit_by : ℕ → ℕ → ℕ → Type 0) (hits : List (ℕ × ℕ)) → hits ≡ [] → HitsOf cases hit_by (Contains []) hits
+none_ran cases hit_by hits none = subst (HitsOf cases hit_by (Contains [])) (sym none) (no_hits cases hit_by (Contains []) (λ k h. nothing k h))
+
 -- the same cases, said otherwise
 module _ (cases : ℕ) (Ran Now : ℕ → Type 0) (to : (k : ℕ) → k < cases → Ran k → Now k) (from : (k : ℕ) → k < cases → Now k → Ran k) where
   pub same_ends : {E : Type 0} (end_of : ℕ → E) (ends : List (ℕ × E)) → EndsOf cases end_of Ran ends → EndsOf cases end_of Now ends
@@ -105,12 +109,12 @@ filtered_none {E} ends o all is was =
     ∙ ap (λ (x : Option E). filter_map (λ (y : Option E). y) (ends ++ x ∷ [])) (sym is)
 
 module _ {A : Type 0} where
-  set_same : (l : List A) (n : ℕ) (a : A) → n < length l → slice_get (set l n a) n ≡ Some a
+  pub set_same : (l : List A) (n : ℕ) (a : A) → n < length l → slice_get (set l n a) n ≡ Some a
   set_same [] n a h = absurd (omega (arith, h))
   set_same (x ∷ xs) zero a h = refl
   set_same (x ∷ xs) (suc n) a h = set_same xs n a (omega (arith, h))
 
-  set_other : (l : List A) (n k : ℕ) (a : A) → (k ≡ n → ⊥) → slice_get (set l n a) k ≡ slice_get l k
+  pub set_other : (l : List A) (n k : ℕ) (a : A) → (k ≡ n → ⊥) → slice_get (set l n a) k ≡ slice_get l k
   set_other [] n k a ne = refl
   set_other (x ∷ xs) zero zero a ne = absurd (ne refl)
   set_other (x ∷ xs) zero (suc k) a ne = refl

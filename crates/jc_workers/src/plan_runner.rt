@@ -3,6 +3,7 @@ ghost use Rattle.std.specs.Prelude.{◌≡◌, ◌<◌, ◌^◌, All, IfOk, leng
 ghost use Rattle.jc_programs.specs.Turns.{IsRunPlan};
 ghost use Rattle.jc_machine_model.specs.Programs.{IsProgram};
 ghost use Rattle.jc_machine_model.specs.Begin.{entries_of};
+ghost use Rattle.jc_machine.specs.Hits.{probe_counts};
 ghost use Rattle.jc_workers.specs.Cases.{HaveEntries, IsRunnable};
 
 use crate::Gate;
@@ -24,7 +25,7 @@ pub struct PlanRunner<'a> {
 }
 
 /// The methods with which threads begin, of those that have one.
-fn entries_of(
+pub fn entries_of(
     alloc: Global,
     program: &Program,
     threads: &[ThreadLine],
@@ -57,6 +58,21 @@ fn entries_of_cases(
         entries.push(entries_of(alloc, program, &case.threads)?)?;
     }
     Ok(entries)
+}
+
+/// How many probes each class has.
+///
+/// # Errors
+///
+/// `Memory` where memory was refused.
+pub fn probe_counts(alloc: Global, program: &Program) -> Result<Vec<u32>, Memory>
+    ensures { IfOk result (λ counts. counts.items ≡ probe_counts program.now) }
+{
+    let mut counts = Vec::new(alloc);
+    'counting: for class in program.classes.as_slice() {
+        counts.push(class.probes.map_or(0, |init| init.count))?;
+    }
+    Ok(counts)
 }
 
 impl<'a> PlanRunner<'a> {

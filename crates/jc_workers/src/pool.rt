@@ -1,65 +1,64 @@
 //! Workers that draw cases and run them.
-ghost use Rattle.std.specs.Prelude.{◌≡◌, ℕ, ◌+◌, ◌*◌, ◌<◌, ◌≤◌, [], length, Contains, IfOk, vec_len};
-ghost use Rattle.jc_workers.specs.Ran.{EndsOf, HitsOf};
-ghost use Rattle.jc_workers.specs.Drawing.{IsTurn, AreTurns, DidDraw, GoesPast, HavePassed};
+ghost use Rattle.std.specs.Prelude.{◌≡◌, ◌+◌, ◌*◌, ◌≤◌, [], IfOk, vec_len};
+ghost use Rattle.jc_workers.specs.Drawing.{IsTurn, AreTurns, DidDraw};
 
+use crate::case_seat::CaseSeat;
 use crate::runner::CaseRunner;
-use crate::{Claims, Drawer, Gate, Place, SeatSink};
-use jc_board::{Board, Seat};
+use crate::{Claims, Drawer, Gate};
 use jc_bytes::Memory;
 use std::alloc::Global;
-use std::marker::Brand;
 
-/// What the workers share: so many cases, whose numbers they draw from the claims, and the board on which the cases hit.
-#[derive(Clone, Copy)]
-pub struct Work<'a> {
+/// What the workers share: so many cases, whose numbers they draw from the claims, the part of the board that the seat of each
+/// has, and the board on which the cases hit.
+#[derive(Drop)]
+pub struct Work<'a, B> {
     pub cases: usize,
-    pub board: &'a Board,
+    pub part: u32,
+    pub board: &'a B,
     pub claims: &'a Claims,
 }
 
 /// What a worker begins with.
 #[derive(Drop)]
-pub struct Turn {
-    pub seat: Seat,
+pub struct Turn<S: Drop> {
+    pub seat: S,
     pub drawer: Drawer,
 }
 
 /// What a worker gives back: the ends of its cases, by their numbers from 0.
 #[derive(Drop)]
-pub struct Drew<E: Drop> {
+pub struct Drew<E: Drop, S: Drop> {
     pub ends: Vec<(usize, E)>,
-    pub seat: Seat,
+    pub seat: S,
     pub drawer: Drawer,
 }
 
-// Draws cases and runs them, until there is none.
-fn draw_all<P: Place, C: CaseRunner, G: Gate>(
+/// Draws cases and runs them, until there is none.
+pub fn take_turn<S: CaseSeat<C>, C: CaseRunner, G: Gate>(
     alloc: Global,
     runner: &C,
     gate: &G,
-    work: &Work<'_>,
-    turn: Turn,
-) -> Result<Drew<C::End>, Memory>
+    work: &Work<'_, S::Board>,
+    turn: Turn<S>,
+) -> Result<Drew<C::End, S>, Memory>
 where
     C::World: Drop,
     C::End: Drop,
-    requires place { (work.now.board.now.table ≡ P.table) × (turn.seat.table ≡ P.table) × (turn.seat.part ≡ P.part) }
-    requires turn { (turn.seat.hits ≡ []) × (turn.drawer.table ≡ work.now.claims.now.table) × (turn.drawer.numbers ≡ []) × (turn.drawer.budget ≡ work.now.cases + 1) }
+    requires turn { IsTurn (λ s. S.at s work.now.board.now × (S.part s ≡ work.now.part)) (λ s cases. S.ran s work.now.board.now runner.now cases)
+        work.now.claims.now.table (work.now.cases + 1) turn }
     requires runner { C.runnable runner.now }
     requires cases { (work.now.cases ≡ C.cases runner.now) × (work.now.cases ≤ 256) }
-    requires counts { work.now.board.now.counts ≡ C.counts runner.now }
-    ensures seat { IfOk result (λ d. (d.seat.table ≡ P.table) × (d.seat.part ≡ P.part)) }
-    ensures drawer { IfOk result (λ d. (d.drawer.table ≡ work.now.claims.now.table) × (length d.drawer.numbers + d.drawer.budget ≡ work.now.cases + 1)
-        × GoesPast work.now.cases d.drawer.numbers) }
-    ensures ends { IfOk result (λ d. EndsOf work.now.cases (C.end_of runner.now) (Contains d.drawer.numbers) d.ends.items) }
-    ensures hits { IfOk result (λ d. HitsOf work.now.cases (C.hits runner.now) (Contains d.drawer.numbers) d.seat.hits) }
-    ensures passed { IfOk result (λ d. HavePassed work.now.cases (G.passed gate.now) (Contains d.drawer.numbers)) }
+    requires counts { S.counts work.now.board.now ≡ C.counts runner.now }
+    ensures drew { IfOk result (DidDraw (λ s. S.at s work.now.board.now × (S.part s ≡ work.now.part))
+        (λ s cases. S.ran s work.now.board.now runner.now cases) work.now.claims.now.table work.now.cases (C.end_of runner.now) (G.passed gate.now)) }
+    ensures alone { IfOk result (λ d. S.alone turn.seat → S.alone d.seat) }
 {
-    let Turn { seat, mut drawer } = turn;
+    let Turn {
+        mut seat,
+        mut drawer,
+    } = turn;
     let cases = work.cases;
     let mut ends = Vec::new(alloc);
-    let mut sink: SeatSink<P> = SeatSink::new(seat, work.board);
     let mut world = runner.begin(alloc)?;
     'drawing: for _ in 0..cases + 1 {
         let number = drawer.draw(work.claims);
@@ -68,54 +67,36 @@ where
         }
         let case = number as usize;
         gate.pass(case as u32 + 1);
-        let end = runner.run(alloc, &mut world, gate, case, &mut sink)?;
+        let (end, next) = seat.run_case(alloc, work.board, runner, &mut world, gate, case)?;
+        seat = next;
         ends.push((case, end))?;
     }
-    let seat = sink.into_seat();
     Ok(Drew { ends, seat, drawer })
 }
 
-/// Draws cases and runs them, from a seat with a part of 2,048.
-pub fn take_turn<C: CaseRunner, G: Gate>(
-    alloc: Global,
-    runner: &C,
-    gate: &G,
-    work: &Work<'_>,
-    turn: Turn,
-) -> Result<Drew<C::End>, Memory>
-where
-    C::World: Drop,
-    C::End: Drop,
-    requires turn { IsTurn work.now.board.now.table work.now.claims.now.table (work.now.cases + 1) turn }
-    requires runner { C.runnable runner.now }
-    requires cases { (work.now.cases ≡ C.cases runner.now) × (work.now.cases ≤ 256) }
-    requires counts { work.now.board.now.counts ≡ C.counts runner.now }
-    ensures { IfOk result (DidDraw work.now.board.now.table work.now.claims.now.table work.now.cases (C.end_of runner.now) (C.hits runner.now)
-        (G.passed gate.now)) }
-{
-    draw_all::<Brand, C, G>(alloc, runner, gate, work, turn)
-}
-
 /// A seat and a drawer for each worker. The rest of the part and of the budget stays.
-pub fn deal(
+pub fn deal<S: CaseSeat<C>, C: CaseRunner>(
     alloc: Global,
-    work: &Work<'_>,
-    whole: &mut Turn,
+    _runner: &C,
+    work: &Work<'_, S::Board>,
+    whole: &mut Turn<S>,
     workers: usize,
-) -> Result<Vec<Turn>, Memory>
-    requires tables { (whole.old.seat.table ≡ work.now.board.now.table) × (whole.old.drawer.table ≡ work.now.claims.now.table) }
-    requires part { (whole.old.seat.part ≡ 65536) × (workers ≤ 16) × (work.now.cases ≤ 256) }
+) -> Result<Vec<Turn<S>>, Memory>
+    requires seat { S.at whole.old.seat work.now.board.now × S.ran whole.old.seat work.now.board.now _runner.now [] }
+    requires part { (S.part whole.old.seat ≡ 65536) × (work.now.part ≡ 2048) × (workers ≤ 16) }
+    requires drawer { (whole.old.drawer.table ≡ work.now.claims.now.table) × (work.now.cases ≤ 256) }
     requires budget { whole.old.drawer.budget ≡ workers * (work.now.cases + 1) }
-    ensures seat { IfOk result (λ _. (whole.new.seat.table ≡ whole.old.seat.table) × (whole.new.seat.hits ≡ whole.old.seat.hits)
-        × (whole.new.seat.part + 2048 * workers ≡ 65536)) }
+    ensures seat { IfOk result (λ _. S.at whole.new.seat work.now.board.now × S.ran whole.new.seat work.now.board.now _runner.now []
+        × (S.part whole.new.seat + 2048 * workers ≡ 65536)) }
     ensures drawer { IfOk result (λ _. (whole.new.drawer.table ≡ whole.old.drawer.table)
         × (whole.new.drawer.numbers ≡ whole.old.drawer.numbers) × (whole.new.drawer.budget ≡ 0)) }
-    ensures turns { IfOk result (λ turns. AreTurns work.now.board.now.table work.now.claims.now.table (work.now.cases + 1) turns.items
+    ensures turns { IfOk result (λ turns. AreTurns (λ s. S.at s work.now.board.now × (S.part s ≡ work.now.part))
+        (λ s cases. S.ran s work.now.board.now _runner.now cases) work.now.claims.now.table (work.now.cases + 1) turns.items
         × (vec_len turns ≡ workers)) }
 {
     let mut turns = Vec::new(alloc);
     'dealing: for _ in 0..workers {
-        let seat = whole.seat.split(work.board, 2048);
+        let seat = whole.seat.split(alloc, work.board, work.part);
         let drawer = whole.drawer.split(work.claims, work.cases as u64 + 1);
         turns.push(Turn { seat, drawer })?;
     }

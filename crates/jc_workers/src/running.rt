@@ -4,7 +4,7 @@ ghost use Rattle.jc_programs.specs.Turns.{IsRunPlan};
 ghost use Rattle.jc_machine_model.specs.Programs.{IsProgram};
 ghost use Rattle.jc_machine.specs.Hits.{probe_counts};
 ghost use Rattle.jc_workers.specs.Cases.{HaveEntries, IsRunnable, ends_under, AreHits};
-ghost use Rattle.jc_workers.specs.Drawing.{AreTurns, AllRan};
+ghost use Rattle.jc_workers.specs.Drawing.{AreTurns, AllRan, IsSeatOf, RanFrom};
 
 use crate::plan_runner::PlanRunner;
 use crate::pool::{Drew, Turn, Work, deal, take_turn};
@@ -24,15 +24,16 @@ fn take_turns<R: Threads + Sync, G: Gate + Sync>(
     alloc: Global,
     runner: &PlanRunner<'_>,
     gate: &G,
-    work: &Work<'_>,
-    turns: Vec<Turn>,
-) -> Result<Vec<Result<Drew<CaseEnd>, Memory>>, Memory>
-    requires turns { AreTurns work.now.board.now.table work.now.claims.now.table (work.now.cases + 1) turns.items }
+    work: &Work<'_, Board>,
+    turns: Vec<Turn<Seat>>,
+) -> Result<Vec<Result<Drew<CaseEnd, Seat>, Memory>>, Memory>
+    requires turns { AreTurns (IsSeatOf work.now.board.now.table work.now.part) (RanFrom runner.now.program.now runner.now.plan.now)
+        work.now.claims.now.table (work.now.cases + 1) turns.items }
     requires runner { IsRunnable runner.now.program.now runner.now.plan.now runner.now.entries.items }
     requires cases { (work.now.cases ≡ length runner.now.plan.now.cases) × (work.now.cases ≤ 256) }
     requires counts { work.now.board.now.counts ≡ probe_counts runner.now.program.now }
     ensures { IfOk result (λ gave. (vec_len gave ≡ vec_len turns)
-        × AllRan work.now.board.now.table work.now.claims.now.table work.now.cases runner.now.program.now runner.now.plan.now
+        × AllRan runner.now.program.now runner.now.plan.now work.now.board.now.table work.now.part work.now.claims.now.table work.now.cases
         (G.passed gate.now) gave.items) }
 {
     Ok(thread::map_vec(
@@ -79,11 +80,12 @@ pub fn run_cases<R: Threads + Sync, G: Gate + Sync>(
     let (claims, drawer) = Claims::new(alloc, workers as u64 * (cases as u64 + 1))?;
     let work = Work {
         cases,
+        part: 2048,
         board,
         claims: &claims,
     };
     let mut whole = Turn { seat, drawer };
-    let turns = deal(alloc, &work, &mut whole, workers)?;
+    let turns = deal(alloc, &runner, &work, &mut whole, workers)?;
     let gave = take_turns(rt, alloc, &runner, gate, &work, turns)?;
     collect(alloc, &runner, gate, board, claims, whole, gave)
 }

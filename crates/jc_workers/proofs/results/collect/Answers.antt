@@ -1,14 +1,15 @@
 use Rattle.std.proofs.Common.{ℕ, zero, suc, ◌≡◌, ◌+◌, ◌*◌, ◌<◌, List, [], ◌∷◌, ◌++◌, length}
 use Rattle.std.proofs.Common.{vec_len, arith, refl, ap, sym, ◌∙◌, subst, get_or, inl, inr, ⊎_elim, Result, length-append}
 use Rattle.std.proofs.lemmas.List.{length-replicate}
-use Rattle.std.proofs.lemmas.List.Elements.{Contains-append_left, Contains-append_right, Contains-append_cases}
+use Rattle.std.proofs.lemmas.List.Elements.{Contains-append_right, Contains-append_cases}
 use Rattle.std.specs.Prelude.{IfOk, Contains, Option, None}
 use Rattle.jc_bytes.specs.declared.fail.Memory.{Memory}
 use Rattle.jc_workers.specs.declared.pool.Drew.{Drew}
-use Rattle.jc_workers.specs.Ran.{HitsOf, AreEnds}
-use Rattle.jc_workers.specs.Drawing.{DidDraw, AllDrew}
-use Rattle.jc_workers.proofs.RanLaws.{nothing, no_hits, same_hits, both_hits, all_there}
-use Rattle.jc_workers.proofs.NumberLaws.{all_below}
+use Rattle.jc_workers.specs.Claims.{AreThoseBelow}
+use Rattle.jc_workers.specs.Ran.{AreEnds}
+use Rattle.jc_workers.specs.Drawing.{DidDraw, AllDrew, GoesPast, cases_in}
+use Rattle.jc_workers.proofs.RanLaws.{nothing, all_there}
+use Rattle.jc_workers.proofs.NumberLaws.{all_below, cases_both, each_once}
 use Rattle.jc_workers.proofs.results.collect.Given.{Over}
 use Rattle.jc_workers.proofs.results.collect.Goals as goal
 use Rattle.jc_workers.proofs.results.collect.Goals.{In_ok-done, After-close}
@@ -30,8 +31,7 @@ joining-init g c =
     let none : (k : ℕ) → Contains c.args.own.drawer.numbers k → ⊥ = λ k h. nothing k (subst (λ (l : List ℕ). Contains l k) i.drawer.1 h) in (
       i.seat.0,
       i.seat.2,
-      subst (λ (hs : List (ℕ × ℕ)). HitsOf cases (g.C.CaseRunner.hits c.args.runner.now) (Contains c.args.own.drawer.numbers) hs) (sym i.seat.1)
-          (no_hits cases (g.C.CaseRunner.hits c.args.runner.now) (Contains c.args.own.drawer.numbers) none),
+      subst (λ (l : List ℕ). g.S.CaseSeat.ran c.args.own.seat c.args.board.now c.args.runner.now (cases_in cases l)) (sym i.drawer.1) i.seat.1,
       i.gave.1,
       i.drawer.0,
       omega (arith, ap length i.drawer.1, i.drawer.2, i.drawer.3),
@@ -41,19 +41,22 @@ joining-init g c =
       λ k lt h. absurd (none k h),
     )
 
--- the last worker of the list
-did : (g : Over) (c : In_ok-done g) → DidDraw c.args.board.now.table c.args.claims.table (g.C.CaseRunner.cases c.args.runner.now)
-    (g.C.CaseRunner.end_of c.args.runner.now) (g.C.CaseRunner.hits c.args.runner.now) (g.G.Gate.passed c.args._gate.now) c.in_ok-done.field-0
+-- what the last worker of the list gave back
+abbrev Did : (g : Over) (c : In_ok-done g) → Drew g.row.C-End.Denot g.row.S.Denot → Type 0
+Did g c = DidDraw (λ s. g.S.CaseSeat.at s c.args.board.now × (g.S.CaseSeat.part s ≡ 2048))
+    (λ s cases. g.S.CaseSeat.ran s c.args.board.now c.args.runner.now cases) c.args.claims.table (g.C.CaseRunner.cases c.args.runner.now)
+    (g.C.CaseRunner.end_of c.args.runner.now) (g.G.Gate.passed c.args._gate.now)
+
+did : (g : Over) (c : In_ok-done g) → Did g c c.in_ok-done.field-0
 did g c =
     let xs = c.pop.new.self.items in
     let r = c.in-Some.result in
-    let Did : Drew g.row.C-End.Denot → Type 0 = DidDraw c.args.board.now.table c.args.claims.table (g.C.CaseRunner.cases c.args.runner.now)
-    (g.C.CaseRunner.end_of c.args.runner.now) (g.C.CaseRunner.hits c.args.runner.now) (g.G.Gate.passed c.args._gate.now) in
-    let All : List (Result (Drew g.row.C-End.Denot) Memory) → Type 0 = AllDrew c.args.board.now.table c.args.claims.table
-    (g.C.CaseRunner.cases c.args.runner.now) (g.C.CaseRunner.end_of c.args.runner.now) (g.C.CaseRunner.hits c.args.runner.now)
-    (g.G.Gate.passed c.args._gate.now) in
+    let All : List (Result (Drew g.row.C-End.Denot g.row.S.Denot) Memory) → Type 0 =
+    AllDrew (λ s. g.S.CaseSeat.at s c.args.board.now × (g.S.CaseSeat.part s ≡ 2048))
+    (λ s cases. g.S.CaseSeat.ran s c.args.board.now c.args.runner.now cases) c.args.claims.table (g.C.CaseRunner.cases c.args.runner.now)
+    (g.C.CaseRunner.end_of c.args.runner.now) (g.G.Gate.passed c.args._gate.now) in
     let all = subst All c.in-Some.ensures.items c.joining.invariant.3 in
-    subst (λ (x : Result (Drew g.row.C-End.Denot) Memory). IfOk x Did) (at_end xs r r ∙ c.in_ok-done.was)
+    subst (λ (x : Result (Drew g.row.C-End.Denot g.row.S.Denot) Memory). IfOk x (Did g c)) (at_end xs r r ∙ c.in_ok-done.was)
     (all (length xs) r (omega (arith, length-append xs (r ∷ []))))
 
 fewer : (g : Over) (c : In_ok-done g) → vec_len c.joining.gave ≡ vec_len c.pop.new.self + 1
@@ -67,7 +70,7 @@ fewer g c = omega (
 )
 
 pub join-requires : goal.join-requires
-join-requires g c = let d = did g (goal.at.join-requires g c).In_ok-done in record { board = (c.joining.invariant.0, d.0) }
+join-requires g c = let d = did g (goal.at.join-requires g c).In_ok-done in record { board = (c.joining.invariant.0, d.0.0) }
 
 pub join-requires-in-Some : goal.join-requires-in-Some
 join-requires-in-Some g c = let d = did g (goal.at.join-requires-in-Some g c).In_ok-done in record { claims = (c.joining.invariant.4, d.2) }
@@ -84,21 +87,20 @@ joining-preserved g c =
     let less = fewer g at in
     let i = c.joining.invariant in
     let runner = c.args.runner.now in
+    let board = c.args.board.now in
     let cases = g.C.CaseRunner.cases runner in
     let end_of = g.C.CaseRunner.end_of runner in
-    let hit_by = g.C.CaseRunner.hits runner in
     let xs = c.pop.new.self.items in
     let olds = c.joining.drawer.numbers in
     let news = c.in_ok-done.field-0.drawer.numbers in
     let nums = c.join-in-Some.ensures.numbers in
     let m = cases + 1 in
-    let hits = both_hits cases hit_by (Contains olds) (Contains news) (Contains (olds ++ news)) c.joining.seat.hits c.in_ok-done.field-0.seat.hits
-    (λ k _ r. Contains-append_left olds news k r) (λ k _ r. Contains-append_right olds news k r) (λ k _ r. Contains-append_cases olds news k r) i.2 d.6 in
     let product : vec_len c.joining.gave * m ≡ vec_len c.pop.new.self * m + m = ap (λ n. n * m) less ∙ omega arith in (
-      c.join.ensures.board ∙ i.0,
-      omega (arith, c.join.ensures.part, d.1, i.1, less),
-      subst (λ (x : List ℕ × List (ℕ × ℕ)). HitsOf cases hit_by (Contains x.0) x.1) (λ j. (sym nums j, sym c.join.ensures.hits j)) hits,
-      λ w x lt. subst (λ (r : Result (Drew g.row.C-End.Denot) Memory). IfOk r (DidDraw c.args.board.now.table c.args.claims.table cases end_of hit_by (g.G.Gate.passed c.args._gate.now)))
+      c.in_ok-join.ensures.seat.0,
+      omega (arith, c.in_ok-join.ensures.seat.1, d.0.1, i.1, less),
+      subst (λ (l : List ℕ). g.S.CaseSeat.ran c.join.new.self board runner l) (sym (ap (cases_in cases) nums ∙ cases_both cases olds news))
+          (c.in_ok-join.ensures.ran runner (cases_in cases olds) (cases_in cases news) i.2 d.1),
+      λ w x lt. subst (λ (r : Result (Drew g.row.C-End.Denot g.row.S.Denot) Memory). IfOk r (Did g at))
           (ap (λ l. get_or l w x) c.in-Some.ensures.items ∙ in_front xs c.in-Some.result x w lt)
           (i.3 w x (omega (arith, lt, less, c.pop.new.self.ok.0, c.joining.gave.ok.0))),
       c.join-in-Some.ensures.claims ∙ i.4,
@@ -115,15 +117,24 @@ joining-preserved g c =
 pub close-requires : goal.close-requires
 close-requires g c = c.joining.invariant.4
 
--- every case was drawn
-drawn : (g : Over) (c : After-close g) (k : ℕ) → k < g.C.CaseRunner.cases c.args.runner.now → Contains c.joining.drawer.numbers k
-drawn g c k lt =
+-- all numbers below one were drawn, and one that is no case
+all_drawn : (g : Over) (c : After-close g) → ((n : ℕ) × AreThoseBelow n c.joining.drawer.numbers)
+    × GoesPast (g.C.CaseRunner.cases c.args.runner.now) c.joining.drawer.numbers
+all_drawn g c =
     let i = c.joining.invariant in
     let cases = g.C.CaseRunner.cases c.args.runner.now in
     let none = c.in_default.ensures.cases.0 in
-    let gone : vec_len c.joining.gave * (cases + 1) ≡ 0 = ap (λ n. n * (cases + 1)) none ∙ omega arith in
-    let all = c.close.ensures (omega (arith, i.5, gone)) in
-    ⊎_elim (λ some_left. absurd (omega (arith, some_left, none))) (λ t. all_below c.joining.drawer.numbers all.0 cases t.0 k all.1 t.1 t.2 lt) i.6
+    let gone : vec_len c.joining.gave * (cases + 1) ≡ 0 = ap (λ n. n * (cases + 1)) none ∙ omega arith in (
+      c.close.ensures (omega (arith, i.5, gone)),
+      ⊎_elim (λ some_left. absurd (omega (arith, some_left, none))) (λ t. t) i.6,
+    )
+
+-- every case was drawn
+drawn : (g : Over) (c : After-close g) (k : ℕ) → k < g.C.CaseRunner.cases c.args.runner.now → Contains c.joining.drawer.numbers k
+drawn g c k lt =
+    let cases = g.C.CaseRunner.cases c.args.runner.now in
+    let all = all_drawn g c in
+    all_below c.joining.drawer.numbers all.0.0 cases all.1.0 k all.0.1 all.1.1 all.1.2 lt
 
 pub returns-clause-ends : goal.returns-clause-ends
 returns-clause-ends g c =
@@ -138,15 +149,15 @@ returns-clause-ends g c =
     (subst (λ (l : List g.row.C-End.Denot). AreEnds (length ends) end_of l) (sym c.in_ok-all_ends.ensures) there)
 
 pub returns-clause-seat : goal.returns-clause-seat
-returns-clause-seat g c =
-    let at = (goal.at.returns-clause-seat g c).After-close in
-    let none = c.in_default.ensures.cases.0 in
-    let i = c.joining.invariant in (
-      i.0,
-      omega (arith, i.1, none),
-      same_hits (g.C.CaseRunner.cases c.args.runner.now) (Contains c.joining.drawer.numbers) (λ _. Unit {0}) (λ k _ _. tt)
-          (λ k lt _. drawn g at k lt) (g.C.CaseRunner.hits c.args.runner.now) c.joining.seat.hits i.2,
-    )
+returns-clause-seat g c = let none = c.in_default.ensures.cases.0 in let i = c.joining.invariant in (i.0, omega (arith, i.1, none))
+
+pub returns-clause-ran : goal.returns-clause-ran
+returns-clause-ran g c =
+    let at = (goal.at.returns-clause-ran g c).After-close in
+    let all = all_drawn g at in
+    let numbers = c.joining.drawer.numbers in
+    let cases = g.C.CaseRunner.cases c.args.runner.now in
+    (cases_in cases numbers, each_once numbers all.0.0 cases all.1.0 all.0.1 all.1.1 all.1.2, c.joining.invariant.2)
 
 pub returns-clause-passed : goal.returns-clause-passed
 returns-clause-passed g c = let at = (goal.at.returns-clause-passed g c).After-close in λ k lt all. c.joining.invariant.9 k lt (drawn g at k lt)

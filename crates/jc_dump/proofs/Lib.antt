@@ -1,0 +1,6 @@
+mod DueLaws
+mod DumpLaws
+mod OrderLaws
+mod RunLaws
+mod SinceLaws
+mod TakeLaws
