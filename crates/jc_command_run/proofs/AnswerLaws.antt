@@ -1,5 +1,5 @@
 -- A run plan's text and class files have an answer.
-use Rattle.std.proofs.Common.{◌≡◌, ◌⊎◌, inl, inr, ℕ, List, [], ◌∷◌, Option, None, Some, refl}
+use Rattle.std.proofs.Common.{◌≡◌, ◌⊎◌, inl, inr, ℕ, List, [], ◌∷◌, Option, None, Some, refl, sym, ◌∙◌}
 use Rattle.std.specs.List.{AllByRecursion}
 use Rattle.std.specs.Option.{option_map}
 use Rattle.std.proofs.lemmas.Option.{none-some}
@@ -14,21 +14,23 @@ use Rattle.jc_programs.specs.declared.program.Program.{Program}
 use Rattle.jc_programs.specs.declared.program.ProbeInit.{ProbeInit}
 use Rattle.jc_programs.specs.declared.run_plan.RunPlan.{RunPlan}
 use Rattle.jc_programs.specs.declared.run_plan.ThreadLine.{ThreadLine}
+use Rattle.jc_exec.specs.Store.{Store}
+use Rattle.jc_machine_model.specs.CaseText.{case_texts}
 use Rattle.jc_machine_laws.specs.Frameless.{frameless}
 use Rattle.jc_command_work.specs.declared.status.Fault.TheVariants as fault
 use Rattle.jc_command_work.specs.Step.{Word, AreTexts}
 use Rattle.jc_command_work.specs.Part.{End, stops}
 use Rattle.jc_command_work.specs.Answered.{Answer, HasOneAnswer, refusal_of}
 use Rattle.jc_command_work.specs.OneWay.{IsOver}
-use Rattle.jc_command_run.specs.RunAnswers.{path_at, EndsAs, run_answer, RunsFiles, RunAnswers}
-use Rattle.jc_command_run.specs.RunStore.{threads_of, first_without}
-use Rattle.jc_command_run.proofs.RunLaws.{OnePlan, one_run}
+use Rattle.jc_command_run.specs.RunAnswers.{path_at, EndsAs, answer_with, run_answer, IsRunAnswer, DecidedBy, RunAnswers}
+use Rattle.jc_command_run.specs.RunStore.{threads_of, first_without, run_store}
+use Rattle.jc_command_run.proofs.RunLaws.{OnePlan, IsOneMade, one_decided}
 
 -- an answer, by which it is over
-record Answers (Is : Answer → Type 0) : Type 0 where
-  answer : Answer
-  over : IsOver answer
-  holds : Is answer
+pub record SomeAnswer (Is : Answer → Type 0) : Type 0 where
+  pub answer : Answer
+  pub over : IsOver answer
+  pub holds : Is answer
 
 -- ---- class files
 
@@ -55,36 +57,50 @@ short_files (p ∷ ps) (t ∷ ts) are = ((are.0.are_bytes, are.0.short), short_f
 
 -- ---- the whole
 
-run_over : (plan exec : Word) (p : RunPlan) (program : Program) (o : Option ThreadLine) → IsOver (run_answer plan exec p program o)
-run_over plan exec p program None = tt
-run_over plan exec p program (Some thread) = tt
+module _ (Makes : RunPlan → Program → Answer → Type 0) (some : (p : RunPlan) (program : Program) → SomeAnswer (Makes p program)) where
+  module _ (plan : Word) (paths : List Word) (text : List ℕ) (files : List (List ℕ)) where
+    of_program : (p : RunPlan) → IsPlanText text p → ((program : Program) × IsProgramOf files program) ⊎ ((r : LinkRefusal) × IsLinkRefusal files r)
+        → SomeAnswer (DecidedBy Makes plan paths text files)
+    of_program p is (inl (program, of)) =
+        let made = some p (frameless program) in
+        record { answer = made.answer; over = made.over; holds = inl (p, is, inl (frameless program, (program, of, refl), made.holds)) }
+    of_program p is (inr (r, refuses)) =
+        let end = some_end paths files r refuses in
+        record { answer = stops end.0; over = tt; holds = inl (p, is, inr (end.0, (r, refuses, end.1), refl)) }
 
-module _ (plan exec : Word) (paths : List Word) (text : List ℕ) (files : List (List ℕ)) where
-  of_program : (p : RunPlan) → IsPlanText text p → ((program : Program) × IsProgramOf files program) ⊎ ((r : LinkRefusal) × IsLinkRefusal files r) → Answers (RunsFiles plan exec paths text files)
-  of_program p is (inl (program, of)) = record {
-    answer = run_answer plan exec p (frameless program) (first_without (frameless program) (threads_of p));
-    over = run_over plan exec p (frameless program) (first_without (frameless program) (threads_of p));
-    holds = inl (p, is, inl (frameless program, (program, of, refl), refl));
-  }
-  of_program p is (inr (r, refuses)) =
-      let end = some_end paths files r refuses in
-      record { answer = stops end.0; over = tt; holds = inl (p, is, inr (end.0, (r, refuses, end.1), refl)) }
+    of_plan : ((p : RunPlan) × IsPlanText text p) ⊎ ((line : ℕ) × FirstUnfit text line) → AllByRecursion IsShortFile files
+        → SomeAnswer (DecidedBy Makes plan paths text files)
+    of_plan (inl (p, is)) short = of_program p is (program_or_reason files short)
+    of_plan (inr (line, unfit)) short = record {
+      answer = stops (refusal_of plan (fault.Plan line));
+      over = tt;
+      holds = inr (refusal_of plan (fault.Plan line), (line, unfit, refl), refl);
+    }
 
-  of_plan : ((p : RunPlan) × IsPlanText text p) ⊎ ((line : ℕ) × FirstUnfit text line) → AllByRecursion IsShortFile files → Answers (RunsFiles plan exec paths text files)
-  of_plan (inl (p, is)) short = of_program p is (program_or_reason files short)
-  of_plan (inr (line, unfit)) short = record {
-    answer = stops (refusal_of plan (fault.Plan line));
-    over = tt;
-    holds = inr (refusal_of plan (fault.Plan line), (line, unfit, refl), refl);
-  }
+  -- where one thing is made of each run plan and each program, there is one answer to what is read
+  pub one_answer_by : OnePlan → ((text : List ℕ) → ((p : RunPlan) × IsPlanText text p) ⊎ ((line : ℕ) × FirstUnfit text line)) → IsOneMade Makes
+      → (plan : Word) (paths : List Word) (text : List ℕ) → HasOneAnswer paths (DecidedBy Makes plan paths text)
+  one_answer_by laws each one plan paths text files are =
+      let made = of_plan plan paths text files (each text) (short_files paths files are) in
+      record {
+        answer = made.answer;
+        over = made.over;
+        holds = made.holds;
+        only = λ a is. one_decided laws Makes one plan paths text files a made.answer is made.holds;
+      }
+
+pub answer_over : (plan exec : Word) (store : Store) (text : List ℕ) (o : Option ThreadLine) → IsOver (answer_with plan exec store text o)
+answer_over plan exec store text None = tt
+answer_over plan exec store text (Some thread) = tt
+
+run_answers : (plan exec : Word) (p : RunPlan) (program : Program) → SomeAnswer (IsRunAnswer plan exec p program)
+run_answers plan exec p program = record {
+  answer = run_answer plan exec p program (first_without program (threads_of p));
+  over = answer_over plan exec (run_store program p) (case_texts program 1 p.cases) (first_without program (threads_of p));
+  holds = refl;
+}
 
 pub one_answer : OnePlan → ((text : List ℕ) → ((p : RunPlan) × IsPlanText text p) ⊎ ((line : ℕ) × FirstUnfit text line))
     → (plan exec : Word) (paths : List Word) (text : List ℕ) → HasOneAnswer paths (λ read. RunAnswers plan exec paths (text ∷ read))
-one_answer laws each plan exec paths text files are =
-    let some = of_plan plan exec paths text files (each text) (short_files paths files are) in
-    record {
-      answer = some.answer;
-      over = some.over;
-      holds = some.holds;
-      only = λ a is. one_run laws plan exec paths text files a some.answer is some.holds;
-    }
+one_answer laws each plan exec paths text =
+    one_answer_by (IsRunAnswer plan exec) (run_answers plan exec) laws each (λ p program a b is is'. is ∙ sym is') plan paths text

@@ -1,6 +1,6 @@
--- The execution data of hits that are kept as truth values is that of the run plan's hits.
+-- The execution data of hits that are kept as truth values is that of the hits of a run plan's cases.
 use Rattle.std.proofs.Common.{◌≡◌, ◌⊎◌, inl, inr, ◌↔◌, ℕ, suc, ◌+◌, ◌<◌, Bool, true, false, ◌||◌, ◌&&◌, nat_eq, List, [], ◌∷◌, map, length, get_or, Option, None, Some, Contains, refl, sym, ◌∙◌, ap, subst, arith}
-use Rattle.std.specs.List.{range_with_len, filter}
+use Rattle.std.specs.List.{range_with_len, filter, flat_map}
 use Rattle.std.proofs.lemmas.Bool.{and_parts, and_from, or_cases, or_left, or_right, eqb-true, eq-eqb}
 use Rattle.std.proofs.lemmas.List.{ext_get_or, get_or-map, length-map}
 use Rattle.std.proofs.lemmas.List.FromFn.{get_or-map-range_with_len, length-map-range_with_len}
@@ -12,12 +12,12 @@ use Rattle.jc_exec.specs.Writing.{is_hit}
 use Rattle.jc_programs.specs.declared.program.Program.{Program}
 use Rattle.jc_programs.specs.declared.program.Linked.{Linked}
 use Rattle.jc_programs.specs.declared.program.ProbeInit.{ProbeInit}
+use Rattle.jc_programs.specs.declared.run_plan.Case.{Case}
 use Rattle.jc_programs.specs.declared.run_plan.RunPlan.{RunPlan}
 use Rattle.jc_programs.specs.Probes.{counts_of, IsHit}
 use Rattle.jc_machine.specs.Hits.{count_in, probe_counts}
-use Rattle.jc_machine_model.specs.Run.{IsHit as IsHitBy, case_hits, hits_of}
 use Rattle.jc_machine_model.specs.World.{Hit}
-use Rattle.jc_command_run.specs.RunStore.{is_hit_in, hit_record, with_record, hit_records, run_store}
+use Rattle.jc_command_run.specs.RunStore.{is_hit_in, hit_record, with_record, hit_records, store_of}
 use Rattle.jc_command_run.specs.HitStore.{set_record, with_set, set_records, count_of, counts_in}
 
 -- ---- a hit in a list
@@ -64,15 +64,19 @@ same_count (Some init) = refl
 pub same_counts : (p : Program) → probe_counts p ≡ counts_in p.classes
 same_counts p = ap (λ (f : Option ProbeInit → ℕ). map (λ (c : Linked). f c.probes) p.classes) (λ i o. same_count o i)
 
-module _ (p : Program) (plan : RunPlan) (hits : List (List Bool)) (are : (class id : ℕ) → IsHit hits class id ↔ IsHitBy p plan (probe class id)) where
+-- some case of the run plan hits the probe, where these are the hits of each case
+abbrev pub IsHitIn : (Case → List Hit) → RunPlan → Hit → Type 0
+IsHitIn of_case plan hit = (case : Case) × Contains plan.cases case × Contains (of_case case) hit
+
+module _ (p : Program) (of_case : Case → List Hit) (plan : RunPlan) (hits : List (List Bool)) (are : (class id : ℕ) → IsHit hits class id ↔ IsHitIn of_case plan (probe class id)) where
   abbrev all : List Hit
-  all = hits_of p plan
+  all = flat_map of_case plan.cases
 
   same_bit : (class id : ℕ) → get_or (get_or hits class []) id false ≡ is_hit_in all class id
   same_bit class id =
       same_tests (get_or (get_or hits class []) id false) (is_hit_in all class id)
-      (λ set. let hit = (are class id).0 set in from_list all class id (flat_in (case_hits p) plan.cases hit.0 (probe class id) hit.1 hit.2))
-      (λ told. (are class id).1 (flat_cases (case_hits p) plan.cases (probe class id) (in_list all class id told)))
+      (λ set. let hit = (are class id).0 set in from_list all class id (flat_in of_case plan.cases hit.0 (probe class id) hit.1 hit.2))
+      (λ told. (are class id).1 (flat_cases of_case plan.cases (probe class id) (in_list all class id told)))
 
   -- the truth values of a class with so many probes
   same_bits : (class count : ℕ) → length (get_or hits class []) ≡ count → get_or hits class [] ≡ map (is_hit_in all class) (range_with_len 0 count)
@@ -103,8 +107,8 @@ module _ (p : Program) (plan : RunPlan) (hits : List (List Bool)) (are : (class 
       by None is = refl
       by (Some init) is = ap (λ (r : ClassHits). r ∷ hit_records all (class + 1) classes) (same_record class c init (here ∙ ap count_of is))
 
-  -- the records are those of the run plan's hits
-  pub same_store : counts_of hits ≡ probe_counts p → (let s : Store = record { sessions = []; classes = filter is_hit (set_records hits 0 p.classes) } in s) ≡ run_store p plan
+  -- the records are those of the hits of all cases
+  pub same_store : counts_of hits ≡ probe_counts p → (let s : Store = record { sessions = []; classes = filter is_hit (set_records hits 0 p.classes) } in s) ≡ store_of p all
   same_store counts = ap (λ (classes : List ClassHits). let s : Store = record { sessions = []; classes = filter is_hit classes } in s) (same_records 0 p.classes counted)
     where
       sizes : map length hits ≡ counts_in p.classes

@@ -1,5 +1,6 @@
 -- The answer of `run` is one.
 use Rattle.std.proofs.Common.{◌≡◌, ℕ, List, [], ◌∷◌, Option, Some, slice_get, sym, ◌∙◌, ap, subst}
+use Rattle.jc_programs.specs.declared.program.Program.{Program}
 use Rattle.jc_programs.specs.declared.program.ProbeInit.{ProbeInit}
 use Rattle.jc_programs.specs.declared.run_plan.RunPlan.{RunPlan}
 use Rattle.jc_run_plans.specs.Plans.{IsPlanText, FirstUnfit}
@@ -13,7 +14,7 @@ use Rattle.jc_command_work.specs.Step.{Word}
 use Rattle.jc_command_work.specs.Part.{End, refused}
 use Rattle.jc_command_work.specs.Answered.{Answer, refusal_of}
 use Rattle.jc_command_run.specs.PairTexts.{same_name_text, same_id_text}
-use Rattle.jc_command_run.specs.RunAnswers.{path_at, IsPlanEnd, IsRunProgram, EndsAs, IsLinkEnd, RunsFiles, RunAnswers}
+use Rattle.jc_command_run.specs.RunAnswers.{path_at, IsPlanEnd, IsRunProgram, EndsAs, IsLinkEnd, IsRunAnswer, DecidedBy, RunsFiles, RunAnswers}
 use Rattle.jc_command_run.proofs.ChoiceLaws.{IsOneChoice, one_choice}
 use Rattle.jc_command_run.proofs.StoreLaws.{same_frameless}
 
@@ -66,11 +67,23 @@ one_link_choice paths files = record {
 
 -- ---- the whole
 
+abbrev pub AtMostOne : (Answer → Type 0) → Type 0
+AtMostOne Is = (a b : Answer) → Is a → Is b → a ≡ b
+
+-- one thing at most is made of each run plan and each program
+abbrev pub IsOneMade : (RunPlan → Program → Answer → Type 0) → Type 0
+IsOneMade Makes = (p : RunPlan) (program : Program) → AtMostOne (Makes p program)
+
+-- where one thing is made of a run plan and a program, there is one answer
+pub one_decided : OnePlan → (Makes : RunPlan → Program → Answer → Type 0) → IsOneMade Makes
+    → (plan : Word) (paths : List Word) (text : List ℕ) (files : List (List ℕ)) → AtMostOne (DecidedBy Makes plan paths text files)
+one_decided laws Makes one plan paths text files =
+    one_choice (IsPlanText text) (IsPlanEnd plan text) _ (one_plan_choice laws plan text)
+    (λ p. one_choice (IsRunProgram files) (IsLinkEnd paths files) _ (one_link_choice paths files) (one p))
+
 pub one_run : OnePlan → (plan exec : Word) (paths : List Word) (text : List ℕ) (files : List (List ℕ)) (a b : Answer)
     → RunsFiles plan exec paths text files a → RunsFiles plan exec paths text files b → a ≡ b
-one_run laws plan exec paths text files =
-    one_choice (IsPlanText text) (IsPlanEnd plan text) _ (one_plan_choice laws plan text)
-    (λ p. one_choice (IsRunProgram files) (IsLinkEnd paths files) _ (one_link_choice paths files) (λ program a b is is'. is ∙ sym is'))
+one_run laws plan exec paths text files = one_decided laws (IsRunAnswer plan exec) (λ p program a b is is'. is ∙ sym is') plan paths text files
 
 pub one_run_answer : OnePlan → (plan exec : Word) (paths : List Word) (texts : List (List ℕ)) (a b : Answer) → RunAnswers plan exec paths texts a → RunAnswers plan exec paths texts b → a ≡ b
 one_run_answer laws plan exec paths [] a b is is' = absurd is

@@ -18,7 +18,7 @@ use Rattle.jc_machine_model.specs.World.{Hit}
 use Rattle.jc_machine_laws.specs.Frameless.{frameless_body, frameless_class, frameless}
 use Rattle.jc_machine_laws.proofs.FramelessLookupLaws.{same_entry}
 use Rattle.jc_machine_laws.proofs.FramelessTextLaws.{same_hits}
-use Rattle.jc_command_run.specs.RunStore.{first_without, with_record, hit_records, run_store}
+use Rattle.jc_command_run.specs.RunStore.{first_without, with_record, hit_records, store_of, run_store}
 
 -- ---- equal programs
 
@@ -62,11 +62,12 @@ same_records hits k (c ∷ classes) = by c.probes ∙ ap (with_record hits k c c
     by None = refl
     by (Some init) = refl
 
+pub same_store_of : (p : Program) (hits : List Hit) → store_of (frameless p) hits ≡ store_of p hits
+same_store_of p hits =
+    ap (λ (cs : List ClassHits). let s : Store = record { sessions = []; classes = filter is_hit cs } in s) (same_records hits 0 p.classes)
+
 pub same_store : (p : Program) (plan : RunPlan) → run_store (frameless p) plan ≡ run_store p plan
-same_store p plan =
-    ap (λ (cs : List ClassHits). let s : Store = record { sessions = []; classes = cs } in s)
-    (ap (λ (hits : List Hit). filter is_hit (hit_records hits 0 (frameless p).classes)) (same_hits p plan)
-    ∙ ap (filter is_hit) (same_records (hits_of p plan) 0 p.classes))
+same_store p plan = ap (store_of (frameless p)) (same_hits p plan) ∙ same_store_of p (hits_of p plan)
 
 pub same_without : (p : Program) (threads : List ThreadLine) → first_without (frameless p) threads ≡ first_without p threads
 same_without p threads = ap (λ (t : ThreadLine → Bool). find t threads) (λ i thread. not (is_some (same_entry p thread i)))

@@ -3,6 +3,7 @@ use Rattle.std.specs.Prelude.{◌≡◌, ◌⊎◌, ℕ, List, [], ◌∷◌, Op
 use Rattle.jc_programs.specs.declared.program.Program.{Program}
 use Rattle.jc_programs.specs.declared.run_plan.RunPlan.{RunPlan}
 use Rattle.jc_programs.specs.declared.run_plan.ThreadLine.{ThreadLine}
+use Rattle.jc_exec.specs.Store.{Store}
 use Rattle.jc_exec.specs.Writing.{exec_text}
 use Rattle.jc_run_plans.specs.Plans.{IsPlanText, FirstUnfit}
 use Rattle.jc_link_programs.specs.declared.link_refusal.LinkRefusal.{LinkRefusal}
@@ -48,17 +49,28 @@ EndsAs paths files (refusals.SameId first second) end =
 abbrev pub IsLinkEnd : List Word → List (List ℕ) → End → Type 0
 IsLinkEnd paths files end = (r : LinkRefusal) × IsLinkRefusal files r × EndsAs paths files r end
 
--- The execution data of what the cases hit is written, and then what they print, each case under its number from 1; or the first
--- thread without a method to begin with is named, by its line.
+-- ---- what is made of a run plan and a program
+
+-- Execution data is written, and then a text; or the first thread without a method to begin with is named, by its line.
+abbrev pub answer_with : (plan exec : Word) → Store → (text : List ℕ) → Option ThreadLine → Answer
+answer_with plan exec store text None = gives (to_file exec (exec_text store) ∷ to_out text ∷ [])
+answer_with plan exec store text (Some thread) = refusing plan (fault.NoEntry thread.line)
+
+-- The execution data is of what the cases hit, and the text is what they print, each case under its number from 1.
 abbrev pub run_answer : (plan exec : Word) → RunPlan → Program → Option ThreadLine → Answer
-run_answer plan exec p program None = gives (to_file exec (exec_text (run_store program p)) ∷ to_out (case_texts program 1 p.cases) ∷ [])
-run_answer plan exec p program (Some thread) = refusing plan (fault.NoEntry thread.line)
+run_answer plan exec p program without = answer_with plan exec (run_store program p) (case_texts program 1 p.cases) without
+
+abbrev pub IsRunAnswer : (plan exec : Word) → RunPlan → Program → Answer → Type 0
+IsRunAnswer plan exec p program answer = answer ≡ run_answer plan exec p program (first_without program (threads_of p))
+
+-- What is made of the run plan and of the program of the files: the plan's text is refused first, and then files that are no program.
+abbrev pub DecidedBy : (RunPlan → Program → Answer → Type 0) → (plan : Word) (paths : List Word) (plan_text : List ℕ) (files : List (List ℕ)) → Answer
+    → Type 0
+DecidedBy Makes plan paths plan_text files =
+    Chooses (IsPlanText plan_text) (IsPlanEnd plan plan_text) (λ p. Chooses (IsRunProgram files) (IsLinkEnd paths files) (λ program. Makes p program))
 
 abbrev pub RunsFiles : (plan exec : Word) (paths : List Word) (plan_text : List ℕ) (files : List (List ℕ)) → Answer → Type 0
-RunsFiles plan exec paths plan_text files =
-    Chooses (IsPlanText plan_text) (IsPlanEnd plan plan_text) (λ p.
-    Chooses (IsRunProgram files) (IsLinkEnd paths files) (λ program answer.
-    answer ≡ run_answer plan exec p program (first_without program (threads_of p))))
+RunsFiles plan exec paths plan_text files = DecidedBy (IsRunAnswer plan exec) plan paths plan_text files
 
 -- the run plan is read first, and then the files
 abbrev pub RunAnswers : (plan exec : Word) (paths : List Word) → List (List ℕ) → Answer → Type 0

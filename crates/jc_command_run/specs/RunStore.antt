@@ -47,7 +47,10 @@ abbrev pub hit_records : List Hit → (class : ℕ) → List Linked → List Cla
 hit_records hits class [] = []
 hit_records hits class (c ∷ classes) = with_record hits class c c.probes (hit_records hits (class + 1) classes)
 
--- What the cases of a run plan hit, as a file of execution data holds it: the records that have a hit. No session, since there is no
--- clock.
+-- Hits of a program as a file of execution data holds them: the records that have one. No session, since there is no clock.
+abbrev pub store_of : Program → List Hit → Store
+store_of program hits = record { sessions = []; classes = filter is_hit (hit_records hits 0 program.classes) }
+
+-- what the cases of a run plan hit
 abbrev pub run_store : Program → RunPlan → Store
-run_store program plan = record { sessions = []; classes = filter is_hit (hit_records (hits_of program plan) 0 program.classes) }
+run_store program plan = store_of program (hits_of program plan)

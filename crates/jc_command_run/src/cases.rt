@@ -11,21 +11,9 @@ use jc_board::Board;
 use jc_bytes::Memory;
 use jc_command_work::Resources;
 use jc_programs::{CaseEnd, HitSet, Program, RunPlan};
-use jc_workers::{Gate, run_cases};
-use std::alloc::Global;
+use jc_workers::{Gate, probe_counts, run_cases};
 use std::marker::Sync;
 use std::thread::Threads;
-
-/// How many probes each class has.
-fn probe_counts(alloc: Global, program: &Program) -> Result<Vec<u32>, Memory>
-    ensures { IfOk result (λ counts. counts.items ≡ probe_counts program.now) }
-{
-    let mut counts = Vec::new(alloc);
-    'counting: for class in program.classes.as_slice() {
-        counts.push(class.probes.map_or(0, |init| init.count))?;
-    }
-    Ok(counts)
-}
 
 /// What the cases of a run plan leave, and which probes they hit.
 pub struct Outcome {

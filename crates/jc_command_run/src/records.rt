@@ -76,6 +76,10 @@ fn put_record(
 
 /// A store with a record for each class of a program of which a probe was hit, in the order of the classes: it has the id and the
 /// name of the class, and says of each probe whether it was hit.
+///
+/// # Errors
+///
+/// `Memory` where memory was refused.
 pub fn hit_store(alloc: Global, program: &Program, hits: &HitSet) -> Result<ExecStore, Memory>
     requires counts { counts_of hits.now ≡ counts_in program.now.classes }
     requires few { length program.now.classes < 2 ^ 32 }

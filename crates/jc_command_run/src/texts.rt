@@ -7,7 +7,11 @@ use jc_machine_text::case_text;
 use jc_programs::{CaseEnd, Program};
 use std::alloc::Global;
 
-/// What is printed of the cases of a run plan, each under its number, by what each left.
+/// What is printed of the cases of a run plan, each under its number from 1, by what each left.
+///
+/// # Errors
+///
+/// `Memory` where memory was refused.
 pub fn texts_of(alloc: Global, program: &Program, ends: &[CaseEnd]) -> Result<Vec<u8>, Memory>
     requires { length ends.now ≤ 256 }
     ensures { IfOk result (λ text. text.items ≡ end_texts program.now 1 ends.now) }

@@ -1,6 +1,7 @@
 use Rattle.std.proofs.Common.{List, length, ap, ◌∙◌, arith}
 use Rattle.std.proofs.lemmas.List.{length-map}
 use Rattle.jc_programs.specs.declared.run_end.CaseEnd.{CaseEnd}
+use Rattle.jc_machine_model.specs.Run.{case_hits}
 use Rattle.jc_workers.specs.Cases.{end_under}
 use Rattle.jc_command_run.specs.Texts.{end_texts}
 use Rattle.jc_command_run.proofs.EntryLaws.{have_entries}
@@ -23,7 +24,7 @@ texts_of-requires g c =
 pub returns-clause-store : goal.returns-clause-store
 returns-clause-store g c =
     let ran = c.in_ok-ends.ensures in
-    c.in_ok-store.ensures ∙ same_store c.args.program.now c.args.plan.now c.in_ok-ends.field-0.hits ran.hits ran.counts
+    c.in_ok-store.ensures ∙ same_store c.args.program.now (case_hits c.args.program.now) c.args.plan.now c.in_ok-ends.field-0.hits ran.hits ran.counts
 
 pub returns-clause-text : goal.returns-clause-text
 returns-clause-text g c =
