@@ -1,0 +1,3 @@
+pub mod CaseLaws
+pub mod FramelessLaws
+pub mod AnswerLaws

@@ -1,0 +1,2 @@
+pub mod MonitoredHits
+pub mod MonitoredAnswers
