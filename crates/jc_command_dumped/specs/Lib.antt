@@ -1,0 +1,2 @@
+pub mod DumpedAnswers
+pub mod OptionsSeen
