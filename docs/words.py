@@ -31,6 +31,9 @@ OPTIONS = {
     "--plan": "the run plan",
     "--destfile": "the execution data to write",
     "--workers": "how many workers run cases, from 1 to 16",
+    "--dumps": "the folder to which dumps of the execution data are written",
+    "--every": "after how many cases each dump is taken, from 1 to 256",
+    "--monitors": "let threads take and release locks",
     "--csv": "the CSV file to write",
     "--name": "the name of the report",
     "--exec": "the execution data to read",
@@ -53,7 +56,7 @@ MADE = "Made by docs/words.py from docs/COMMANDS.md"
 
 
 class Command(NamedTuple):
-    """A command: its forms with what each does, its options with their values, and what the words behind them name."""
+    """A command: its forms with what each does, its options with their values, none for a flag, and what the words behind them name."""
 
     name: str
     forms: list
@@ -79,7 +82,7 @@ def read_commands():
         name, rest = form.split()[0], form.split()[-1]
         command = found.setdefault(name, Command(name, [], {}, rest.removesuffix("..")))
         command.forms.append((form, does))
-        command.options.update(re.findall(r"(--[a-z]+) ([A-Z]+)", form))
+        command.options.update(re.findall(r"(--[a-z]+)(?: ([A-Z]+)\b(?!\.\.))?", form))
     usage = re.search(r"`commands: ([a-z ]*)`", read("docs/COMMANDS.md")).group(1)
     if usage.split() != list(found):
         sys.exit("docs/COMMANDS.md has a row of words for %s, and its usage text names %s" % (" ".join(found), usage))
@@ -131,7 +134,7 @@ def man_page(commands):
             lines += [".TP", roff_form(form), *wrapped(does + ".")]
     lines.append(".SH OPTIONS")
     for option, value in options_of(commands).items():
-        lines += [".TP", roff_form("%s %s" % (option, value)), *wrapped(OPTIONS[option] + ".")]
+        lines += [".TP", roff_form(("%s %s" % (option, value)).strip()), *wrapped(OPTIONS[option] + ".")]
     lines.append(".SH EXIT STATUS")
     for number, means in statuses():
         lines += [".TP", "\\fB%s\\fR" % number, *wrapped(means + ".")]
@@ -189,6 +192,8 @@ complete -F _jcov jcov
 def bash(commands):
     values, cases = [], []
     for option, value in options_of(commands).items():
+        if not value:
+            continue
         values.append("        %s) %sreturn ;;" % (option, '_jcov_paths "%s" "$word"; ' % PATHS[value] if value in PATHS else ""))
     for command in commands:
         options = "".join(option + " " for option in command.options)
@@ -227,6 +232,9 @@ def zsh(commands):
     for command in commands:
         words = []
         for option, value in command.options.items():
+            if not value:
+                words.append("'%s[%s]'" % (option, plain(OPTIONS[option])))
+                continue
             words.append("'%s=[%s]:%s:%s'" % (option, plain(OPTIONS[option]), value, paths(value) if value in PATHS else " "))
         words.append("'*:%s:%s'" % (command.rest, paths(command.rest)))
         cases.append("        %s)\n            _arguments \\\n                %s\n            ;;" % (command.name, " \\\n                ".join(words)))
@@ -242,7 +250,7 @@ def fish(commands):
     for command in commands:
         begin = "complete -c jcov -n '__fish_seen_subcommand_from %s'" % command.name
         for option, value in command.options.items():
-            path = " -x" if value not in PATHS else " -r -F" if not PATHS[value] else " -x" + completes(value)
+            path = "" if not value else " -x" if value not in PATHS else " -r -F" if not PATHS[value] else " -x" + completes(value)
             lines.append("%s -l %s%s -d '%s'" % (begin, option[2:], path, plain(OPTIONS[option])))
         lines.append(begin + completes(command.rest))
     return "\n".join(lines) + "\n"

@@ -22,6 +22,8 @@ _jcov() {
         --plan) _jcov_paths "" "$word"; return ;;
         --destfile) _jcov_paths ".exec" "$word"; return ;;
         --workers) return ;;
+        --dumps) _jcov_paths "/" "$word"; return ;;
+        --every) return ;;
         --csv) _jcov_paths ".csv" "$word"; return ;;
         --name) return ;;
         --exec) _jcov_paths ".exec" "$word"; return ;;
@@ -30,7 +32,7 @@ _jcov() {
     esac
     case ${COMP_WORDS[1]} in
         instrument) options="--dest " rest=".class" ;;
-        run) options="--plan --destfile --workers " rest=".class" ;;
+        run) options="--plan --destfile --workers --dumps --every --monitors " rest=".class" ;;
         merge) options="--destfile " rest=".exec" ;;
         report) options="--csv --name --exec " rest=".class" ;;
         execinfo) options="" rest=".exec" ;;

@@ -1,26 +1,28 @@
 -- The command that words call, by their parts and by tests.
-use Rattle.std.proofs.Common.{◌≡◌, ◌≢◌, ◌∙◌, ap, ap₂, sym, subst, refl, ℕ, ◌≤◌, Bool, true, false, ◌||◌, cond, List, [], ◌∷◌, ◌++◌, map, length, Option, Some, None, arith, codes, true≢false, ◌⊎◌, inl, inr, unwrap_or, if◌then◌else◌}
+use Rattle.std.proofs.Common.{◌≡◌, ◌≢◌, ◌∙◌, ap, ap₂, sym, subst, refl, ℕ, ◌≤◌, Bool, true, false, ◌||◌, cond, List, [], ◌∷◌, ◌++◌, map, length, Option, Some, None, arith, codes, true≢false, is_some, nat_eq, ◌⊎◌, inl, inr, unwrap_or, option_map, if◌then◌else◌}
 use Rattle.std.proofs.lemmas.Slice.Eq.{bytes_eq-Decides}
 use Rattle.std.proofs.lemmas.List.{append-nil, length-map, length-append}
 use Rattle.std.proofs.lemmas.Option.{same_Some}
-use Rattle.std.proofs.lemmas.Bool.{and_parts}
+use Rattle.std.proofs.lemmas.Bool.{and_parts, not-true}
+use Rattle.std.proofs.lemmas.Bool.Decides.{Decides-eqb}
 use Rattle.std.specs.List.{flat_map, list_any, list_all}
 use Rattle.std.specs.Str.{bytes_eq}
 use Rattle.jc_rules.specs.declared.rule.Rule.{Rule}
 use Rattle.jc_command_words.specs.declared.name.CommandName.{CommandName}
 use Rattle.jc_command_words.specs.declared.name.CommandName.TheVariants.{Instrument, Run, Merge, Report, ExecInfo, ClassInfo, Cover, Refs, Lines, Check}
-use Rattle.jc_command_words.specs.Words.{Word, Use, is_plain, use_words, tail_words, rest_words, value_of}
+use Rattle.jc_command_words.specs.Words.{Word, Use, is_plain, is_valued, use_words, tail_words, rest_words, value_of}
 use Rattle.jc_command_words.specs.Forms.{IsCall, Call, text_of, named, options_of, call_words}
 use Rattle.jc_paths.specs.Paths.{FileText, file_text, path_of}
 use Rattle.jc_command_words.specs.Paths.{are_relative, named_paths, are_distinct}
 use Rattle.jc_command_words.specs.Numbers.{IsNumber, number_up_to}
 use Rattle.jc_command_words.specs.Scan.{Scan, scan}
-use Rattle.jc_command_words.specs.Commands.{Called, instrument, run, merge, report, exec_info, class_info, cover, cover_sample, refs, lines, check, default_name, IsWorkers, HasRules, IsStated, IsCallOf, files_of, Means, by_call, by_sample, sample_use, NoForm}
-use Rattle.jc_command_words.specs.Decide.{is_call, is_some_file, is_stated, values_of, workers_in, instrument_with, run_with, merge_with, report_with, cover_with, rules_given, check_with, command_with, sample_of, sample_in, decide_sample, decide_scan, decide_named, command_of}
+use Rattle.jc_command_words.specs.Commands.{Mode, plainly, dumping, monitored, Called, instrument, run, merge, report, exec_info, class_info, cover, cover_sample, refs, lines, check, default_name, IsWorkers, HasWorkers, HasMode, HasRules, IsStated, IsCallOf, files_of, Means, by_call, by_sample, sample_use, NoForm}
+use Rattle.jc_command_words.specs.Decide.{is_call, is_some_file, are_apart, is_stated, values_of, workers_in, mode_with, mode_in, instrument_with, run_with, merge_with, report_with, cover_with, rules_given, check_with, command_with, sample_of, sample_in, decide_sample, decide_scan, decide_named, command_of}
 use Rattle.jc_command_words.proofs.BoolLaws.{both_true}
 use Rattle.jc_command_words.proofs.PathLaws.{distinct_holds, distinct_passes}
 use Rattle.jc_command_words.proofs.ScanLaws.{SpellsIf, is_name, scan_finds, scan_ends, scan_spells}
 use Rattle.jc_command_words.proofs.NumberLaws.{number_is, number_found}
+use Rattle.jc_command_words.proofs.DumpLaws.{none_holds, none_passes}
 use Rattle.jc_command_words.proofs.RulesLaws.{rules_are, rules_found}
 
 -- ---- the tests of a form decide it
@@ -29,7 +31,7 @@ pub call_holds : (options : List Word) (s : Scan) → is_call options s ≡ true
 call_holds options s h =
     let a = and_parts (list_all (λ u. list_any (bytes_eq u.name) options) s.uses) _ h in
     let b = and_parts (are_distinct (map (λ u. u.name) s.uses)) _ a.1 in
-    let d = and_parts (list_all (λ u. is_plain u.value) s.uses) _ b.1 in
+    let d = and_parts (list_all is_valued s.uses) _ b.1 in
     let e = and_parts (list_all is_plain s.files) _ d.1 in
     record { known = a.0; once = distinct_holds (map (λ u. u.name) s.uses) b.0; values = d.0; plain_files = e.0; some_file = some s.files e.1 }
   where
@@ -50,11 +52,21 @@ scan_of c = record { uses = c.uses; dash = c.dash; files = c.files }
 pub stated_holds : (c : Call) → is_stated c.name (scan_of c) ≡ true → IsStated c
 stated_holds c h =
     let a = and_parts (is_call (options_of c.name) (scan_of c)) _ h in
-    let b = and_parts (are_relative c.name c.files) _ a.1 in
-    record { form = call_holds (options_of c.name) (scan_of c) a.0; relative = b.0; distinct = distinct_holds (named_paths c.uses c.files) b.1 }
+    let b = and_parts (are_relative c.name c.files) (are_apart c.uses c.files) a.1 in
+    let paths = named_paths c.uses c.files in
+    let d = and_parts (are_distinct paths) _ b.1 in
+    record {
+      form = call_holds (options_of c.name) (scan_of c) a.0;
+      relative = b.0;
+      distinct = distinct_holds paths d.0;
+      no_dump = none_holds (value_of c.uses (codes "dumps")) paths (not-true _ d.1);
+    }
 
 stated_passes : (c : Call) → IsStated c → is_stated c.name (scan_of c) ≡ true
-stated_passes c s = rw (call_passes (options_of c.name) (scan_of c) s.form, s.relative, distinct_passes (named_paths c.uses c.files) s.distinct) refl
+stated_passes c s =
+    let paths = named_paths c.uses c.files in
+    let no_dump = none_passes (value_of c.uses (codes "dumps")) paths s.no_dump in
+    rw (call_passes (options_of c.name) (scan_of c) s.form, s.relative, distinct_passes paths s.distinct, no_dump) refl
 
 -- ---- the command of a call
 
@@ -73,14 +85,51 @@ module _ (c : Call) where
   by_instrument None command d n e = absurd cc
   by_instrument (Some dest) command d n e = subst (IsCallOf c) (same_Some (instrument dest (map file_text c.files)) command e) (n, d, refl)
 
-  by_run : (plan destfile : Option Word) (workers : Option ℕ) (command : Called) → value_of c.uses (codes "plan") ≡ plan → value_of c.uses (codes "destfile") ≡ destfile
-      → workers_in (value_of c.uses (codes "workers")) ≡ workers → c.name ≡ Run
-      → run_with plan destfile workers c.files ≡ Some command → IsCallOf c command
-  by_run None destfile workers command p d w n e = absurd cc
-  by_run (Some plan) None workers command p d w n e = absurd cc
-  by_run (Some plan) (Some destfile) None command p d w n e = absurd cc
-  by_run (Some plan) (Some destfile) (Some workers) command p d w n e =
-      subst (IsCallOf c) (same_Some (run plan destfile workers (map file_text c.files)) command e) (n, p, d, workers_are (value_of c.uses (codes "workers")) workers w, refl)
+  mode_is : (monitors dumps every : Option Word) (workers : Option ℕ) (mode : Mode) → value_of c.uses (codes "monitors") ≡ monitors
+      → value_of c.uses (codes "dumps") ≡ dumps → value_of c.uses (codes "every") ≡ every → workers_in (value_of c.uses (codes "workers")) ≡ workers
+      → mode_with (is_some monitors) dumps every workers ≡ Some mode → HasMode c mode
+  mode_is None dumps every None mode t d v w e = absurd cc
+  mode_is (Some x) dumps every None mode t d v w e = absurd cc
+  mode_is None None None (Some workers) mode t d v w e =
+      subst (HasMode c) (same_Some (plainly workers) mode e) (t, d, v, workers_are (value_of c.uses (codes "workers")) workers w)
+  mode_is None None (Some text) (Some workers) mode t d v w e = absurd cc
+  mode_is None (Some dir) None (Some workers) mode t d v w e = absurd cc
+  mode_is None (Some dir) (Some text) (Some workers) mode t d v w e = by (number_up_to 256 text) refl e
+    where
+      by : (o : Option ℕ) → number_up_to 256 text ≡ o → option_map (λ every. dumping dir every workers) o ≡ Some mode → HasMode c mode
+      by None n e = absurd cc
+      by (Some every) n e =
+          subst (HasMode c) (same_Some (dumping dir every workers) mode e)
+          (t, d, (text, v, number_is 256 text every n), workers_are (value_of c.uses (codes "workers")) workers w)
+  mode_is (Some x) (Some dir) every (Some workers) mode t d v w e = absurd cc
+  mode_is (Some x) None (Some text) (Some workers) mode t d v w e = absurd cc
+  mode_is (Some x) None None (Some workers) mode t d v w e = by (nat_eq workers 1) refl e
+    where
+      by : (b : Bool) → nat_eq workers 1 ≡ b → cond b (Some monitored) None ≡ Some mode → HasMode c mode
+      by false n e = absurd cc
+      by true n e =
+          let one : workers ≡ 1 = (Decides-eqb workers 1).0 n in
+          subst (HasMode c) (same_Some monitored mode e) ((x, t), d, v, subst (HasWorkers c) one (workers_are (value_of c.uses (codes "workers")) workers w))
+
+  mode_made : (mode : Mode) → HasMode c mode → mode_in (values_of c.uses c.files) ≡ Some mode
+  mode_made (plainly workers) h = rw (h.0, h.1, h.2, workers_found (value_of c.uses (codes "workers")) workers h.3) refl
+  mode_made (dumping dir every workers) h =
+      let text = h.2 in
+      rw (h.0, h.1, text.1, workers_found (value_of c.uses (codes "workers")) workers h.3, number_found 256 text.0 every text.2) refl
+  mode_made monitored h = let used = h.0 in rw (used.1, h.1, h.2, workers_found (value_of c.uses (codes "workers")) 1 h.3) refl
+
+  by_run : (plan destfile : Option Word) (mode : Option Mode) (command : Called) → value_of c.uses (codes "plan") ≡ plan
+      → value_of c.uses (codes "destfile") ≡ destfile → mode_in (values_of c.uses c.files) ≡ mode → c.name ≡ Run
+      → run_with plan destfile mode c.files ≡ Some command → IsCallOf c command
+  by_run None destfile mode command p d m n e = absurd cc
+  by_run (Some plan) None mode command p d m n e = absurd cc
+  by_run (Some plan) (Some destfile) None command p d m n e = absurd cc
+  by_run (Some plan) (Some destfile) (Some mode) command p d m n e =
+      let monitors = value_of c.uses (codes "monitors") in
+      let dumps = value_of c.uses (codes "dumps") in
+      let every = value_of c.uses (codes "every") in
+      let is = mode_is monitors dumps every (workers_in (value_of c.uses (codes "workers"))) mode refl refl refl refl m in
+      subst (IsCallOf c) (same_Some (run plan destfile mode (map file_text c.files)) command e) (n, p, d, is, refl)
 
   by_merge : (destfile : Option Word) (command : Called) → value_of c.uses (codes "destfile") ≡ destfile → c.name ≡ Merge
       → merge_with destfile c.files ≡ Some command → IsCallOf c command
@@ -119,7 +168,7 @@ module _ (c : Call) where
   pub call_of : (name : CommandName) (command : Called) → c.name ≡ name → command_with name (values_of c.uses c.files) ≡ Some command → IsCallOf c command
   call_of Instrument command n e = by_instrument (value_of c.uses (codes "dest")) command refl n e
   call_of Run command n e =
-      by_run (value_of c.uses (codes "plan")) (value_of c.uses (codes "destfile")) (workers_in (value_of c.uses (codes "workers"))) command refl refl refl n e
+      by_run (value_of c.uses (codes "plan")) (value_of c.uses (codes "destfile")) (mode_in (values_of c.uses c.files)) command refl refl refl n e
   call_of Merge command n e = by_merge (value_of c.uses (codes "destfile")) command refl n e
   call_of Report command n e = by_report (value_of c.uses (codes "csv")) command refl n e
   call_of ExecInfo command n e = subst (IsCallOf c) (same_Some (exec_info c.files) command e) (n, refl)
@@ -134,7 +183,7 @@ module _ (c : Call) where
 
   command_made : (command : Called) → IsCallOf c command → command_with c.name (values_of c.uses c.files) ≡ Some command
   command_made (instrument dest files) h = rw (h.0, h.1, h.2) refl
-  command_made (run plan destfile workers files) h = rw (h.0, h.1, h.2, workers_found (value_of c.uses (codes "workers")) workers h.3, h.4) refl
+  command_made (run plan destfile mode files) h = rw (h.0, h.1, h.2, mode_made mode h.3, h.4) refl
   command_made (merge destfile inputs) h = rw (h.0, h.1, h.2) refl
   command_made (report csv name exec files) h = rw (h.0, h.1, h.2, h.3, h.4) refl
   command_made (exec_info inputs) h = rw (h.0, h.1) refl
@@ -215,7 +264,8 @@ scan_of_call c call = by c.files refl
     by (f ∷ fs) e =
         let plain = subst (λ l. list_all is_plain l ≡ true) e call.plain_files in
         subst (λ l. scan None (rest_words c.uses c.dash l) ≡ Some (record { uses = c.uses; dash = c.dash; files = l })) (sym e)
-        (scan_finds c.uses c.dash f fs (known_names (options_of c.name) (options_are_names c.name) c.uses call.known) (and_parts (is_plain f) (list_all is_plain fs) plain).0)
+        (scan_finds c.uses c.dash f fs (known_names (options_of c.name) (options_are_names c.name) c.uses call.known) call.values
+        (and_parts (is_plain f) (list_all is_plain fs) plain).0)
 
 -- a call with a file is no sample
 no_sample : (c : Call) → c.files ≢ [] → sample_in c.name (scan_of c) ≡ None
@@ -246,7 +296,9 @@ found words command (by_call c spelled stated is) =
     ∙ command_made c command is
 found words command (by_sample joined value n spelled number is) =
     ap command_of spelled
-    ∙ ap (λ o. decide_scan Cover o) (ap (scan None) (sym (append-nil (use_words (sample_use joined value)))) ∙ scan_ends (sample_use joined value) refl)
+    ∙ ap (λ o. decide_scan Cover o)
+    (ap (scan None) (sym (append-nil (use_words (sample_use joined value))))
+    ∙ scan_ends (sample_use joined value) refl (λ flag own. absurd (true≢false (sym flag))))
     ∙ ap (λ o. decide_sample o Cover (record { uses = sample_use joined value ∷ []; dash = false; files = [] })) (number_found 1000 value n number)
     ∙ ap Some (sym is)
 
@@ -316,7 +368,7 @@ decided (first ∷ rest) command e = by (named first) (scan None rest) refl refl
     by None s p q e = absurd cc
     by (Some name) None p q e = absurd cc
     by (Some name) (Some s) p q e =
-        decide name s (name_is first name p) (subst (λ o. SpellsIf o rest) q (scan_spells None rest)) (sample_in name s) refl e
+        decide name s (name_is first name p) (subst (λ o. SpellsIf o rest) q (scan_spells rest)) (sample_in name s) refl e
 
 -- ---- each list of words calls one command, or none
 
@@ -349,7 +401,7 @@ files_are c files e =
 
 files_of_call : (c : Call) (command : Called) → IsCallOf c command → length (files_of command) ≤ length c.files
 files_of_call c (instrument dest files) h = files_are c files h.2
-files_of_call c (run plan destfile workers files) h = files_are c files h.4
+files_of_call c (run plan destfile mode files) h = files_are c files h.4
 files_of_call c (merge destfile inputs) h = let same = ap length h.2 in omega (arith, same)
 files_of_call c (report csv name exec files) h = files_are c files h.4
 files_of_call c (exec_info inputs) h = let same = ap length h.1 in omega (arith, same)

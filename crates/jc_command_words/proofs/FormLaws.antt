@@ -5,7 +5,7 @@ use Rattle.std.proofs.lemmas.List.{drop_all}
 use Rattle.std.proofs.Math.Seq.{drop-cons}
 use Rattle.std.specs.List.{list_any, list_all}
 use Rattle.std.specs.Str.{bytes_eq}
-use Rattle.jc_command_words.specs.Words.{Use, Word, is_plain, value_of}
+use Rattle.jc_command_words.specs.Words.{Use, Word, is_plain, is_valued, value_of}
 use Rattle.jc_command_words.specs.Paths.{are_distinct}
 use Rattle.jc_command_words.specs.Decide.{is_call, is_some_file}
 
@@ -53,11 +53,11 @@ module _ {U O F : Type 0} (uv : U → Use) (ov : O → Word) (fv : F → Word) w
 
   pub call_seen : (us : List U) (os : List O) (options : List Word) (dash : Bool) (fs : List F) → map ov os ≡ options
       → list_all (λ u. list_any (λ o. bytes_eq (uv u).name (ov o)) os) us ≡ true
-      → (are_distinct (map (λ u. (uv u).name) us) && (list_all (λ u. is_plain (uv u).value) us && (list_all (λ f. is_plain (fv f)) fs && not (length fs == 0))))
+      → (are_distinct (map (λ u. (uv u).name) us) && (list_all (λ u. is_valued (uv u)) us && (list_all (λ f. is_plain (fv f)) fs && not (length fs == 0))))
       ≡ is_call options (record { uses = map uv us; dash = dash; files = map fv fs })
   call_seen us os options dash fs e h =
       sym (rw (sym (known_seen us os options e) ∙ h)
-      (rw (sym (ap are_distinct (map-name us)), sym (list_all-map (λ u. is_plain u.value) uv us), sym (list_all-map is_plain fv fs), sym (some_seen fs)) refl))
+      (rw (sym (ap are_distinct (map-name us)), sym (list_all-map is_valued uv us), sym (list_all-map is_plain fv fs), sym (some_seen fs)) refl))
 
 -- ---- what an option is given
 

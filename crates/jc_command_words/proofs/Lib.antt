@@ -3,6 +3,7 @@ pub mod ScanLaws
 pub mod PathLaws
 pub mod FormLaws
 pub mod NumberLaws
+pub mod DumpLaws
 pub mod RulesLaws
 pub mod CommandLaws
 pub mod WalkLaws

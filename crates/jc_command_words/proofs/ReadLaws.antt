@@ -1,5 +1,5 @@
 -- What clap finds in the words of a call, and that it takes the words of each command.
-use Rattle.std.proofs.Common.{◌≡◌, ◌∙◌, ap, ap₂, sym, subst, refl, ℕ, ◌<◌, ◌^◌, Bool, true, false, ◌&&◌, ◌||◌, List, [], ◌∷◌, ◌++◌, length, Option, Some, None, option_map, codes, cond, ◌==◌}
+use Rattle.std.proofs.Common.{◌≡◌, ◌∙◌, ap, ap₂, sym, subst, refl, ℕ, ◌<◌, ◌^◌, Bool, true, false, ◌&&◌, ◌||◌, List, [], ◌∷◌, ◌++◌, length, Option, Some, None, option_map, codes, cond, ◌==◌, true≢false}
 use Rattle.std.proofs.lemmas.Bool.{not-false, and_parts}
 use Rattle.std.proofs.lemmas.Bool.Decides.{Decides-eqb}
 use Rattle.std.proofs.lemmas.List.{append-nil}
@@ -18,7 +18,7 @@ use Rattle.clap.specs.declared.builder.command.Command.{Command}
 use Rattle.clap.specs.declared.parser.matches.ArgMatches.{ArgMatches}
 use Rattle.jc_command_words.specs.declared.name.CommandName.{CommandName}
 use Rattle.jc_command_words.specs.declared.name.CommandName.TheVariants.{Instrument, Run, Merge, Report, ExecInfo, ClassInfo, Cover, Refs, Lines, Check}
-use Rattle.jc_command_words.specs.Words.{Word, Use, is_plain, use_words, rest_words, value_of}
+use Rattle.jc_command_words.specs.Words.{Word, Use, is_plain, is_valued, use_words, rest_words, value_of}
 use Rattle.jc_command_words.specs.Forms.{IsCall, Call, named, text_of, options_of}
 use Rattle.jc_command_words.specs.Scan.{Scan, scan}
 use Rattle.jc_command_words.specs.Spelled.{options_found, spelled}
@@ -73,7 +73,7 @@ unfolding IsDistinct
 sample_alone u e plain = record {
   known = ap (λ (n : Word). list_any (bytes_eq n) (taken_options Cover) && true) e;
   once = (tt, tt);
-  values = both_true _ _ plain refl;
+  values = both_true _ _ (ap (λ (n : Word). is_valued (record { name = n; value = u.value; joined = u.joined })) e ∙ plain) refl;
   plain_files = refl;
 }
 
@@ -163,7 +163,7 @@ taken_of W command (by_sample joined value n spelled number is) =
         spelled ∙ ap (λ (l : List Word). codes "cover" ∷ l) (sym (words ∙ append-nil (use_words u))),
         sample_alone u refl (plain_number 1000 value n (number_found 1000 value n number)),
       ),
-      ap (scan None) words ∙ scan_ends u refl,
+      ap (scan None) words ∙ scan_ends u refl (λ flag own. absurd (true≢false (sym flag))),
     )
 
 pub uncut : (W : List Word) → ((c : Call) → TakenCall W c → ⊥) → NoForm W

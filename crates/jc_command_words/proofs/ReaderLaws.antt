@@ -18,12 +18,12 @@ use Rattle.clap.specs.declared.parser.matches.ArgMatches.{ArgMatches}
 use Rattle.clap.proofs.OnLiterals.{clap_on_literals}
 use Rattle.jc_command_words.specs.declared.name.CommandName.{CommandName}
 use Rattle.jc_command_words.specs.declared.name.CommandName.TheVariants.{Instrument, Run, Merge, Report, ExecInfo, ClassInfo, Cover, Refs, Lines, Check}
-use Rattle.jc_command_words.specs.Words.{Use, Word, tail_words, use_words, is_plain, rest_words}
+use Rattle.jc_command_words.specs.Words.{Use, Word, is_flag, is_plain, is_valued, tail_words, use_words, rest_words}
 use Rattle.jc_command_words.specs.Forms.{text_of}
 use Rattle.jc_command_words.specs.Reader.{jcov_app}
 use Rattle.jc_command_words.specs.Taken.{IsTaken, taken_options}
 use Rattle.jc_command_words.proofs.BoolLaws.{both_true, either-false}
-use Rattle.jc_command_words.proofs.WalkLaws.{IsOption, IsReader, GoodUses, AllPlain, at, call_rows, fil, file_fresh, level_rows, level_takes, opt, passes-append_at, row_of_use}
+use Rattle.jc_command_words.proofs.WalkLaws.{IsTold, with_value, bare, IsReader, GoodUses, AllPlain, at, call_rows, fil, file_fresh, level_rows, level_takes, opt, flg, passes-append_at, row_of_use}
 
 -- ---- the commands, as they are read
 
@@ -90,11 +90,11 @@ reader_of Lines = reads (shape_of Lines) refl refl refl refl refl (λ rows. refl
 reader_of Check = reads (shape_of Check) refl refl refl refl refl (λ rows. refl)
 
 -- an option whose name is written out
-told : (c : List Rule) (name : Text) → arg_by_long c name ≡ Some (opt name) → arg_by_id c name ≡ Some (opt name)
+told : (c : List Rule) (name : Text) → is_flag name ≡ false → arg_by_long c name ≡ Some (opt name) → arg_by_id c name ≡ Some (opt name)
     → long_of (45 ∷ 45 ∷ name) ≡ Some (name, None) → ((v : Text) → long_of (45 ∷ 45 ∷ (name ++ 61 ∷ v)) ≡ Some (name, Some v))
     → bytes_eq (45 ∷ 45 ∷ name) (45 ∷ 45 ∷ []) ≡ false → ((v : Text) → bytes_eq (45 ∷ 45 ∷ (name ++ 61 ∷ v)) (45 ∷ 45 ∷ []) ≡ false)
-    → bytes_eq name (codes "FILE") ≡ false → IsOption c name
-told c name by_long by_id word joined no_dash no_dash_joined no_file = record {
+    → bytes_eq name (codes "FILE") ≡ false → IsTold c name
+told c name other by_long by_id word joined no_dash no_dash_joined no_file = with_value other (record {
   by_long = by_long;
   by_id = by_id;
   self = (bytes_eq-Decides name name).1 refl;
@@ -103,47 +103,55 @@ told c name by_long by_id word joined no_dash no_dash_joined no_file = record {
   no_dash = no_dash;
   no_dash_joined = no_dash_joined;
   no_file = no_file;
-}
+})
 
-pub options_known : (name : CommandName) → AllByRecursion (λ o. IsOption (shape_of name).rules o) (taken_options name)
-options_known Instrument = (told (shape_of Instrument).rules (codes "dest") refl refl refl (λ v. refl) refl (λ v. refl) refl, tt)
+told_flag : (c : List Rule) (name : Text) → is_flag name ≡ true → arg_by_long c name ≡ Some (flg name) → long_of (45 ∷ 45 ∷ name) ≡ Some (name, None)
+    → bytes_eq (45 ∷ 45 ∷ name) (45 ∷ 45 ∷ []) ≡ false → bytes_eq name (codes "FILE") ≡ false → IsTold c name
+told_flag c name flag by_long word no_dash no_file = bare flag (record { by_long = by_long; word = word; no_dash = no_dash; no_file = no_file })
+
+pub options_known : (name : CommandName) → AllByRecursion (λ o. IsTold (shape_of name).rules o) (taken_options name)
+options_known Instrument = (told (shape_of Instrument).rules (codes "dest") refl refl refl refl (λ v. refl) refl (λ v. refl) refl, tt)
 options_known Run =
-    let plan = told (shape_of Run).rules (codes "plan") refl refl refl (λ v. refl) refl (λ v. refl) refl in
-    let destfile = told (shape_of Run).rules (codes "destfile") refl refl refl (λ v. refl) refl (λ v. refl) refl in
-    let workers = told (shape_of Run).rules (codes "workers") refl refl refl (λ v. refl) refl (λ v. refl) refl in
-    (plan, (destfile, (workers, tt)))
-options_known Merge = (told (shape_of Merge).rules (codes "destfile") refl refl refl (λ v. refl) refl (λ v. refl) refl, tt)
+    let plan = told (shape_of Run).rules (codes "plan") refl refl refl refl (λ v. refl) refl (λ v. refl) refl in
+    let destfile = told (shape_of Run).rules (codes "destfile") refl refl refl refl (λ v. refl) refl (λ v. refl) refl in
+    let workers = told (shape_of Run).rules (codes "workers") refl refl refl refl (λ v. refl) refl (λ v. refl) refl in
+    let dumps = told (shape_of Run).rules (codes "dumps") refl refl refl refl (λ v. refl) refl (λ v. refl) refl in
+    let every = told (shape_of Run).rules (codes "every") refl refl refl refl (λ v. refl) refl (λ v. refl) refl in
+    let monitors = told_flag (shape_of Run).rules (codes "monitors") refl refl refl refl refl in
+    (plan, (destfile, (workers, (dumps, (every, (monitors, tt))))))
+options_known Merge = (told (shape_of Merge).rules (codes "destfile") refl refl refl refl (λ v. refl) refl (λ v. refl) refl, tt)
 options_known Report =
-    let csv = told (shape_of Report).rules (codes "csv") refl refl refl (λ v. refl) refl (λ v. refl) refl in
-    let name = told (shape_of Report).rules (codes "name") refl refl refl (λ v. refl) refl (λ v. refl) refl in
-    let exec = told (shape_of Report).rules (codes "exec") refl refl refl (λ v. refl) refl (λ v. refl) refl in
+    let csv = told (shape_of Report).rules (codes "csv") refl refl refl refl (λ v. refl) refl (λ v. refl) refl in
+    let name = told (shape_of Report).rules (codes "name") refl refl refl refl (λ v. refl) refl (λ v. refl) refl in
+    let exec = told (shape_of Report).rules (codes "exec") refl refl refl refl (λ v. refl) refl (λ v. refl) refl in
     (csv, (name, (exec, tt)))
 options_known ExecInfo = tt
 options_known ClassInfo = tt
 options_known Cover =
-    let dest = told (shape_of Cover).rules (codes "dest") refl refl refl (λ v. refl) refl (λ v. refl) refl in
-    let plan = told (shape_of Cover).rules (codes "plan") refl refl refl (λ v. refl) refl (λ v. refl) refl in
-    let destfile = told (shape_of Cover).rules (codes "destfile") refl refl refl (λ v. refl) refl (λ v. refl) refl in
-    let csv = told (shape_of Cover).rules (codes "csv") refl refl refl (λ v. refl) refl (λ v. refl) refl in
-    let workers = told (shape_of Cover).rules (codes "workers") refl refl refl (λ v. refl) refl (λ v. refl) refl in
-    let name = told (shape_of Cover).rules (codes "name") refl refl refl (λ v. refl) refl (λ v. refl) refl in
-    let sample = told (shape_of Cover).rules (codes "sample") refl refl refl (λ v. refl) refl (λ v. refl) refl in
+    let dest = told (shape_of Cover).rules (codes "dest") refl refl refl refl (λ v. refl) refl (λ v. refl) refl in
+    let plan = told (shape_of Cover).rules (codes "plan") refl refl refl refl (λ v. refl) refl (λ v. refl) refl in
+    let destfile = told (shape_of Cover).rules (codes "destfile") refl refl refl refl (λ v. refl) refl (λ v. refl) refl in
+    let csv = told (shape_of Cover).rules (codes "csv") refl refl refl refl (λ v. refl) refl (λ v. refl) refl in
+    let workers = told (shape_of Cover).rules (codes "workers") refl refl refl refl (λ v. refl) refl (λ v. refl) refl in
+    let name = told (shape_of Cover).rules (codes "name") refl refl refl refl (λ v. refl) refl (λ v. refl) refl in
+    let sample = told (shape_of Cover).rules (codes "sample") refl refl refl refl (λ v. refl) refl (λ v. refl) refl in
     (dest, (plan, (destfile, (csv, (workers, (name, (sample, tt)))))))
 options_known Refs = tt
-options_known Lines = (told (shape_of Lines).rules (codes "exec") refl refl refl (λ v. refl) refl (λ v. refl) refl, tt)
+options_known Lines = (told (shape_of Lines).rules (codes "exec") refl refl refl refl (λ v. refl) refl (λ v. refl) refl, tt)
 options_known Check =
-    let min = told (shape_of Check).rules (codes "min") refl refl refl (λ v. refl) refl (λ v. refl) refl in
-    let exec = told (shape_of Check).rules (codes "exec") refl refl refl (λ v. refl) refl (λ v. refl) refl in
+    let min = told (shape_of Check).rules (codes "min") refl refl refl refl (λ v. refl) refl (λ v. refl) refl in
+    let exec = told (shape_of Check).rules (codes "exec") refl refl refl refl (λ v. refl) refl (λ v. refl) refl in
     (min, (exec, tt))
 
 -- ---- from the form of words to what the walk asks
 
-known_option : (c : List Rule) (options : List Word) → AllByRecursion (λ o. IsOption c o) options → (name : Word) → list_any (bytes_eq name) options ≡ true → IsOption c name
+known_option : (c : List Rule) (options : List Word) → AllByRecursion (λ o. IsTold c o) options → (name : Word) → list_any (bytes_eq name) options ≡ true
+    → IsTold c name
 known_option c [] all name h = cc
 known_option c (o ∷ os) all name h = by (bytes_eq name o) refl h (known_option c os all.1 name)
   where
-    by : (b : Bool) → bytes_eq name o ≡ b → (b || list_any (bytes_eq name) os) ≡ true → (list_any (bytes_eq name) os ≡ true → IsOption c name) → IsOption c name
-    by true e h rest = subst (IsOption c) (sym ((bytes_eq-Decides name o).0 e)) all.0
+    by : (b : Bool) → bytes_eq name o ≡ b → (b || list_any (bytes_eq name) os) ≡ true → (list_any (bytes_eq name) os ≡ true → IsTold c name) → IsTold c name
+    by true e h rest = subst (IsTold c) (sym ((bytes_eq-Decides name o).0 e)) all.0
     by false e h rest = rest h
 
 has_row-more : (id : Text) (V : List Row) (r : Row) → has_row id V ≡ false → bytes_eq r.id id ≡ false → has_row id (V ++ r ∷ []) ≡ false
@@ -164,15 +172,16 @@ all_fresh : (uses : List Use) → AllFresh [] uses
 all_fresh [] = tt
 all_fresh (u ∷ us) = (refl, all_fresh us)
 
-good_uses : (s : Shape) (again : s.args_override_self ≡ false) (options : List Word) → AllByRecursion (λ o. IsOption s.rules o) options → (uses : List Use) (V : List Row)
+good_uses : (s : Shape) (again : s.args_override_self ≡ false) (options : List Word) → AllByRecursion (λ o. IsTold s.rules o) options
+    → (uses : List Use) (V : List Row)
     → list_all (λ u. list_any (bytes_eq u.name) options) uses ≡ true → IsDistinct bytes_eq (map (λ u. u.name) uses)
-    → list_all (λ u. is_plain u.value) uses ≡ true → AllFresh V uses → GoodUses s again V uses
+    → list_all is_valued uses ≡ true → AllFresh V uses → GoodUses s again V uses
 unfolding IsDistinct
-good_uses s again options all [] V known once plain fresh = tt
-good_uses s again options all (u ∷ us) V known once plain fresh =
+good_uses s again options all [] V known once valued fresh = tt
+good_uses s again options all (u ∷ us) V known once valued fresh =
     let k = and_parts (list_any (bytes_eq u.name) options) _ known in
-    let p = and_parts (is_plain u.value) _ plain in (
-      record { known = known_option s.rules options all u.name k.0; plain = p.0; fresh = fresh.0 },
+    let p = and_parts (is_valued u) _ valued in (
+      record { known = known_option s.rules options all u.name k.0; valued = p.0; fresh = fresh.0 },
       good_uses s again options all us (V ++ row_of_use u ∷ []) k.1 once.1 p.1 (fresh_more V (row_of_use u) us fresh.1 once.0),
     )
 

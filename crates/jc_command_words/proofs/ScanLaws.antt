@@ -6,7 +6,7 @@ use Rattle.std.proofs.lemmas.List.Sums.{split_at_first, passes_at_first}
 use Rattle.std.proofs.lemmas.Bool.Decides.{Decides-eqb}
 use Rattle.std.proofs.lemmas.Bool.{and_parts, not-true}
 use Rattle.std.specs.List.{flat_map, list_any, list_all, before_first, after_first, position_or_len}
-use Rattle.jc_command_words.specs.Words.{Use, Word, is_plain, use_words, tail_words, rest_words}
+use Rattle.jc_command_words.specs.Words.{Use, Word, is_flag, is_plain, is_valued, is_empty, value_words, use_words, tail_words, rest_words}
 use Rattle.jc_command_words.specs.Scan.{Scan, Kind, dashes, named, joined, other, added, body_kind, is_equals, kind_of_word, scan, scan_kind}
 
 -- ---- what a kind says of the word
@@ -68,21 +68,42 @@ pub added_spells : (u : Use) (o : Option Scan) (words : List Word) → SpellsIf 
 added_spells u None words h = tt
 added_spells u (Some s) words h = ap (λ t. use_words u ++ t) h ∙ sym (append_assoc (use_words u) (flat_map use_words s.uses) (tail_words s.dash s.files))
 
+-- an option that waits for its value is no flag
+abbrev Waits : Option Word → Type 0
+Waits None = Unit {0}
+Waits (Some n) = is_flag n ≡ false
+
+-- a use of two words, or of a flag
+two_words : (n v : Word) (flag : Bool) → is_flag n ≡ flag → use_words (record { name = n; value = v; joined = false }) ≡ (45 ∷ 45 ∷ n) ∷ value_words flag v
+two_words n v flag e = ap (λ b. (45 ∷ 45 ∷ n) ∷ value_words b v) e
+
 kind_spells : (k : Kind) (w : Word) (rest : List Word) (next : Option Word → Option Scan) → Spelled k w
-    → ((p : Option Word) → SpellsIf (next p) (before p rest)) → SpellsIf (scan_kind k w rest next) (w ∷ rest)
+    → ((p : Option Word) → Waits p → SpellsIf (next p) (before p rest)) → SpellsIf (scan_kind k w rest next) (w ∷ rest)
 kind_spells dashes w rest next e h = ap (λ x. x ∷ rest) e
-kind_spells (named n) w rest next e h = subst (λ x. SpellsIf (next (Some n)) (x ∷ rest)) (sym e) (h (Some n))
+kind_spells (named n) w rest next e h = subst (λ x. SpellsIf (scan_kind (named n) w rest next) (x ∷ rest)) (sym e) (by (is_flag n) refl)
+  where
+    by : (b : Bool) → is_flag n ≡ b
+        → SpellsIf (if b then added (record { name = n; value = []; joined = false }) (next None) else next (Some n)) ((45 ∷ 45 ∷ n) ∷ rest)
+    by true flag =
+        let u : Use = record { name = n; value = []; joined = false } in
+        subst (λ l. SpellsIf (added u (next None)) (l ++ rest)) (two_words n [] true flag) (added_spells u (next None) rest (h None tt))
+    by false no_flag = h (Some n) no_flag
 kind_spells (joined n v) w rest next e h =
     let u : Use = record { name = n; value = v; joined = true } in
-    subst (λ x. SpellsIf (added u (next None)) (x ∷ rest)) (sym e) (added_spells u (next None) rest (h None))
+    subst (λ x. SpellsIf (added u (next None)) (x ∷ rest)) (sym e) (added_spells u (next None) rest (h None tt))
 kind_spells other w rest next e h = refl
 
-pub scan_spells : (p : Option Word) (words : List Word) → SpellsIf (scan p words) (before p words)
+each_spells : (p : Option Word) (words : List Word) → Waits p → SpellsIf (scan p words) (before p words)
 unfolding scan
-scan_spells None [] = refl
-scan_spells (Some n) [] = tt
-scan_spells (Some n) (v ∷ rest) = added_spells (record { name = n; value = v; joined = false }) (scan None rest) rest (scan_spells None rest)
-scan_spells None (w ∷ rest) = kind_spells (kind_of_word w) w rest (λ p. scan p rest) (word_spelled w) (λ p. scan_spells p rest)
+each_spells None [] waits = refl
+each_spells (Some n) [] waits = tt
+each_spells (Some n) (v ∷ rest) waits =
+    let u : Use = record { name = n; value = v; joined = false } in
+    subst (λ l. SpellsIf (added u (scan None rest)) (l ++ rest)) (two_words n v false waits) (added_spells u (scan None rest) rest (each_spells None rest tt))
+each_spells None (w ∷ rest) waits = kind_spells (kind_of_word w) w rest (λ p. scan p rest) (word_spelled w) (λ p. each_spells p rest)
+
+pub scan_spells : (words : List Word) → SpellsIf (scan None words) words
+scan_spells words = each_spells None words tt
 
 -- ---- a spelling is found again
 
@@ -140,29 +161,45 @@ files_found : (f : Word) (fs : List Word) → is_plain f ≡ true → scan None 
 unfolding scan
 files_found f fs h = rw (plain_kind f h) refl
 
-use_found : (u : Use) → is_name u.name ≡ true → (words : List Word) → scan None (use_words u ++ words) ≡ added u (scan None words)
-unfolding scan
-use_found u h words = by u.joined
-  where
-    by : (b : Bool) → scan None ((if b then (45 ∷ 45 ∷ (u.name ++ 61 ∷ u.value)) ∷ [] else (45 ∷ 45 ∷ u.name) ∷ u.value ∷ []) ++ words)
-        ≡ added (record { name = u.name; value = u.value; joined = b }) (scan None words)
-    by true = rw (joined_kind u.name u.value h) refl
-    by false = rw (named_kind u.name h) refl
+-- a flag that isn't joined to a value has none
+abbrev pub IsBare : Use → Type 0
+IsBare u = is_flag u.name ≡ true → u.joined ≡ false → u.value ≡ []
 
-pub scan_finds : (uses : List Use) (dash : Bool) (f : Word) (fs : List Word) → list_all (λ u. is_name u.name) uses ≡ true → is_plain f ≡ true
-    → scan None (rest_words uses dash (f ∷ fs)) ≡ Some (record { uses = uses; dash = dash; files = f ∷ fs })
+empty : (w : Word) → is_empty w ≡ true → w ≡ []
+empty [] h = refl
+empty (x ∷ xs) h = cc
+
+bare : (u : Use) → is_valued u ≡ true → IsBare u
+bare u h flag own =
+    let both = subst (λ b. (if b then not u.joined && is_empty u.value else is_plain u.value) ≡ true) flag h in
+    empty u.value (and_parts (not u.joined) (is_empty u.value) both).1
+
+use_found : (u : Use) → is_name u.name ≡ true → IsBare u → (words : List Word) → scan None (use_words u ++ words) ≡ added u (scan None words)
 unfolding scan
-scan_finds [] true f fs names plain = refl
-scan_finds [] false f fs names plain = files_found f fs plain
-scan_finds (u ∷ us) dash f fs names plain =
+use_found u h none words = by u.joined (is_flag u.name) refl refl
+  where
+    by : (b flag : Bool) → u.joined ≡ b → is_flag u.name ≡ flag
+        → scan None ((if b then (45 ∷ 45 ∷ (u.name ++ 61 ∷ u.value)) ∷ [] else (45 ∷ 45 ∷ u.name) ∷ value_words flag u.value) ++ words)
+        ≡ added (record { name = u.name; value = u.value; joined = b }) (scan None words)
+    by true flag j e = rw (joined_kind u.name u.value h) refl
+    by false true j e = rw (named_kind u.name h, e, none e j) refl
+    by false false j e = rw (named_kind u.name h, e) refl
+
+pub scan_finds : (uses : List Use) (dash : Bool) (f : Word) (fs : List Word) → list_all (λ u. is_name u.name) uses ≡ true → list_all is_valued uses ≡ true
+    → is_plain f ≡ true → scan None (rest_words uses dash (f ∷ fs)) ≡ Some (record { uses = uses; dash = dash; files = f ∷ fs })
+unfolding scan
+scan_finds [] true f fs names valued plain = refl
+scan_finds [] false f fs names valued plain = files_found f fs plain
+scan_finds (u ∷ us) dash f fs names valued plain =
     let p = and_parts (is_name u.name) (list_all (λ u. is_name u.name) us) names in
+    let v = and_parts (is_valued u) (list_all is_valued us) valued in
     ap (scan None) (append_assoc (use_words u) (flat_map use_words us) (tail_words dash (f ∷ fs)))
-    ∙ use_found u p.0 (rest_words us dash (f ∷ fs)) ∙ ap (added u) (scan_finds us dash f fs p.1 plain)
+    ∙ use_found u p.0 (bare u v.0) (rest_words us dash (f ∷ fs)) ∙ ap (added u) (scan_finds us dash f fs p.1 v.1 plain)
 
 -- a use alone is found again
-pub scan_ends : (u : Use) → is_name u.name ≡ true → scan None (use_words u ++ []) ≡ Some (record { uses = u ∷ []; dash = false; files = [] })
+pub scan_ends : (u : Use) → is_name u.name ≡ true → IsBare u → scan None (use_words u ++ []) ≡ Some (record { uses = u ∷ []; dash = false; files = [] })
 unfolding scan
-scan_ends u name = use_found u name []
+scan_ends u name none = use_found u name none []
 
 abbrev pub prepend : List Use → Option Scan → Option Scan
 prepend us = option_map {T = Scan} (λ s. record s { uses = us ++ s.uses })

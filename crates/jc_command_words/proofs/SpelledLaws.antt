@@ -9,9 +9,9 @@ use Rattle.clap.specs.Walk.{Row, first_of, has_row, row_of, rows_of}
 use Rattle.clap.specs.Matches.{first_value}
 use Rattle.clap.specs.declared.parser.matches.Found.{Found}
 use Rattle.clap.proofs.WalkLemmas.{first_value-rows}
-use Rattle.jc_command_words.specs.Words.{Use, Word, is_plain, use_words, tail_words, rest_words}
+use Rattle.jc_command_words.specs.Words.{Use, Word, is_flag, is_plain, value_words, use_words, tail_words, rest_words}
 use Rattle.jc_command_words.specs.Scan.{Scan, added}
-use Rattle.jc_command_words.specs.Spelled.{joined_word, named_word, is_option_id, options_found, spelled, spelled_option, spelled_use, tail_at, use_at, value_at, with_value}
+use Rattle.jc_command_words.specs.Spelled.{joined_word, named_word, is_option_id, named_at, options_found, spelled, spelled_option, spelled_use, tail_at, use_at, value_at, with_value}
 use Rattle.jc_command_words.proofs.BoolLaws.{either-false}
 use Rattle.jc_command_words.proofs.ScanLaws.{Spells, SpellsIf, added_spells}
 use Rattle.jc_command_words.proofs.WalkLaws.{call_rows, file_rows, not_dashes, row_of_use}
@@ -32,22 +32,33 @@ abbrev Begins : Word → Word → List Word → Option (Bool × List Word) → T
 Begins name value words None = Unit {0}
 Begins name value words (Some p) = words ≡ use_words (record { name = name; value = value; joined = p.0 }) ++ p.1
 
-value_begins : (name value w : Word) (words : List Word) → w ≡ named_word name → Begins name value (w ∷ words) (value_at value words)
-value_begins name value w [] e = tt
-value_begins name value w (x ∷ words) e = by (bytes_eq x value) refl
+-- a name in a word of its own, behind which the words of its value stand
+named_begins : (name value w : Word) (flag : Bool) (words behind : List Word) → is_flag name ≡ flag → w ≡ named_word name
+    → words ≡ value_words flag value ++ behind → w ∷ words ≡ use_words (record { name = name; value = value; joined = false }) ++ behind
+named_begins name value w flag words behind f e h =
+    ap₂ (λ (a : Word) (l : List Word). a ∷ l) e h ∙ ap (λ b. named_word name ∷ (value_words b value ++ behind)) (sym f)
+
+value_begins : (name value w : Word) (words : List Word) → is_flag name ≡ false → w ≡ named_word name → Begins name value (w ∷ words) (value_at value words)
+value_begins name value w [] f e = tt
+value_begins name value w (x ∷ words) f e = by (bytes_eq x value) refl
   where
     by : (b : Bool) → bytes_eq x value ≡ b → Begins name value (w ∷ x ∷ words) (if b then Some (false, words) else None)
-    by true h = ap₂ (λ a b. a ∷ b ∷ words) e ((bytes_eq-Decides x value).0 h)
+    by true h = named_begins name value w false (x ∷ words) words f e (ap (λ (a : Word). a ∷ words) ((bytes_eq-Decides x value).0 h))
     by false h = tt
+
+either_begins : (name value w : Word) (flag : Bool) (words : List Word) → is_flag name ≡ flag → w ≡ named_word name
+    → Begins name value (w ∷ words) (named_at flag value words)
+either_begins name value w true words f e = named_begins name value w true words words f e refl
+either_begins name value w false words f e = value_begins name value w words f e
 
 use_begins : (name value : Word) (words : List Word) → Begins name value words (use_at name value words)
 use_begins name value [] = tt
 use_begins name value (w ∷ words) = by (bytes_eq w (joined_word name value)) (bytes_eq w (named_word name)) refl refl
   where
     by : (a b : Bool) → bytes_eq w (joined_word name value) ≡ a → bytes_eq w (named_word name) ≡ b
-        → Begins name value (w ∷ words) (if a then Some (true, words) else if b then value_at value words else None)
+        → Begins name value (w ∷ words) (if a then Some (true, words) else if b then named_at (is_flag name) value words else None)
     by true b h k = ap (λ x. x ∷ words) ((bytes_eq-Decides w (joined_word name value)).0 h)
-    by false true h k = value_begins name value w words ((bytes_eq-Decides w (named_word name)).0 k)
+    by false true h k = either_begins name value w (is_flag name) words refl ((bytes_eq-Decides w (named_word name)).0 k)
     by false false h k = tt
 
 module _ (behind : List Word → Option Scan) (spells : (words : List Word) → SpellsIf (behind words) words) (name : Word) where
@@ -81,11 +92,13 @@ not_joined name value = by (bytes_eq (named_word name) (joined_word name value))
     by false e = refl
 
 use_found : (u : Use) (words : List Word) → use_at u.name u.value (use_words u ++ words) ≡ Some (u.joined, words)
-use_found u words = by u.joined
+use_found u words = by u.joined (is_flag u.name) refl
   where
-    by : (b : Bool) → use_at u.name u.value ((if b then joined_word u.name u.value ∷ [] else named_word u.name ∷ u.value ∷ []) ++ words) ≡ Some (b, words)
-    by true = rw (same_word (joined_word u.name u.value)) refl
-    by false = rw (not_joined u.name u.value, same_word (named_word u.name), same_word u.value) refl
+    by : (b flag : Bool) → is_flag u.name ≡ flag
+        → use_at u.name u.value ((if b then joined_word u.name u.value ∷ [] else named_word u.name ∷ value_words flag u.value) ++ words) ≡ Some (b, words)
+    by true flag f = rw (same_word (joined_word u.name u.value)) refl
+    by false true f = rw (not_joined u.name u.value, same_word (named_word u.name), f) refl
+    by false false f = rw (not_joined u.name u.value, same_word (named_word u.name), f, same_word u.value) refl
 
 tail_found : (dash : Bool) (files : List Word) → list_all is_plain files ≡ true → tail_at (tail_words dash files) ≡ record { uses = []; dash = dash; files = files }
 tail_found true files plain = refl

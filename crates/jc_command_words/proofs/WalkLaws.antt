@@ -1,5 +1,5 @@
 -- What clap makes of uses of options and files.
-use Rattle.std.proofs.Common.{◌≡◌, ◌∙◌, ap, sym, refl, Bool, true, false, not, ◌==◌, ◌&&◌, List, [], ◌∷◌, ◌++◌, map, length, Option, Some, None, if◌then◌else◌, arith, rules, append_assoc, codes, nat_le}
+use Rattle.std.proofs.Common.{◌≡◌, ◌∙◌, ap, sym, subst, refl, Bool, true, false, not, ◌==◌, ◌&&◌, List, [], ◌∷◌, ◌++◌, map, length, Option, Some, None, if◌then◌else◌, arith, rules, append_assoc, codes, nat_le}
 use Rattle.std.proofs.lemmas.List.{append-nil}
 use Rattle.std.proofs.lemmas.Bool.Decides.{nat_tests}
 use Rattle.std.proofs.lemmas.List.Sums.{fold-append}
@@ -12,12 +12,15 @@ use Rattle.clap.specs.Takes.{default_passes, is_valid, level_passes, settle_pass
 use Rattle.clap.specs.declared.builder.value_parser.Reading.TheVariants as reading
 use Rattle.clap.specs.declared.parser.matches.ValueSource.TheVariants.{CommandLine}
 use Rattle.jc_command_words.proofs.BoolLaws.{both_true, either-false}
-use Rattle.jc_command_words.specs.Words.{Use, is_plain, use_words, tail_words, rest_words}
-use Rattle.jc_command_words.specs.Reader.{option_rule, file_rule}
+use Rattle.jc_command_words.specs.Words.{Use, is_flag, is_plain, is_valued, is_empty, value_words, use_words, tail_words, rest_words}
+use Rattle.jc_command_words.specs.Reader.{option_rule, flag_rule, file_rule}
 
 -- an option, as the reader has it
 abbrev pub opt : Text → Rule
 opt name = filled (option_rule name)
+
+abbrev pub flg : Text → Rule
+flg name = filled (flag_rule name)
 
 abbrev pub fil : Rule
 fil = with_index 1 (filled file_rule)
@@ -31,6 +34,21 @@ pub record IsOption (c : List Rule) (name : Text) : Type 0 where
   pub no_dash : bytes_eq (45 ∷ 45 ∷ name) (45 ∷ 45 ∷ []) ≡ false
   pub no_dash_joined : (v : Text) → bytes_eq (45 ∷ 45 ∷ (name ++ 61 ∷ v)) (45 ∷ 45 ∷ []) ≡ false
   pub no_file : bytes_eq name (codes "FILE") ≡ false
+
+pub record IsFlag (c : List Rule) (name : Text) : Type 0 where
+  pub by_long : arg_by_long c name ≡ Some (flg name)
+  pub word : long_of (45 ∷ 45 ∷ name) ≡ Some (name, None)
+  pub no_dash : bytes_eq (45 ∷ 45 ∷ name) (45 ∷ 45 ∷ []) ≡ false
+  pub no_file : bytes_eq name (codes "FILE") ≡ false
+
+-- an option with a value, or a flag
+pub data IsTold (c : List Rule) (name : Text) : Type 0 where
+  with_value : is_flag name ≡ false → IsOption c name → IsTold c name
+  bare : is_flag name ≡ true → IsFlag c name → IsTold c name
+
+pub told_no_file : {c : List Rule} {name : Text} → IsTold c name → bytes_eq name (codes "FILE") ≡ false
+told_no_file (with_value other o) = o.no_file
+told_no_file (bare flag o) = o.no_file
 
 abbrev pub Pending : Type 0
 Pending = Option (Text × List Text)
@@ -89,6 +107,11 @@ module _ (c : List Rule) where
   unfolding walked
   value_step name v o rows plain = rw (not_dashes v plain, no_long v plain, no_short v plain, o.by_id, o.self) refl
 
+  pub flag_step : (name : Text) (o : IsFlag c name) (rows : List Row) (p : Pending)
+      → walked c [] (at rows p) (45 ∷ 45 ∷ name) ≡ at (used (flg name) [] (settled_rows c p rows)) None
+  unfolding walked
+  flag_step name o rows p = rw (o.no_dash, o.word, o.by_long) refl
+
   -- ---- each step passes
 
   abbrev passes : Shape → Walk → List Text → Bool
@@ -100,6 +123,12 @@ module _ (c : List Rule) where
   unfolding walk_passes
   joined_passes s rules again name v o rows p settles fresh =
       rw (o.no_dash_joined v, o.joined v, rules, again, o.by_long, settles, fresh) refl
+
+  pub flag_passes : (s : Shape) → s.rules ≡ c → s.args_override_self ≡ false → (name : Text) (o : IsFlag c name) (rows : List Row) (p : Pending)
+      → settle_passes c false (held_at rows p) ≡ true → has_row name (settled_rows c p rows) ≡ false
+      → passes s (at rows p) ((45 ∷ 45 ∷ name) ∷ []) ≡ true
+  unfolding walk_passes
+  flag_passes s rules again name o rows p settles fresh = rw (o.no_dash, o.word, rules, again, o.by_long, settles, fresh) refl
 
   pub name_passes : (s : Shape) → s.rules ≡ c → s.args_override_self ≡ false → (name : Text) (o : IsOption c name) (rows : List Row) (p : Pending)
       → settle_passes c false (held_at rows p) ≡ true
@@ -133,6 +162,12 @@ used_fresh name v rows fresh =
     let gone = at_row_fresh name (λ _. []) [] rows fresh ∙ append-nil rows in
     ap (with_values name reading.AsWritten CommandLine (v ∷ [])) gone
     ∙ at_row_fresh name (more_values CommandLine (v ∷ [])) (row name (v ∷ []) ∷ []) rows fresh
+
+pub flag_fresh : (name : Text) (rows : List Row) → has_row name rows ≡ false → used (flg name) [] rows ≡ rows ++ row name ([] ∷ []) ∷ []
+flag_fresh name rows fresh =
+    let gone = at_row_fresh name (λ _. []) [] rows fresh ∙ append-nil rows in
+    ap (with_values name reading.AsWritten CommandLine ([] ∷ [])) gone
+    ∙ at_row_fresh name (more_values CommandLine ([] ∷ [])) (row name ([] ∷ []) ∷ []) rows fresh
 
 and_assoc : (a b c : Bool) → ((a && b) && c) ≡ (a && (b && c))
 and_assoc true b c = refl
@@ -193,19 +228,50 @@ module _ (s : Shape) (again : s.args_override_self ≡ false) where
         no_file = o.no_file;
       }
 
-  pub use_leads : (u : Use) (o : IsOption s.rules u.name) (rows : List Row) (p : Pending) → is_plain u.value ≡ true
+  pub flag_leads : (name : Text) (o : IsFlag s.rules name) (rows : List Row) (p : Pending)
+      → settle_passes s.rules false (held_at rows p) ≡ true → has_row name (settled_rows s.rules p rows) ≡ false
+      → Leads s rows p ((45 ∷ 45 ∷ name) ∷ []) (settled_rows s.rules p rows ++ row name ([] ∷ []) ∷ [])
+  flag_leads name o rows p settles fresh = record {
+    rows' = used (flg name) [] (settled_rows s.rules p rows);
+    p' = None;
+    walk = flag_step s.rules name o rows p;
+    settled = flag_fresh name (settled_rows s.rules p rows) fresh;
+    settles = refl;
+    passes = flag_passes s.rules s refl again name o rows p settles fresh;
+    no_file = refl;
+  }
+
+  -- the words of a use lead to its row
+  abbrev LeadsUse : List Row → Pending → Text → Text → (joined flag : Bool) → Type 0
+  LeadsUse rows p name value joined flag =
+      Leads s rows p (if joined then (45 ∷ 45 ∷ (name ++ 61 ∷ value)) ∷ [] else (45 ∷ 45 ∷ name) ∷ value_words flag value)
+      (settled_rows s.rules p rows ++ row name (value ∷ []) ∷ [])
+
+  -- the value is as the kind of option wants it
+  abbrev Valued : (joined flag : Bool) → Text → Type 0
+  Valued joined flag value = (if flag then not joined && is_empty value else is_plain value) ≡ true
+
+  pub use_leads : (u : Use) → IsTold s.rules u.name → (rows : List Row) (p : Pending) → is_valued u ≡ true
       → settle_passes s.rules false (held_at rows p) ≡ true → has_row u.name (settled_rows s.rules p rows) ≡ false
       → Leads s rows p (use_words u) (settled_rows s.rules p rows ++ row_of_use u ∷ [])
-  use_leads u o rows p plain settles fresh = by u.joined
+  use_leads u (with_value other o) rows p valued settles fresh =
+      subst (LeadsUse rows p u.name u.value u.joined) (sym other) (by u.joined (subst (λ b. Valued u.joined b u.value) other valued))
     where
-      by : (b : Bool) → Leads s rows p (if b then (45 ∷ 45 ∷ (u.name ++ 61 ∷ u.value)) ∷ [] else (45 ∷ 45 ∷ u.name) ∷ u.value ∷ []) (settled_rows s.rules p rows ++ row_of_use u ∷ [])
-      by true = joined_leads u.name u.value o rows p settles fresh
-      by false = two_leads u.name u.value o rows p plain settles fresh
+      by : (joined : Bool) → is_plain u.value ≡ true → LeadsUse rows p u.name u.value joined false
+      by true plain = joined_leads u.name u.value o rows p settles fresh
+      by false plain = two_leads u.name u.value o rows p plain settles fresh
+  use_leads u (bare flag o) rows p valued settles fresh =
+      subst (LeadsUse rows p u.name u.value u.joined) (sym flag) (by u.joined u.value (subst (λ b. Valued u.joined b u.value) flag valued))
+    where
+      by : (joined : Bool) (value : Text) → Valued joined true value → LeadsUse rows p u.name value joined true
+      by true value h = absurd cc
+      by false (x ∷ xs) h = absurd cc
+      by false [] h = flag_leads u.name o rows p settles fresh
 
   -- each use is of an option that is not among the rows before it
   pub record GoodUse (V : List Row) (u : Use) : Type 0 where
-    pub known : IsOption s.rules u.name
-    pub plain : is_plain u.value ≡ true
+    pub known : IsTold s.rules u.name
+    pub valued : is_valued u ≡ true
     pub fresh : has_row u.name V ≡ false
 
   abbrev pub GoodUses : List Row → List Use → Type 0
@@ -226,7 +292,7 @@ module _ (s : Shape) (again : s.args_override_self ≡ false) where
     no_file = no_file;
   }
   uses_lead (u ∷ us) rows p V e good settles no_file =
-      let one = use_leads u good.0.known rows p good.0.plain settles (ap (has_row u.name) e ∙ good.0.fresh) in
+      let one = use_leads u good.0.known rows p good.0.valued settles (ap (has_row u.name) e ∙ good.0.fresh) in
       let rest = uses_lead us one.rows' one.p' (V ++ row_of_use u ∷ []) (one.settled ∙ ap (λ v. v ++ row_of_use u ∷ []) e) good.1 one.settles one.no_file in
       record {
         rows' = rest.rows';
@@ -338,7 +404,7 @@ all_accepted (f ∷ fs) = all_accepted fs
 
 pub file_fresh : (s : Shape) (again : s.args_override_self ≡ false) (V : List Row) (uses : List Use) → GoodUses s again V uses → has_row (codes "FILE") (map row_of_use uses) ≡ false
 file_fresh s again V [] good = refl
-file_fresh s again V (u ∷ us) good = rw good.0.known.no_file (file_fresh s again (V ++ row_of_use u ∷ []) us good.1)
+file_fresh s again V (u ∷ us) good = rw (told_no_file good.0.known) (file_fresh s again (V ++ row_of_use u ∷ []) us good.1)
 
 abbrev pub file_rows : List Text → List Row
 file_rows [] = []

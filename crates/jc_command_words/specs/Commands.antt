@@ -8,14 +8,24 @@ use Rattle.jc_command_words.specs.Forms.{IsCall, Call, options_of, call_words}
 use Rattle.jc_paths.specs.Paths.{FileText, file_text, path_of}
 use Rattle.jc_command_words.specs.Paths.{are_relative, named_paths}
 use Rattle.jc_command_words.specs.Numbers.{IsNumber}
+use Rattle.jc_command_words.specs.Dumps.{NoneIsDump}
 use Rattle.jc_command_words.specs.RulesText.{AreRules}
 use Rattle.jc_rules.specs.declared.rule.Rule.{Rule}
+
+-- how the cases of a run plan are run
+pub data Mode : Type 0 where
+  -- on so many workers
+  plainly : (workers : ℕ) → Mode
+  -- on so many workers; each time that so many more cases have ended, what was hit is taken and goes to a file of the folder
+  dumping : (dir : Word) (every workers : ℕ) → Mode
+  -- on one worker, with monitors
+  monitored : Mode
 
 pub data Called : Type 0 where
   -- writes each class file into the folder, with probes where it is instrumented
   instrument : (dest : Word) (files : List FileText) → Called
   -- runs the run plan's cases on the class files, and writes the hits
-  run : (plan destfile : Word) (workers : ℕ) (files : List FileText) → Called
+  run : (plan destfile : Word) (mode : Mode) (files : List FileText) → Called
   -- writes the union of the execution data in the inputs
   merge : (destfile : Word) (inputs : List Word) → Called
   -- writes the CSV text of the class files, by the hits in the execution data, if a file of it is named
@@ -38,7 +48,7 @@ pub data Called : Type 0 where
 -- the paths of the command's files and folders
 abbrev pub files_of : Called → List Word
 files_of (instrument dest files) = map path_of files
-files_of (run plan destfile workers files) = map path_of files
+files_of (run plan destfile mode files) = map path_of files
 files_of (merge destfile inputs) = inputs
 files_of (report csv name exec files) = map path_of files
 files_of (exec_info inputs) = inputs
@@ -58,12 +68,13 @@ abbrev pub IsWorkers : Option Word → ℕ → Type 0
 IsWorkers None workers = workers ≡ 1
 IsWorkers (Some text) workers = IsNumber 16 text workers
 
--- Beside its form: the files of the commands that want it are relative, and no two of the paths that the words name are
--- equal.
+-- Beside its form: the files of the commands that want it are relative, no two of the paths that the words name are equal,
+-- and none of them is that of a dump.
 pub record IsStated (c : Call) : Type 0 where
   pub form : IsCall (options_of c.name) c.uses c.files
   pub relative : IsTrue (are_relative c.name c.files)
   pub distinct : IsDistinct bytes_eq (named_paths c.uses c.files)
+  pub no_dump : NoneIsDump (value_of c.uses (codes "dumps")) (named_paths c.uses c.files)
 
 -- the option is used, with this value
 abbrev pub Has : Call → Word → Word → Type 0
@@ -71,6 +82,24 @@ Has c option value = value_of c.uses option ≡ Some value
 
 abbrev pub HasWorkers : Call → ℕ → Type 0
 HasWorkers c workers = IsWorkers (value_of c.uses (codes "workers")) workers
+
+-- the option isn't used
+abbrev pub Lacks : Call → Word → Type 0
+Lacks c option = value_of c.uses option ≡ None
+
+-- after how many cases each dump is taken: from 1 to 256
+abbrev pub HasEvery : Call → ℕ → Type 0
+HasEvery c every = (text : Word) × Has c (codes "every") text × IsNumber 256 text every
+
+-- the option is used
+abbrev pub IsUsed : Call → Word → Type 0
+IsUsed c option = (value : Word) × Has c option value
+
+-- how the cases are run: `--dumps` and `--every` come together and without `--monitors`, and with `--monitors` there is one worker
+abbrev pub HasMode : Call → Mode → Type 0
+HasMode c (plainly workers) = Lacks c (codes "monitors") × Lacks c (codes "dumps") × Lacks c (codes "every") × HasWorkers c workers
+HasMode c (dumping dir every workers) = Lacks c (codes "monitors") × Has c (codes "dumps") dir × HasEvery c every × HasWorkers c workers
+HasMode c monitored = IsUsed c (codes "monitors") × Lacks c (codes "dumps") × Lacks c (codes "every") × HasWorkers c 1
 
 abbrev pub HasFiles : Call → List FileText → Type 0
 HasFiles c files = files ≡ map file_text c.files
@@ -86,8 +115,8 @@ HasRules c rules = (text : Word) × Has c (codes "min") text × AreRules text ru
 -- the words of each command, where those options that it needs are used
 abbrev pub IsCallOf : Call → Called → Type 0
 IsCallOf c (instrument dest files) = (c.name ≡ Instrument) × Has c (codes "dest") dest × HasFiles c files
-IsCallOf c (run plan destfile workers files) =
-    (c.name ≡ Run) × Has c (codes "plan") plan × Has c (codes "destfile") destfile × HasWorkers c workers × HasFiles c files
+IsCallOf c (run plan destfile mode files) =
+    (c.name ≡ Run) × Has c (codes "plan") plan × Has c (codes "destfile") destfile × HasMode c mode × HasFiles c files
 IsCallOf c (merge destfile inputs) = (c.name ≡ Merge) × Has c (codes "destfile") destfile × (inputs ≡ c.files)
 IsCallOf c (report csv name exec files) =
     (c.name ≡ Report) × Has c (codes "csv") csv × HasName c name × (exec ≡ value_of c.uses (codes "exec")) × HasFiles c files

@@ -1,18 +1,19 @@
 -- The command that words call, decided by tests.
-use Rattle.std.specs.Prelude.{ℕ, Bool, true, false, ◌&&◌, List, [], ◌∷◌, map, codes, Option, Some, None, unwrap_or, if◌then◌else◌}
+use Rattle.std.specs.Prelude.{ℕ, Bool, true, false, not, ◌&&◌, List, [], ◌∷◌, map, codes, Option, Some, None, is_some, nat_eq, option_map, unwrap_or, if◌then◌else◌}
 use Rattle.std.specs.List.{list_all, list_any}
 use Rattle.std.specs.Str.{bytes_eq}
 use Rattle.jc_command_words.specs.declared.name.CommandName.{CommandName}
 use Rattle.jc_command_words.specs.declared.name.CommandName.TheVariants.{Instrument, Run, Merge, Report, ExecInfo, ClassInfo, Cover, Refs, Lines, Check}
-use Rattle.jc_command_words.specs.Words.{Word, Use, is_plain, value_of}
+use Rattle.jc_command_words.specs.Words.{Word, Use, is_plain, is_valued, value_of}
 use Rattle.jc_command_words.specs.Forms.{options_of, named}
 use Rattle.jc_paths.specs.Paths.{file_text}
 use Rattle.jc_command_words.specs.Paths.{are_relative, named_paths, are_distinct}
+use Rattle.jc_command_words.specs.Dumps.{has_dump}
 use Rattle.jc_command_words.specs.Numbers.{number_up_to}
 use Rattle.jc_command_words.specs.RulesRead.{rules_of}
 use Rattle.jc_rules.specs.declared.rule.Rule.{Rule}
 use Rattle.jc_command_words.specs.Scan.{Scan, scan}
-use Rattle.jc_command_words.specs.Commands.{Called, instrument, run, merge, report, exec_info, class_info, cover, cover_sample, refs, lines, check, default_name}
+use Rattle.jc_command_words.specs.Commands.{Mode, plainly, dumping, monitored, Called, instrument, run, merge, report, exec_info, class_info, cover, cover_sample, refs, lines, check, default_name}
 
 abbrev pub is_some_file : List Word → Bool
 is_some_file [] = false
@@ -22,11 +23,14 @@ abbrev pub is_call : List Word → Scan → Bool
 is_call options s =
     list_all (λ u. list_any (bytes_eq u.name) options) s.uses
     && (are_distinct (map (λ u. u.name) s.uses)
-    && (list_all (λ u. is_plain u.value) s.uses && (list_all is_plain s.files && is_some_file s.files)))
+    && (list_all is_valued s.uses && (list_all is_plain s.files && is_some_file s.files)))
+
+-- no two of the paths that the words name are equal, and none is that of a dump
+abbrev pub are_apart : List Use → List Word → Bool
+are_apart uses files = are_distinct (named_paths uses files) && not (has_dump (value_of uses (codes "dumps")) (named_paths uses files))
 
 abbrev pub is_stated : CommandName → Scan → Bool
-is_stated name s =
-    is_call (options_of name) s && (are_relative name s.files && are_distinct (named_paths s.uses s.files))
+is_stated name s = is_call (options_of name) s && (are_relative name s.files && are_apart s.uses s.files)
 
 -- what the options are given, and the files
 pub record Values : Type 0 where
@@ -35,6 +39,9 @@ pub record Values : Type 0 where
   pub destfile : Option Word
   pub csv : Option Word
   pub workers : Option Word
+  pub dumps : Option Word
+  pub every : Option Word
+  pub monitors : Bool
   pub name : Option Word
   pub exec : Option Word
   pub min : Option Word
@@ -47,6 +54,9 @@ values_of uses files = record {
   destfile = value_of uses (codes "destfile");
   csv = value_of uses (codes "csv");
   workers = value_of uses (codes "workers");
+  dumps = value_of uses (codes "dumps");
+  every = value_of uses (codes "every");
+  monitors = is_some (value_of uses (codes "monitors"));
   name = value_of uses (codes "name");
   exec = value_of uses (codes "exec");
   min = value_of uses (codes "min");
@@ -64,8 +74,28 @@ abbrev pub instrument_with : Option Word → List Word → Option Called
 instrument_with (Some dest) files = Some (instrument dest (map file_text files))
 instrument_with None files = None
 
-abbrev pub run_with : (plan destfile : Option Word) → Option ℕ → List Word → Option Called
-run_with (Some plan) (Some destfile) (Some workers) files = Some (run plan destfile workers (map file_text files))
+-- how the cases are run, by what `--dumps` and `--every` are given
+abbrev pub mode_on : (dumps every : Option Word) → (workers : ℕ) → Option Mode
+mode_on None None workers = Some (plainly workers)
+mode_on None (Some text) workers = None
+mode_on (Some dir) None workers = None
+mode_on (Some dir) (Some text) workers = option_map (λ every. dumping dir every workers) (number_up_to 256 text)
+
+-- with monitors, on one worker and without dumps
+abbrev pub mode_of : (dumps every : Option Word) → (workers : ℕ) → Option Mode
+mode_of None None workers = if nat_eq workers 1 then Some monitored else None
+mode_of _ _ workers = None
+
+abbrev pub mode_with : Bool → (dumps every : Option Word) → Option ℕ → Option Mode
+mode_with monitors dumps every None = None
+mode_with false dumps every (Some workers) = mode_on dumps every workers
+mode_with true dumps every (Some workers) = mode_of dumps every workers
+
+abbrev pub mode_in : Values → Option Mode
+mode_in v = mode_with v.monitors v.dumps v.every (workers_in v.workers)
+
+abbrev pub run_with : (plan destfile : Option Word) → Option Mode → List Word → Option Called
+run_with (Some plan) (Some destfile) (Some mode) files = Some (run plan destfile mode (map file_text files))
 run_with _ _ _ files = None
 
 abbrev pub merge_with : Option Word → List Word → Option Called
@@ -91,7 +121,7 @@ check_with None exec files = None
 
 abbrev pub command_with : CommandName → Values → Option Called
 command_with Instrument v = instrument_with v.dest v.files
-command_with Run v = run_with v.plan v.destfile (workers_in v.workers) v.files
+command_with Run v = run_with v.plan v.destfile (mode_in v) v.files
 command_with Merge v = merge_with v.destfile v.files
 command_with Report v = report_with v.csv (name_in v.name) v.exec v.files
 command_with ExecInfo v = Some (exec_info v.files)

@@ -4,7 +4,7 @@ use Rattle.std.specs.List.{list_all, list_any, IsDistinct}
 use Rattle.std.specs.Str.{bytes_eq}
 use Rattle.jc_command_words.specs.declared.name.CommandName.{CommandName}
 use Rattle.jc_command_words.specs.declared.name.CommandName.TheVariants.{Instrument, Run, Merge, Report, ExecInfo, ClassInfo, Cover, Refs, Lines, Check}
-use Rattle.jc_command_words.specs.Words.{Word, Use, is_plain, rest_words}
+use Rattle.jc_command_words.specs.Words.{Word, Use, is_plain, is_valued, rest_words}
 
 abbrev pub text_of : CommandName → Word
 text_of Instrument = codes "instrument"
@@ -36,7 +36,7 @@ named word =
 -- the options of a command, without their `--`
 abbrev pub options_of : CommandName → List Word
 options_of Instrument = codes "dest" ∷ []
-options_of Run = codes "plan" ∷ codes "destfile" ∷ codes "workers" ∷ []
+options_of Run = codes "plan" ∷ codes "destfile" ∷ codes "workers" ∷ codes "dumps" ∷ codes "every" ∷ codes "monitors" ∷ []
 options_of Merge = codes "destfile" ∷ []
 options_of Report = codes "csv" ∷ codes "name" ∷ codes "exec" ∷ []
 options_of ExecInfo = []
@@ -46,12 +46,12 @@ options_of Refs = []
 options_of Lines = codes "exec" ∷ []
 options_of Check = codes "min" ∷ codes "exec" ∷ []
 
--- Each use is of one of the options, no option is used twice, no value and no file is empty or begins with `-`, and there
--- is a file.
+-- Each use is of one of the options, no option is used twice, a flag has no value, no other value and no file is empty or begins
+-- with `-`, and there is a file.
 pub record IsCall (options : List Word) (uses : List Use) (files : List Word) : Type 0 where
   pub known : IsTrue (list_all (λ u. list_any (bytes_eq u.name) options) uses)
   pub once : IsDistinct bytes_eq (map (λ u. u.name) uses)
-  pub values : IsTrue (list_all (λ u. is_plain u.value) uses)
+  pub values : IsTrue (list_all is_valued uses)
   pub plain_files : IsTrue (list_all is_plain files)
   pub some_file : files ≢ []
 

@@ -4,6 +4,7 @@ pub mod Paths
 pub mod Numbers
 pub mod RulesText
 pub mod RulesRead
+pub mod Dumps
 pub mod Scan
 pub mod Spelled
 pub mod Looks

@@ -1,5 +1,5 @@
 -- The commands and options of the command line, as they are told to the reader of words.
-use Rattle.std.specs.Prelude.{true, List, Some, codes, fold}
+use Rattle.std.specs.Prelude.{true, List, [], ◌∷◌, Some, codes, fold, if◌then◌else◌}
 use Rattle.clap.specs.Walk.{Rule, Text}
 use Rattle.clap.specs.Simple.{App, new_app, new_rule, new_shape, with_rule, with_subcommand}
 use Rattle.clap.specs.Lexer.{usize_max}
@@ -8,10 +8,21 @@ use Rattle.jc_command_words.specs.declared.name.CommandName.{CommandName}
 use Rattle.jc_command_words.specs.declared.name.CommandName.TheVariants.{Instrument, Run, Merge, Report, ExecInfo, ClassInfo, Cover, Refs, Lines, Check}
 use Rattle.jc_command_words.specs.Forms.{text_of}
 use Rattle.jc_command_words.specs.Taken.{taken_options}
+use Rattle.jc_command_words.specs.Words.{is_flag}
 
 -- an option with a value
 abbrev pub option_rule : Text → Rule
 option_rule name = record (new_rule name) { long = Some name; action = Some Set }
+
+-- an option without a value, whose use counts as one with an empty value
+abbrev pub flag_rule : Text → Rule
+flag_rule name = record (option_rule name) {
+  range = Some (record { start_inclusive = 0; end_inclusive = 0 });
+  missing = [] ∷ [];
+}
+
+abbrev pub rule_for : Text → Rule
+rule_for name = if is_flag name then flag_rule name else option_rule name
 
 -- the files, one or more
 abbrev pub file_rule : Rule
@@ -20,7 +31,7 @@ file_rule = record (new_rule (codes "FILE")) {
 }
 
 abbrev pub with_option : App → Text → App
-with_option app name = with_rule app (option_rule name)
+with_option app name = with_rule app (rule_for name)
 
 -- the command of this name, with these options and with files
 abbrev pub app_with : Text → List Text → App

@@ -1,7 +1,7 @@
 -- How words are cut into uses of options, `--` and files, by their looks alone.
 use Rattle.std.specs.Prelude.{ℕ, Bool, true, false, ◌==◌, ◌&&◌, List, [], ◌∷◌, Option, Some, None, if◌then◌else◌, option_map}
 use Rattle.std.specs.List.{list_any, before_first, after_first}
-use Rattle.jc_command_words.specs.Words.{Use, Word}
+use Rattle.jc_command_words.specs.Words.{Use, Word, is_flag}
 
 pub record Scan : Type 0 where
   pub uses : List Use
@@ -32,11 +32,12 @@ added u = option_map {T = Scan} (λ s. record s { uses = u ∷ s.uses })
 
 abbrev pub scan_kind : Kind → Word → List Word → (Option Word → Option Scan) → Option Scan
 scan_kind dashes w rest next = Some (record { uses = []; dash = true; files = rest })
-scan_kind (named n) w rest next = next (Some n)
+scan_kind (named n) w rest next =
+    if is_flag n then added (record { name = n; value = []; joined = false }) (next None) else next (Some n)
 scan_kind (joined n v) w rest next = added (record { name = n; value = v; joined = true }) (next None)
 scan_kind other w rest next = Some (record { uses = []; dash = false; files = w ∷ rest })
 
--- the words behind an option's name that waits for its value, if one does
+-- the words behind the name of an option with a value that waits for it, if one does
 unfoldable pub scan : Option Word → List Word → Option Scan
 scan None [] = Some (record { uses = []; dash = false; files = [] })
 scan (Some n) [] = None

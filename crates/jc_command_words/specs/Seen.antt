@@ -5,6 +5,8 @@ use Rattle.jc_command_words.specs.declared.command.Command.{Command}
 use Rattle.jc_command_words.specs.declared.command.Command.TheVariants as commands
 use Rattle.jc_command_words.specs.declared.command.Given.{Given}
 use Rattle.jc_command_words.specs.declared.words.InstrumentWords.{InstrumentWords}
+use Rattle.jc_command_words.specs.declared.words.RunMode.{RunMode}
+use Rattle.jc_command_words.specs.declared.words.RunMode.TheVariants as modes
 use Rattle.jc_command_words.specs.declared.words.RunWords.{RunWords}
 use Rattle.jc_command_words.specs.declared.words.MergeWords.{MergeWords}
 use Rattle.jc_command_words.specs.declared.words.ReportWords.{ReportWords}
@@ -12,7 +14,7 @@ use Rattle.jc_command_words.specs.declared.words.CoverWords.{CoverWords}
 use Rattle.jc_command_words.specs.declared.words.LinesWords.{LinesWords}
 use Rattle.jc_command_words.specs.declared.words.CheckWords.{CheckWords}
 use Rattle.jc_command_words.specs.Words.{Word}
-use Rattle.jc_command_words.specs.Commands.{Called, instrument, run, merge, report, exec_info, class_info, cover, cover_sample, refs, lines, check}
+use Rattle.jc_command_words.specs.Commands.{Mode, plainly, dumping, monitored, Called, instrument, run, merge, report, exec_info, class_info, cover, cover_sample, refs, lines, check}
 use Rattle.jc_command_words.specs.Decide.{Values}
 use Rattle.jc_paths.specs.Looks.{file_view}
 
@@ -29,6 +31,9 @@ given_seen g = record {
   destfile = text_seen g.destfile;
   csv = text_seen g.csv;
   workers = text_seen g.workers;
+  dumps = text_seen g.dumps;
+  every = text_seen g.every;
+  monitors = g.monitors;
   name = text_seen g.name;
   exec = text_seen g.exec;
   min = text_seen g.min;
@@ -39,8 +44,13 @@ given_seen g = record {
 abbrev pub instrument_called : InstrumentWords → Called
 instrument_called w = instrument w.dest.now (map file_view w.files.items)
 
+abbrev pub mode_seen : RunMode → Mode
+mode_seen (modes.Plain workers) = plainly workers
+mode_seen (modes.Dumping dir every workers) = dumping dir.now every workers
+mode_seen modes.Monitored = monitored
+
 abbrev pub run_called : RunWords → Called
-run_called w = run w.plan.now w.destfile.now w.workers (map file_view w.files.items)
+run_called w = run w.plan.now w.destfile.now (mode_seen w.mode) (map file_view w.files.items)
 
 abbrev pub merge_called : MergeWords → Called
 merge_called w = merge w.destfile.now (texts_seen w.inputs.items)

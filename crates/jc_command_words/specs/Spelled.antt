@@ -4,7 +4,7 @@ use Rattle.std.specs.List.{filter}
 use Rattle.std.specs.Str.{bytes_eq}
 use Rattle.clap.specs.Matches.{first_value}
 use Rattle.clap.specs.declared.parser.matches.Found.{Found}
-use Rattle.jc_command_words.specs.Words.{Word}
+use Rattle.jc_command_words.specs.Words.{Word, is_flag}
 use Rattle.jc_command_words.specs.Scan.{Scan, added}
 
 abbrev pub named_word : Word → Word
@@ -18,13 +18,17 @@ abbrev pub value_at : Word → List Word → Option (Bool × List Word)
 value_at value [] = None
 value_at value (w ∷ words) = if bytes_eq w value then Some (false, words) else None
 
--- whether the words begin with a joined use of the option with this value, or with a use of two words; and the words
--- behind it
+-- what is behind the name of an option that stands in a word of its own: a flag has no value
+abbrev pub named_at : Bool → Word → List Word → Option (Bool × List Word)
+named_at flag value words = if flag then Some (false, words) else value_at value words
+
+-- whether the words begin with a joined use of the option with this value, or with a use of two words or of a flag; and the
+-- words behind it
 abbrev pub use_at : Word → Word → List Word → Option (Bool × List Word)
 use_at name value [] = None
 use_at name value (w ∷ words) =
     if bytes_eq w (joined_word name value) then Some (true, words)
-    else if bytes_eq w (named_word name) then value_at value words else None
+    else if bytes_eq w (named_word name) then named_at (is_flag name) value words else None
 
 -- perhaps `--`, and files
 abbrev pub tail_at : List Word → Scan

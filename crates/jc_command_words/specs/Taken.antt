@@ -4,7 +4,7 @@ use Rattle.std.specs.List.{list_all, list_any, IsDistinct}
 use Rattle.std.specs.Str.{bytes_eq}
 use Rattle.jc_command_words.specs.declared.name.CommandName.{CommandName}
 use Rattle.jc_command_words.specs.declared.name.CommandName.TheVariants.{Instrument, Run, Merge, Report, ExecInfo, ClassInfo, Cover, Refs, Lines, Check}
-use Rattle.jc_command_words.specs.Words.{Word, Use, is_plain}
+use Rattle.jc_command_words.specs.Words.{Word, Use, is_plain, is_valued}
 use Rattle.jc_command_words.specs.Forms.{options_of}
 
 -- the options that clap is told of
@@ -20,9 +20,10 @@ taken_options Refs = options_of Refs
 taken_options Lines = options_of Lines
 taken_options Check = options_of Check
 
--- each use is of one of the options, no option is used twice, and no value and no file is empty or begins with `-`
+-- each use is of one of the options, no option is used twice, a flag has no value, and no other value and no file is empty or begins
+-- with `-`
 pub record IsTaken (options : List Word) (uses : List Use) (files : List Word) : Type 0 where
   pub known : IsTrue (list_all (λ u. list_any (bytes_eq u.name) options) uses)
   pub once : IsDistinct bytes_eq (map (λ u. u.name) uses)
-  pub values : IsTrue (list_all (λ u. is_plain u.value) uses)
+  pub values : IsTrue (list_all is_valued uses)
   pub plain_files : IsTrue (list_all is_plain files)

@@ -3,15 +3,16 @@ ghost use Rattle.std.specs.Prelude.{◌≡◌, IfOk, map, string_bytes};
 ghost use Rattle.std.specs.Option.{option_map};
 ghost use Rattle.std.specs.List.{list_all, list_any};
 ghost use Rattle.std.specs.Str.{bytes_eq};
-ghost use Rattle.jc_command_words.specs.Words.{is_plain, value_of, words_of};
-ghost use Rattle.jc_command_words.specs.Paths.{are_distinct, are_relative, named_paths, wants_relative};
+ghost use Rattle.jc_command_words.specs.Words.{is_plain, is_valued, value_of, words_of};
+ghost use Rattle.jc_command_words.specs.Paths.{are_distinct, are_relative, wants_relative};
 ghost use Rattle.jc_command_words.specs.Forms.{options_of};
-ghost use Rattle.jc_command_words.specs.Decide.{is_call, is_stated, values_of};
+ghost use Rattle.jc_command_words.specs.Decide.{are_apart, is_call, is_stated, values_of};
 ghost use Rattle.jc_command_words.specs.Looks.{scan_view, used_view};
 ghost use Rattle.jc_command_words.specs.Seen.{given_seen, texts_seen};
 
 use crate::command::Given;
-use crate::name::{CommandName, options_of};
+use crate::dumps::has_dump;
+use crate::name::{CommandName, is_flag, options_of};
 use crate::paths::{all_relative, are_distinct, named_paths, targets_in};
 use crate::scan::{Scanned, Used};
 use jc_bytes::Memory;
@@ -59,11 +60,22 @@ pub fn is_plain(word: &str) -> bool
     !matches!(word.as_bytes(), [] | [b'-', ..])
 }
 
-/// Whether each value is such a word.
-fn values_are_plain(uses: &[Used<'_>]) -> bool
-    ensures { result ≡ list_all (λ u. is_plain u.value.now) uses.now }
+/// Whether the value is such a word, or, of a flag, there is none.
+fn is_valued(used: &Used<'_>) -> bool
+    ensures { result ≡ is_valued (used_view used.now) }
 {
-    uses.iter().all(|u| is_plain(u.value))
+    if is_flag(used.name) {
+        !used.joined && used.value.is_empty()
+    } else {
+        is_plain(used.value)
+    }
+}
+
+/// Whether each value is so.
+fn are_valued(uses: &[Used<'_>]) -> bool
+    ensures { result ≡ list_all (λ u. is_valued (used_view u)) uses.now }
+{
+    uses.iter().all(|used| is_valued(used))
 }
 
 /// Whether each file is such a word.
@@ -82,7 +94,7 @@ pub fn is_call(name: CommandName, words: &Scanned<'_>) -> bool
         return false;
     }
     let once = once(uses);
-    let values = values_are_plain(uses);
+    let values = are_valued(uses);
     let files = files_are_plain(words.files);
     once & (values & (files & !words.files.is_empty()))
 }
@@ -121,6 +133,9 @@ pub fn given_in<'a>(alloc: Global, words: &Scanned<'a>) -> Result<Given<'a>, Mem
         destfile: value_of(&words.uses, "destfile"),
         csv: value_of(&words.uses, "csv"),
         workers: value_of(&words.uses, "workers"),
+        dumps: value_of(&words.uses, "dumps"),
+        every: value_of(&words.uses, "every"),
+        monitors: value_of(&words.uses, "monitors").is_some(),
         name: value_of(&words.uses, "name"),
         exec: value_of(&words.uses, "exec"),
         min: value_of(&words.uses, "min"),
@@ -153,17 +168,22 @@ fn are_relative(name: CommandName, files: &[String]) -> bool
     !wants_relative(name) || all_relative(files)
 }
 
-/// Whether no two of the paths that words name are equal.
+/// Whether no two of the paths that words name are equal, and none is that of a dump.
 fn are_apart(alloc: Global, words: &Scanned<'_>) -> Result<bool, Memory>
-    ensures { IfOk result (λ apart. apart ≡ are_distinct (named_paths (scan_view words.now).uses (scan_view words.now).files)) }
+    ensures { IfOk result (λ apart. apart ≡ are_apart (scan_view words.now).uses (scan_view words.now).files) }
 {
     let dest = value_of(&words.uses, "dest");
     let targets = targets_in(alloc, dest, words.files)?;
     let paths = named_paths(alloc, &words.uses, words.files, &targets)?;
-    are_distinct(alloc, &paths)
+    if !are_distinct(alloc, &paths)? {
+        return Ok(false);
+    }
+    let dumps = value_of(&words.uses, "dumps");
+    let has_dump = has_dump(alloc, dumps, &paths)?;
+    Ok(!has_dump)
 }
 
-/// Whether words that were cut are those of a command, but for the options that must be there and the number of workers.
+/// Whether words that were cut are those of a command, but for the options that must be there and the numbers among them.
 pub fn is_stated(alloc: Global, name: CommandName, words: &Scanned<'_>) -> Result<bool, Memory>
     ensures { IfOk result (λ stated. stated ≡ is_stated name (scan_view words.now)) }
 {

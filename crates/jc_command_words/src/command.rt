@@ -3,16 +3,17 @@ ghost use Rattle.std.specs.Prelude.{◌≡◌, IfOk, map};
 ghost use Rattle.std.specs.Option.{option_map};
 ghost use Rattle.jc_paths.specs.Paths.{file_text};
 ghost use Rattle.jc_command_words.specs.Commands.{lines};
-ghost use Rattle.jc_command_words.specs.Decide.{check_with, command_with, cover_with, instrument_with, merge_with, methods_in, name_in, report_with, rules_given, run_with, workers_in};
+ghost use Rattle.jc_command_words.specs.Decide.{check_with, command_with, cover_with, instrument_with, merge_with, methods_in, mode_in, name_in, report_with, rules_given, run_with, workers_in};
 ghost use Rattle.jc_paths.specs.Looks.{file_view};
-ghost use Rattle.jc_command_words.specs.Seen.{command_seen, given_seen, text_seen};
+ghost use Rattle.jc_command_words.specs.Seen.{command_seen, given_seen, mode_seen, text_seen};
 ghost use Rattle.jc_command_words.specs.RulesOutcome.{rules_seen};
 
+use crate::dumps::MOST_DUMPS;
 use crate::name::CommandName;
 use crate::number::number_up_to;
 use crate::rules::rules_in;
 use crate::words::{
-    CheckWords, CoverWords, InstrumentWords, LinesWords, MergeWords, ReportWords, RunWords,
+    CheckWords, CoverWords, InstrumentWords, LinesWords, MergeWords, ReportWords, RunMode, RunWords,
 };
 use jc_bytes::Memory;
 use jc_paths::{FileWord, file_word};
@@ -54,6 +55,9 @@ pub struct Given<'a> {
     pub destfile: Option<&'a str>,
     pub csv: Option<&'a str>,
     pub workers: Option<&'a str>,
+    pub dumps: Option<&'a str>,
+    pub every: Option<&'a str>,
+    pub monitors: bool,
     pub name: Option<&'a str>,
     pub exec: Option<&'a str>,
     pub min: Option<&'a str>,
@@ -121,9 +125,35 @@ fn instrument_with<'a>(alloc: Global, given: &Given<'a>) -> Result<Option<Comman
     Ok(Some(Command::Instrument(InstrumentWords { dest, files })))
 }
 
+/// How the cases are run. There is no answer where `--dumps` or `--every` is given without the other, a number isn't within its
+/// bounds, or `--monitors` is given with dumps or more than one worker.
+fn mode_in<'a>(given: &Given<'a>) -> Option<RunMode<'a>>
+    ensures { option_map mode_seen result ≡ mode_in (given_seen given.now) }
+{
+    let workers = workers_in(given.workers)?;
+    if given.monitors {
+        return match (given.dumps, given.every) {
+            (None, None) if workers == 1 => Some(RunMode::Monitored),
+            _ => None,
+        };
+    }
+    match (given.dumps, given.every) {
+        (None, None) => Some(RunMode::Plain { workers }),
+        (Some(dir), Some(text)) => {
+            let every = number_up_to(MOST_DUMPS, text)?;
+            Some(RunMode::Dumping {
+                dir,
+                every,
+                workers,
+            })
+        }
+        _ => None,
+    }
+}
+
 fn run_with<'a>(alloc: Global, given: &Given<'a>) -> Result<Option<Command<'a>>, Memory>
     ensures { IfOk result (λ o. option_map command_seen o
-        ≡ run_with (given_seen given.now).plan (given_seen given.now).destfile (workers_in (given_seen given.now).workers) (given_seen given.now).files) }
+        ≡ run_with (given_seen given.now).plan (given_seen given.now).destfile (mode_in (given_seen given.now)) (given_seen given.now).files) }
 {
     let Some(plan) = given.plan else {
         return Ok(None);
@@ -131,14 +161,14 @@ fn run_with<'a>(alloc: Global, given: &Given<'a>) -> Result<Option<Command<'a>>,
     let Some(destfile) = given.destfile else {
         return Ok(None);
     };
-    let Some(workers) = workers_in(given.workers) else {
+    let Some(mode) = mode_in(given) else {
         return Ok(None);
     };
     let files = file_words(alloc, &given.files)?;
     Ok(Some(Command::Run(RunWords {
         plan,
         destfile,
-        workers,
+        mode,
         files,
     })))
 }
@@ -240,8 +270,8 @@ fn check_with<'a>(alloc: Global, given: &Given<'a>) -> Result<Option<Command<'a>
     })))
 }
 
-/// The command of this name with these values and files. There is none where an option that it needs isn't given, the
-/// number of workers isn't from 1 to 16, or the rules are none.
+/// The command of this name with these values and files. There is none where an option that it needs isn't given, a number
+/// isn't within its bounds, or the rules are none.
 pub fn command_with<'a>(
     alloc: Global,
     name: CommandName,

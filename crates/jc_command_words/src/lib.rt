@@ -3,6 +3,7 @@
 
 mod call;
 mod command;
+mod dumps;
 mod name;
 mod number;
 mod paths;
@@ -17,5 +18,5 @@ pub use jc_paths::FileWord;
 pub use read::{Usage, each_list_of_words_calls_one_command, read_words};
 pub use rules::rules_in;
 pub use words::{
-    CheckWords, CoverWords, InstrumentWords, LinesWords, MergeWords, ReportWords, RunWords,
+    CheckWords, CoverWords, InstrumentWords, LinesWords, MergeWords, ReportWords, RunMode, RunWords,
 };

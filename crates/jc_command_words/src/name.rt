@@ -1,6 +1,7 @@
 //! The commands, by their names, and the options of each.
 ghost use Rattle.std.specs.Prelude.{◌≡◌, map};
 ghost use Rattle.jc_command_words.specs.Forms.{named, options_of};
+ghost use Rattle.jc_command_words.specs.Words.{is_flag};
 
 /// The name of a command.
 #[derive(Clone, Copy, Debug, PartialEq, Eq)]
@@ -36,13 +37,20 @@ pub fn name_of(word: &str) -> Option<CommandName>
     }
 }
 
+/// Whether the name is that of a flag, an option without a value.
+pub fn is_flag(name: &str) -> bool
+    ensures { result ≡ is_flag name.now }
+{
+    name == "monitors"
+}
+
 /// The options of a command, without their `--`.
 pub fn options_of(name: CommandName) -> &'static [&'static str]
     ensures { map (λ o. o.now) result.now ≡ options_of name }
 {
     match name {
         CommandName::Instrument => &["dest"],
-        CommandName::Run => &["plan", "destfile", "workers"],
+        CommandName::Run => &["plan", "destfile", "workers", "dumps", "every", "monitors"],
         CommandName::Merge => &["destfile"],
         CommandName::Report => &["csv", "name", "exec"],
         CommandName::ExecInfo => &[],

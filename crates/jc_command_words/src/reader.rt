@@ -3,12 +3,12 @@ ghost use Rattle.std.specs.Prelude.{◌≡◌, ◌<◌, ◌^◌, false, fold, le
 ghost use Rattle.clap.specs.Simple.{with_rule};
 ghost use Rattle.clap.specs.Words.{app_of, rule_of};
 ghost use Rattle.clap.specs.declared.builder.command.Command.TheViews.{out-Command};
-ghost use Rattle.jc_command_words.specs.Reader.{app_with, bare_app, file_rule, first_commands_app, jcov_app, more_commands_app, most_commands_app, option_rule, with_option};
+ghost use Rattle.jc_command_words.specs.Reader.{app_with, bare_app, file_rule, first_commands_app, flag_rule, jcov_app, more_commands_app, most_commands_app, option_rule, rule_for, with_option};
 ghost use Rattle.jc_command_words.specs.Words.{words_of};
 ghost use Rattle.jc_command_words.specs.Looks.{call_seen};
 ghost use Rattle.jc_command_words.specs.Reads.{CallCut, MatchesIf};
 
-use crate::name::{CommandName, name_of};
+use crate::name::{CommandName, is_flag, name_of};
 use crate::scan::{Scanned, scan_found};
 use clap::error::ErrorKind;
 use clap::{Arg, ArgAction, ArgMatches, Command};
@@ -21,6 +21,26 @@ fn option<'a>(alloc: Global, name: &'a str) -> Arg<'a>
     ensures local { result.global ≡ false }
 {
     Arg::new(alloc, name).long(name).action(ArgAction::Set)
+}
+
+/// An option without a value: its use counts as one with an empty value.
+fn flag<'a>(alloc: Global, name: &'a str) -> Arg<'a>
+    ensures rule { rule_of result ≡ flag_rule name.entry.now }
+    ensures local { result.global ≡ false }
+{
+    option(alloc, name).num_args(0).default_missing_value("")
+}
+
+/// An option with a value, or a flag.
+fn any_option<'a>(alloc: Global, name: &'a str) -> Arg<'a>
+    ensures rule { rule_of result ≡ rule_for name.entry.now }
+    ensures local { result.global ≡ false }
+{
+    if is_flag(name) {
+        flag(alloc, name)
+    } else {
+        option(alloc, name)
+    }
 }
 
 /// The files, one or more.
@@ -45,7 +65,7 @@ fn told<'a>(
     match options {
         [] => command.arg(files(alloc)),
         [first, behind @ ..] => {
-            let command = command.arg(option(alloc, *first))?;
+            let command = command.arg(any_option(alloc, *first))?;
             told(alloc, command, behind)
         }
     }
@@ -75,7 +95,8 @@ fn first_commands<'a>(alloc: Global) -> Result<Command<'a>, AllocError>
     ensures local { IfOk result (λ c. (out-Command c).has_globals ≡ false) }
 {
     let instrument = command(alloc, "instrument", &["dest"])?;
-    let run = command(alloc, "run", &["plan", "destfile", "workers"])?;
+    let options = ["plan", "destfile", "workers", "dumps", "every", "monitors"];
+    let run = command(alloc, "run", &options)?;
     let merge = command(alloc, "merge", &["destfile"])?;
     bare(alloc)
         .subcommand(instrument)?

@@ -7,11 +7,12 @@ ghost use Rattle.jc_command_words.specs.Words.{words_of};
 ghost use Rattle.jc_command_words.specs.Spelled.{joined_word, named_word, options_found, spelled, tail_at, use_at};
 ghost use Rattle.jc_command_words.specs.Looks.{scan_view, tail_view};
 
+use crate::name::is_flag;
 use clap::ArgMatches;
 use jc_bytes::Memory;
 use std::alloc::Global;
 
-/// One use of an option.
+/// One use of an option. A flag's value is empty.
 #[derive(Drop)]
 pub struct Used<'a> {
     pub name: &'a str,
@@ -66,8 +67,8 @@ fn is_joined(word: &str, name: &str, value: &str) -> bool
     }
 }
 
-/// Whether the words begin with a joined use of the option with this value, or with a use of two words; and the words
-/// behind it.
+/// Whether the words begin with a joined use of the option with this value, or with a use of two words or of a flag; and the
+/// words behind it.
 fn use_at<'w>(words: &'w [String], name: &str, value: &str) -> Option<(bool, &'w [String])>
     ensures { option_map (λ p. (p.0, words_of p.1.now)) result ≡ use_at name.now value.now (words_of words.entry.now) }
 {
@@ -77,6 +78,9 @@ fn use_at<'w>(words: &'w [String], name: &str, value: &str) -> Option<(bool, &'w
     }
     if !is_named(word.as_str(), name) {
         return None;
+    }
+    if is_flag(name) {
+        return Some((false, behind));
     }
     let (next, behind) = behind.split_first()?;
     if next.as_str() == value {

@@ -12,6 +12,23 @@ pub struct InstrumentWords<'a> {
     pub files: Vec<FileWord<'a>>,
 }
 
+/// How the cases of a run plan are run.
+#[derive(Clone, Copy, Debug, PartialEq, Eq)]
+pub enum RunMode<'a> {
+    /// On so many threads.
+    Plain {
+        workers: u32,
+    },
+    /// On so many threads. Each time that `every` more cases have ended, what was hit is taken and goes to a file of the folder `dir`.
+    Dumping {
+        dir: &'a str,
+        every: u32,
+        workers: u32,
+    },
+    /// On one thread, with monitors.
+    Monitored,
+}
+
 /// What the words of `run` say.
 #[derive(Drop)]
 pub struct RunWords<'a> {
@@ -19,8 +36,8 @@ pub struct RunWords<'a> {
     pub plan: &'a str,
     /// The file to which the execution data goes.
     pub destfile: &'a str,
-    /// How many threads run cases.
-    pub workers: u32,
+    /// How the cases are run.
+    pub mode: RunMode<'a>,
     /// The class files.
     pub files: Vec<FileWord<'a>>,
 }

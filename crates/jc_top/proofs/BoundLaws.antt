@@ -6,7 +6,7 @@ use Rattle.std.specs.List.{list_all}
 use Rattle.jc_command_words.specs.Words.{Word}
 use Rattle.jc_command_words.specs.Numbers.{is_decimal, one_more_digit, decimal_value, IsNumber}
 use Rattle.jc_command_words.specs.Forms.{Call}
-use Rattle.jc_command_words.specs.Commands.{Called, instrument, run, merge, report, exec_info, class_info, cover, cover_sample, refs, lines, check, IsWorkers, IsCallOf, Means, by_call, by_sample}
+use Rattle.jc_command_words.specs.Commands.{Mode, plainly, dumping, monitored, Called, instrument, run, merge, report, exec_info, class_info, cover, cover_sample, refs, lines, check, IsWorkers, HasMode, IsCallOf, Means, by_call, by_sample}
 use Rattle.jc_bytes.specs.declared.fail.Fail.{Fail}
 use Rattle.jc_bytes.specs.Digits.{is_digit}
 use Rattle.jc_command_words.specs.declared.command.Command.{Command}
@@ -14,7 +14,7 @@ use Rattle.jc_command_words.specs.declared.read.Usage.{Usage}
 use Rattle.jc_command_words.specs.Outcome.{CommandRead}
 use Rattle.jc_command_words.specs.Seen.{command_seen}
 use Rattle.jc_command_words.proofs.NumberLaws.{grows}
-use Rattle.jc_top.specs.Bounds.{IsBounded}
+use Rattle.jc_top.specs.Bounds.{IsBounded, IsBoundedMode}
 
 -- a digit that isn't 0
 digit_not_zero : (b : ℕ) → not (nat_eq b 48) ≡ true → is_digit b ≡ true → 1 ≤ b - 48
@@ -36,9 +36,14 @@ workers_within : (given : Option Word) (workers : ℕ) → IsWorkers given worke
 workers_within None workers one = (omega (arith, one), omega (arith, one))
 workers_within (Some text) workers number = within 16 text workers number
 
+mode_bounded : (c : Call) (mode : Mode) → HasMode c mode → IsBoundedMode mode
+mode_bounded c (plainly workers) has = workers_within _ workers has.3
+mode_bounded c (dumping dir every workers) has = let number = has.2 in (within 256 number.0 every number.2, workers_within _ workers has.3)
+mode_bounded c monitored has = tt
+
 call_bounded : (c : Call) (command : Called) → IsCallOf c command → IsBounded command
 call_bounded c (instrument dest files) is = tt
-call_bounded c (run plan destfile workers files) is = workers_within _ workers is.3
+call_bounded c (run plan destfile mode files) is = mode_bounded c mode is.3
 call_bounded c (merge destfile inputs) is = tt
 call_bounded c (report csv name exec files) is = tt
 call_bounded c (exec_info inputs) is = tt

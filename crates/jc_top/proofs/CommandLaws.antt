@@ -17,7 +17,7 @@ use Rattle.jc_command_work.proofs.Behind.{came_then, began_then, broke_then, sto
 use Rattle.jc_command_work.proofs.Ends.{ends_done, ends_stopped}
 use Rattle.jc_command_work.proofs.Reaching.{reached_start, ran_last, was_decided, was_ended}
 use Rattle.jc_top.specs.Completes.{Completes, CompletesListing}
-use Rattle.jc_top.specs.Work.{on_files, work_of, IsUsage, the_work}
+use Rattle.jc_top.specs.Work.{DumpsAnswers, on_files, work_with, IsUsage, the_work_with}
 
 -- ---- one part in front of a command
 
@@ -117,17 +117,18 @@ module _ (landed : Landed) (files : List FileText) (Answers : List Word → List
 
 -- ---- the words
 
-module _ (landed : Landed) (words : List Word) (old new : Outside) (f f' : Counts) (s : Status) where
+module _ (Dumps : DumpsAnswers) (landed : Landed) (words : List Word) (old new : Outside) (f f' : Counts) (s : Status) where
   -- the words call the command, which ended so
-  pub called_ends : (command : Called) → Means words command → Ends landed (work_of command) old new f f' s → Ends landed (the_work words) old new f f' s
+  pub called_ends : (command : Called) → Means words command → Ends landed (work_with Dumps command) old new f f' s
+      → Ends landed (the_work_with Dumps words) old new f f' s
   called_ends command means ends =
-      ends_behind landed (deciding (Means words) (IsUsage words)) work_of old f command old new f f' s
+      ends_behind landed (deciding (Means words) (IsUsage words)) (work_with Dumps) old f command old new f f' s
       (refl, was_decided landed (Means words) (IsUsage words) old command means) ends
 
   -- the words are of no stated form
-  pub usage_ends : NoForm words → Reports (Some misused) old new f f' s → Ends landed (the_work words) old new f f' s
+  pub usage_ends : NoForm words → Reports (Some misused) old new f f' s → Ends landed (the_work_with Dumps words) old new f f' s
   usage_ends none reports =
-      ends_before landed (deciding (Means words) (IsUsage words)) work_of old f old new f f' (Some misused) s
+      ends_before landed (deciding (Means words) (IsUsage words)) (work_with Dumps) old f old new f f' (Some misused) s
       (inl (refl, was_ended landed (Means words) (IsUsage words) old misused (none, refl))) reports
 
 -- ---- a command that a call ran

@@ -10,13 +10,13 @@ use Rattle.jc_command_work.proofs.Ends.{ends_done}
 use Rattle.jc_command_work.proofs.Prefix.{done_means}
 use Rattle.jc_headline.specs.CoverWork.{cover_work}
 use Rattle.jc_headline.proofs.HeadlineLaws.{each_headline}
-use Rattle.jc_top.specs.Work.{work_of, IsUsage, the_work}
+use Rattle.jc_top.specs.Work.{DumpsAnswers, work_with, IsUsage, the_work_with}
 use Rattle.jc_top.specs.CoverHeadline.{KeepsHeadline}
 use Rattle.jc_top.proofs.ApartLaws.{names_apart}
 
-module _ (words : List Word) (command : Called) (means : Means words command) where
+module _ (Dumps : DumpsAnswers) (words : List Word) (command : Called) (means : Means words command) where
   -- what the words come to, the command that they call comes to
-  comes_to : (steps : List Step) (o : Outcome ⊥) → the_work words steps o → work_of command steps o
+  comes_to : (steps : List Step) (o : Outcome ⊥) → the_work_with Dumps words steps o → work_with Dumps command steps o
   comes_to [] (wants call) (inl within) = absurd within
   comes_to [] (gives value) (inl within) = absurd within
   comes_to [] (stops end) (inl within) = absurd (within.0 command means)
@@ -25,16 +25,19 @@ module _ (words : List Word) (command : Called) (means : Means words command) wh
   comes_to (step ∷ steps) (stops end) (inl within) = absurd within
   comes_to steps o (inr h) = by h.front h.behind h.parts h.over h.goes_on
     where
-      by : (front behind : List Step) → steps ≡ front ++ behind → deciding (Means words) (IsUsage words) front (gives h.value) → work_of h.value behind o → work_of command steps o
+      by : (front behind : List Step) → steps ≡ front ++ behind → deciding (Means words) (IsUsage words) front (gives h.value)
+          → work_with Dumps h.value behind o → work_with Dumps command steps o
       by [] behind same is so =
-          subst (λ (c : Called). work_of c steps o) (one_command words h.value command is means) (subst (λ (l : List Step). work_of h.value l o) (sym same) so)
+          subst (λ (c : Called). work_with Dumps c steps o) (one_command words h.value command is means)
+          (subst (λ (l : List Step). work_with Dumps h.value l o) (sym same) so)
       by (step ∷ front) behind same is so = absurd is
 
-  begun_so : (steps : List Step) → Begun (the_work words) steps → Begun (work_of command) steps
+  begun_so : (steps : List Step) → Begun (the_work_with Dumps words) steps → Begun (work_with Dumps command) steps
   begun_so steps (inl none) = inl none
   begun_so steps (inr (front, step, same, wanted)) = inr (front, step, same, comes_to front (wants (call_of step)) wanted)
 
-  came_so : (landed : Landed) (old new : Outside) (o : Outcome ⊥) → CameTo landed (the_work words) old new o → CameTo landed (work_of command) old new o
+  came_so : (landed : Landed) (old new : Outside) (o : Outcome ⊥) → CameTo landed (the_work_with Dumps words) old new o
+      → CameTo landed (work_with Dumps command) old new o
   came_so landed old new o came = record {
     steps = came.steps;
     comes = comes_to came.steps o came.comes;
@@ -43,8 +46,10 @@ module _ (words : List Word) (command : Called) (means : Means words command) wh
     stand = came.stand;
   }
 
-pub keeps_headline : (landed : Landed) (words : List Word) (old new : Outside) (f f' : Counts) (s : Status) → Ends landed (the_work words) old new f f' s
+pub keeps_headline : (Dumps : DumpsAnswers) (landed : Landed) (words : List Word) (old new : Outside) (f f' : Counts) (s : Status)
+    → Ends landed (the_work_with Dumps words) old new f f' s
     → KeepsHeadline landed words old new s
-keeps_headline landed words old new f f' s ends c (workers, means) reads told is =
-    let (same, came) = done_means landed (the_work words) old new f f' (subst (Ends landed (the_work words) old new f f') is ends) in
-    each_headline landed reads c old new f f' told (names_apart words c (workers, means)) (ends_done landed (cover_work c) old f new f' same (came_so words _ means landed old new (stops done) came))
+keeps_headline Dumps landed words old new f f' s ends c (workers, means) reads told is =
+    let (same, came) = done_means landed (the_work_with Dumps words) old new f f' (subst (Ends landed (the_work_with Dumps words) old new f f') is ends) in
+    each_headline landed reads c old new f f' told (names_apart words c (workers, means))
+    (ends_done landed (cover_work c) old f new f' same (came_so Dumps words _ means landed old new (stops done) came))

@@ -4,6 +4,7 @@ pub mod FirstWriteLaws
 pub mod WorkLaws
 pub mod BoundLaws
 pub mod RunLaws
+pub mod DumpLaws
 pub mod SampleLaws
 pub mod ApartLaws
 pub mod HeadlineLaws

@@ -4,12 +4,12 @@ use Rattle.jc_command_words.specs.Commands.{Called, instrument, run, merge, repo
 use Rattle.jc_command_work.specs.Step.{Word, Outside, Landed, Write, Step, has_written, Fit}
 use Rattle.jc_command_work.specs.Part.{End, done, unmet, stops, Command}
 use Rattle.jc_command_work.specs.OneWay.{writes_of}
-use Rattle.jc_command_work.specs.Prefix.{IsFront}
+use Rattle.jc_command_work.specs.Prefix.{IsFront, with_failed}
 
 -- the command reads all of its inputs and decides what to write before it writes: `cover` alone reads back what it has written
 abbrev pub DecidesFirst : Called → Type 0
 DecidesFirst (instrument dest files) = ⊤
-DecidesFirst (run plan destfile workers files) = ⊤
+DecidesFirst (run plan destfile mode files) = ⊤
 DecidesFirst (merge destfile inputs) = ⊤
 DecidesFirst (report csv name exec files) = ⊤
 DecidesFirst (exec_info inputs) = ⊤
@@ -41,3 +41,7 @@ pub record WritesBegun (landed : Landed) (command : Command) (old new : Outside)
   pub all : HasWrittenAll end
   pub decided : command (reads ++ as_steps writes) (stops end)
   pub front : IsFront landed old writes new
+
+-- files and texts are as they were, whichever read of them failed last, or writes were begun
+abbrev pub IsAsItWasOrBegun : Landed → Command → (old new : Outside) → Type 0
+IsAsItWasOrBegun landed command old new = (new ≡ with_failed old new.failed) ⊎ WritesBegun landed command old new

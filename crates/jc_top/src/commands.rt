@@ -1,25 +1,32 @@
 //! The commands, each with all that it reads, writes and says.
 ghost use Rattle.std.specs.Prelude.{◌≤◌, ◌<◌, ◌^◌, ℕ, List, length, map};
 ghost use Rattle.jc_paths.specs.Looks.{file_view};
-ghost use Rattle.jc_command_words.specs.Commands.{exec_info, class_info, cover_sample, refs, files_of};
-ghost use Rattle.jc_command_words.specs.Seen.{instrument_called, run_called, merge_called, report_called, cover_called, command_seen};
+ghost use Rattle.jc_command_words.specs.Commands.{dumping, exec_info, class_info, cover_sample, refs, files_of};
+ghost use Rattle.jc_command_words.specs.Seen.{instrument_called, mode_seen, run_called, merge_called, report_called, cover_called, command_seen};
 ghost use Rattle.jc_command_work.specs.Ending.{Ends};
 ghost use Rattle.jc_command_work.specs.Handed.{OnOutside};
-ghost use Rattle.jc_command_work.specs.Seen.{texts_of};
+ghost use Rattle.jc_bytes.specs.Reader.{most_read};
+ghost use Rattle.jc_command_work.specs.Seen.{texts_of, words_of as paths_of};
+ghost use Rattle.jc_command_dumped.specs.DumpedAnswers.{Taken};
 ghost use Rattle.jc_command_classes.specs.ReportSteps.{exec_path, IsReadOf};
-ghost use Rattle.jc_top.specs.Bounds.{IsBounded};
-ghost use Rattle.jc_top.specs.Work.{reporting, work_of};
+ghost use Rattle.jc_top.specs.Bounds.{IsBounded, IsBoundedMode};
+ghost use Rattle.jc_top.specs.Work.{nothing_taken, reporting, run_on, work_of};
 
 use crate::complete::{complete, complete_listing};
 use crate::rules::{check, lines};
+use jc_bytes::Bytes;
 use jc_command_classes::{
     ExecInput, ReportOptions, prepare_class_info, prepare_instrument, prepare_report,
 };
 use jc_command_cover::CoverOptions;
+use jc_command_dumped::{DumpOptions, dump_paths, prepare_dumped};
 use jc_command_exec::{prepare_exec_info, prepare_merge, read_alone};
+use jc_command_monitored::{MonitoredOptions, prepare_monitored};
 use jc_command_refs::prepare_refs;
 use jc_command_run::{RunOptions, prepare_run};
-use jc_command_words::{Command, CoverWords, InstrumentWords, MergeWords, ReportWords, RunWords};
+use jc_command_words::{
+    Command, CoverWords, InstrumentWords, MergeWords, ReportWords, RunMode, RunWords,
+};
 use jc_command_work::{Outside, Resources, Status, list_files, read_one};
 use jc_outside::{Files, Sink};
 use jc_paths::{FileWord, all_in_folder};
@@ -35,7 +42,7 @@ fn instrument<R: Threads + Sync, F: Files, O: Sink, E: Sink>(
     outside: &mut Outside<'_, '_, '_, F, O, E>,
     words: &InstrumentWords<'_>,
 ) -> Status
-    ensures { OnOutside F.Files O.Sink E.Sink outside.old outside.new (Ends F.landed (work_of (instrument_called words.now))) result }
+    ensures { OnOutside F.Files O.Sink E.Sink outside.old outside.new (Ends F.landed (work_of nothing_taken (instrument_called words.now))) result }
 {
     let paths = match list_files(alloc, outside.files, &words.files) {
         Ok(paths) => paths,
@@ -49,14 +56,97 @@ fn instrument<R: Threads + Sync, F: Files, O: Sink, E: Sink>(
     complete(alloc, outside, prepared)
 }
 
-/// Runs the run plan's cases on the class files, on so many workers, and writes the hits and what the cases print.
+/// Runs a run plan's cases on class files, and writes dumps to files of a folder, the other hits and what the cases print.
+fn run_with_dumps<R: Threads + Sync, F: Files, O: Sink, E: Sink, G: Gate + Sync>(
+    resources: &Resources<'_, '_, R, G>,
+    outside: &mut Outside<'_, '_, '_, F, O, E>,
+    options: &RunOptions<'_>,
+    dir: &str,
+    every: u32,
+    text: &Bytes,
+    paths: &[String],
+) -> Status
+    requires few { length paths.now < 2 ^ 32 }
+    requires plan { length text.now ≤ most_read }
+    requires every { (1 ≤ every) × (every ≤ 256) }
+    requires workers { (1 ≤ options.now.workers) × (options.now.workers ≤ 16) }
+    ensures { (taken : Taken) × OnOutside F.Files O.Sink E.Sink outside.old outside.new
+        (Ends F.landed (run_on taken options.now.plan.now options.now.destfile.now
+        (dumping dir.now every options.now.workers) text.now (paths_of paths.now))) result }
+{
+    let alloc = resources.alloc;
+    let dumps = match dump_paths(alloc, dir) {
+        Ok(dumps) => dumps,
+        Err(_) => return Status::Memory,
+    };
+    let options = DumpOptions {
+        plan: options.plan,
+        destfile: options.destfile,
+        dumps: &dumps,
+        every,
+        workers: options.workers,
+    };
+    let prepared = prepare_dumped(resources, outside.files, &options, text, paths);
+    complete(alloc, outside, prepared)
+}
+
+/// Runs a run plan's cases on class files, and writes the hits and what the cases print.
+fn run_listed<R: Threads + Sync, F: Files, O: Sink, E: Sink, G: Gate + Sync>(
+    resources: &Resources<'_, '_, R, G>,
+    outside: &mut Outside<'_, '_, '_, F, O, E>,
+    words: &RunWords<'_>,
+    text: &Bytes,
+    paths: &[String],
+) -> Status
+    requires few { length paths.now < 2 ^ 32 }
+    requires plan { length text.now ≤ most_read }
+    requires bounded { IsBoundedMode (mode_seen words.now.mode) }
+    ensures { (taken : Taken) × OnOutside F.Files O.Sink E.Sink outside.old outside.new
+        (Ends F.landed (run_on taken words.now.plan.now words.now.destfile.now (mode_seen words.now.mode) text.now
+        (paths_of paths.now))) result }
+{
+    let Resources { alloc, gate, .. } = *resources;
+    let plan = words.plan;
+    let destfile = words.destfile;
+    match words.mode {
+        RunMode::Plain { workers } => {
+            let options = RunOptions {
+                plan,
+                destfile,
+                workers,
+            };
+            let prepared = prepare_run(resources, outside.files, &options, text, paths);
+            complete(alloc, outside, prepared)
+        }
+        RunMode::Dumping {
+            dir,
+            every,
+            workers,
+        } => {
+            let options = RunOptions {
+                plan,
+                destfile,
+                workers,
+            };
+            run_with_dumps(resources, outside, &options, dir, every, text, paths)
+        }
+        RunMode::Monitored => {
+            let options = MonitoredOptions { plan, destfile };
+            let prepared = prepare_monitored(alloc, gate, outside.files, &options, text, paths);
+            complete(alloc, outside, prepared)
+        }
+    }
+}
+
+/// Runs the run plan's cases on the class files, and writes the hits and what the cases print.
 fn run<R: Threads + Sync, F: Files, O: Sink, E: Sink, G: Gate + Sync>(
     resources: &Resources<'_, '_, R, G>,
     outside: &mut Outside<'_, '_, '_, F, O, E>,
     words: &RunWords<'_>,
 ) -> Status
-    requires { (1 ≤ words.now.workers) × (words.now.workers ≤ 16) }
-    ensures { OnOutside F.Files O.Sink E.Sink outside.old outside.new (Ends F.landed (work_of (run_called words.now))) result }
+    requires { IsBoundedMode (mode_seen words.now.mode) }
+    ensures { (taken : Taken) × OnOutside F.Files O.Sink E.Sink outside.old outside.new
+        (Ends F.landed (work_of taken (run_called words.now))) result }
 {
     let alloc = resources.alloc;
     let text = match read_one(alloc, outside.files, words.plan) {
@@ -67,13 +157,7 @@ fn run<R: Threads + Sync, F: Files, O: Sink, E: Sink, G: Gate + Sync>(
         Ok(paths) => paths,
         Err(stop) => return jc_command_work::report(alloc, outside.err, stop),
     };
-    let options = RunOptions {
-        plan: words.plan,
-        destfile: words.destfile,
-        workers: words.workers,
-    };
-    let prepared = prepare_run(resources, outside.files, &options, &text, &paths);
-    complete(alloc, outside, prepared)
+    run_listed(resources, outside, words, &text, &paths)
 }
 
 /// Writes the union of the execution data in the inputs.
@@ -83,7 +167,7 @@ fn merge<F: Files, O: Sink, E: Sink>(
     words: &MergeWords<'_>,
 ) -> Status
     requires { length words.now.inputs.items < 2 ^ 32 }
-    ensures { OnOutside F.Files O.Sink E.Sink outside.old outside.new (Ends F.landed (work_of (merge_called words.now))) result }
+    ensures { OnOutside F.Files O.Sink E.Sink outside.old outside.new (Ends F.landed (work_of nothing_taken (merge_called words.now))) result }
 {
     let prepared = prepare_merge(alloc, outside.files, words.destfile, &words.inputs);
     complete(alloc, outside, prepared)
@@ -120,7 +204,7 @@ fn report<R: Threads + Sync, F: Files, O: Sink, E: Sink>(
     outside: &mut Outside<'_, '_, '_, F, O, E>,
     words: &ReportWords<'_>,
 ) -> Status
-    ensures { OnOutside F.Files O.Sink E.Sink outside.old outside.new (Ends F.landed (work_of (report_called words.now))) result }
+    ensures { OnOutside F.Files O.Sink E.Sink outside.old outside.new (Ends F.landed (work_of nothing_taken (report_called words.now))) result }
 {
     let Some(path) = words.exec else {
         return report_files(rt, alloc, outside, words, None);
@@ -142,7 +226,7 @@ fn exec_info<F: Files, O: Sink, E: Sink>(
 ) -> Status
     requires { length inputs.now < 2 ^ 32 }
     ensures { OnOutside F.Files O.Sink E.Sink outside.old outside.new
-        (Ends F.landed (work_of (exec_info (texts_of inputs.now)))) result }
+        (Ends F.landed (work_of nothing_taken (exec_info (texts_of inputs.now)))) result }
 {
     let prepared = prepare_exec_info(alloc, outside.files, inputs);
     complete_listing(alloc, outside, prepared)
@@ -156,7 +240,7 @@ fn class_info<R: Threads + Sync, F: Files, O: Sink, E: Sink>(
     words: &[FileWord<'_>],
 ) -> Status
     ensures { OnOutside F.Files O.Sink E.Sink outside.old outside.new
-        (Ends F.landed (work_of (class_info (map file_view words.now)))) result }
+        (Ends F.landed (work_of nothing_taken (class_info (map file_view words.now)))) result }
 {
     let paths = match list_files(alloc, outside.files, words) {
         Ok(paths) => paths,
@@ -173,7 +257,7 @@ fn cover<R: Threads + Sync, F: Files, O: Sink, E: Sink, G: Gate + Sync>(
     words: &CoverWords<'_>,
 ) -> Status
     requires { (1 ≤ words.now.workers) × (words.now.workers ≤ 16) }
-    ensures { OnOutside F.Files O.Sink E.Sink outside.old outside.new (Ends F.landed (work_of (cover_called words.now))) result }
+    ensures { OnOutside F.Files O.Sink E.Sink outside.old outside.new (Ends F.landed (work_of nothing_taken (cover_called words.now))) result }
 {
     let alloc = resources.alloc;
     let text = match read_one(alloc, outside.files, words.plan) {
@@ -209,7 +293,7 @@ fn cover_sample<R: Threads + Sync, F: Files, O: Sink, E: Sink, G: Gate + Sync>(
     methods: u32,
 ) -> Status
     requires { (1 ≤ methods) × (methods ≤ 1000) }
-    ensures { OnOutside F.Files O.Sink E.Sink outside.old outside.new (Ends F.landed (work_of (cover_sample methods))) result }
+    ensures { OnOutside F.Files O.Sink E.Sink outside.old outside.new (Ends F.landed (work_of nothing_taken (cover_sample methods))) result }
 {
     match jc_command_sample::sample(resources, outside.out, methods) {
         Ok(()) => Status::Done,
@@ -224,7 +308,7 @@ fn refs<F: Files, O: Sink, E: Sink>(
     words: &[FileWord<'_>],
 ) -> Status
     ensures { OnOutside F.Files O.Sink E.Sink outside.old outside.new
-        (Ends F.landed (work_of (refs (map file_view words.now)))) result }
+        (Ends F.landed (work_of nothing_taken (refs (map file_view words.now)))) result }
 {
     let paths = match list_files(alloc, outside.files, words) {
         Ok(paths) => paths,
@@ -242,7 +326,7 @@ pub fn run_command<R: Threads + Sync, F: Files, O: Sink, E: Sink, G: Gate + Sync
 ) -> Status
     requires few { length (files_of (command_seen command.now)) < 2 ^ 32 }
     requires bounded { IsBounded (command_seen command.now) }
-    ensures { OnOutside F.Files O.Sink E.Sink outside.old outside.new (Ends F.landed (work_of (command_seen command.now))) result }
+    ensures { (taken : Taken) × OnOutside F.Files O.Sink E.Sink outside.old outside.new (Ends F.landed (work_of taken (command_seen command.now))) result }
 {
     let Resources { rt, alloc, .. } = *resources;
     match command {

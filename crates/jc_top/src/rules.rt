@@ -8,7 +8,7 @@ ghost use Rattle.jc_command_work.specs.Handed.{OnOutside};
 ghost use Rattle.jc_command_work.specs.Part.{status_of};
 ghost use Rattle.jc_command_classes.specs.ReportSteps.{exec_path, IsReadOf};
 ghost use Rattle.jc_top.specs.Completes.{CompletesCheck};
-ghost use Rattle.jc_top.specs.Work.{checking, lining, work_of};
+ghost use Rattle.jc_top.specs.Work.{checking, lining, nothing_taken, work_of};
 
 use crate::complete::complete;
 use jc_command_classes::ExecInput;
@@ -47,7 +47,7 @@ pub fn lines<R: Threads + Sync, F: Files, O: Sink, E: Sink>(
     outside: &mut Outside<'_, '_, '_, F, O, E>,
     words: &LinesWords<'_>,
 ) -> Status
-    ensures { OnOutside F.Files O.Sink E.Sink outside.old outside.new (Ends F.landed (work_of (lines_called words.now))) result }
+    ensures { OnOutside F.Files O.Sink E.Sink outside.old outside.new (Ends F.landed (work_of nothing_taken (lines_called words.now))) result }
 {
     let Some(path) = words.exec else {
         return lines_of_files(rt, alloc, outside, words, None);
@@ -113,7 +113,7 @@ pub fn check<R: Threads + Sync, F: Files, O: Sink, E: Sink>(
     outside: &mut Outside<'_, '_, '_, F, O, E>,
     words: &CheckWords<'_>,
 ) -> Status
-    ensures { OnOutside F.Files O.Sink E.Sink outside.old outside.new (Ends F.landed (work_of (check_called words.now))) result }
+    ensures { OnOutside F.Files O.Sink E.Sink outside.old outside.new (Ends F.landed (work_of nothing_taken (check_called words.now))) result }
 {
     let Some(path) = words.exec else {
         return check_files(rt, alloc, outside, words, None);

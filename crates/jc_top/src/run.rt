@@ -9,6 +9,7 @@ ghost use Rattle.jc_command_work.specs.Ending.{Ends};
 ghost use Rattle.jc_command_work.specs.Handed.{Between};
 ghost use Rattle.jc_top.specs.Bounds.{IsBounded};
 ghost use Rattle.jc_top.specs.CoverHeadline.{KeepsHeadline};
+ghost use Rattle.jc_command_dumped.specs.DumpedAnswers.{Taken};
 ghost use Rattle.jc_top.specs.Work.{the_work};
 
 use crate::commands::run_command;
@@ -35,7 +36,8 @@ fn read_command<'a>(alloc: Global, words: &'a [String]) -> Result<Command<'a>, F
 /// The words are one of
 ///
 /// - `instrument --dest DIR FILE..`
-/// - `run --plan PLAN --destfile OUT [--workers N] FILE..`
+/// - `run --plan PLAN --destfile OUT [--workers N] FILE..`, or `run --plan PLAN --destfile OUT --dumps DIR --every K [--workers N] FILE..`,
+///   or `run --monitors --plan PLAN --destfile OUT [--workers 1] FILE..`
 /// - `merge --destfile OUT IN..`
 /// - `report --csv OUT [--name NAME] [--exec IN] FILE..`
 /// - `execinfo IN..`
@@ -55,7 +57,12 @@ fn read_command<'a>(alloc: Global, words: &'a [String]) -> Result<Command<'a>, F
 /// for each. `instrument` and `cover` write each class file to DIR/FILE, and behind it its line: one that is refused byte for
 /// byte as it was read, with a line on `err` that gives the reason; one whose class stays as it is too, with a line on `out`;
 /// and each other one with its probes, whose number is in its line on `out`. Class files are looked at, and cases run, in
-/// threads, which `rt` starts; `gate` is told when a case of a run plan begins, and may hold its worker.
+/// threads, which `rt` starts; `gate` is told when a case of a run plan begins, and may hold its worker. With `--monitors` the
+/// threads of a case take locks, and its cases run one after another.
+///
+/// `run --dumps` takes a dump of the hits behind each case whose number is a multiple of K, and writes the dumps to DIR/1.exec,
+/// DIR/2.exec and so on, and to OUT the hits that no dump has. Which dump has a hit may depend on when a worker runs, where there
+/// are several: so its work is said by dumps and a rest, and there are some that are as `run_dumping` of jc_dump promises.
 ///
 /// All of this is the work of the words, which the contract names: the calls that they ask for, one after the other, and the
 /// end. A run makes all of them, and says the message of the end; or first ones of them up to one that fails, whose count rose,
@@ -79,8 +86,8 @@ pub fn run_tool<R: Threads + Sync, F: Files, O: Sink, E: Sink, G: Gate + Sync>(
     err: &mut E,
     gate: &G,
 ) -> Status
-    ensures work { Between F.Files O.Sink E.Sink (files.old, out.old, err.old) (files.new, out.new, err.new)
-        (Ends F.landed (the_work (words_of words.now))) result }
+    ensures work { (taken : Taken) × Between F.Files O.Sink E.Sink (files.old, out.old, err.old) (files.new, out.new, err.new)
+        (Ends F.landed (the_work taken (words_of words.now))) result }
     ensures headline { KeepsHeadline F.landed (words_of words.now)
         (outside (F.contents files.old) (F.failed_path files.old) (O.told out.old) (E.told err.old))
         (outside (F.contents files.new) (F.failed_path files.new) (O.told out.new) (E.told err.new)) result }

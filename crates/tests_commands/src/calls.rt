@@ -18,7 +18,9 @@ pub fn answer(
 ) -> Option<()> {
     match words {
         ["run", words @ ..] => run::run(rt, alloc, setup, words, out),
-        ["show" | "text" | "compare" | "keep", ..] => shown::answer(alloc, setup, words, out),
+        ["show" | "text" | "compare" | "keep" | "keep-each", ..] => shown::answer(
+            alloc, setup, words, out,
+        ),
         ["list" | "part", ..] => asked::answer(alloc, setup, words, out),
         words => input::answer(alloc, setup, words, out),
     }

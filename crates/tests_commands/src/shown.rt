@@ -61,6 +61,21 @@ fn keep(alloc: Global, setup: &mut Setup, path: &str, to: &str, out: &mut Answer
     setup.place(alloc, to, bytes, out)
 }
 
+/// Places files that the run left, for further runs, under the same paths, and tells how many.
+fn keep_each(alloc: Global, setup: &mut Setup, paths: &[&str], out: &mut Answer) -> Option<()> {
+    for path in paths {
+        let Some(left) = setup.left_at(path) else {
+            return out.wrong_word("no file", path);
+        };
+        let bytes = out.got(Vec::from_slice(alloc, left))?;
+        let to = out.got(String::from_str(alloc, path))?;
+        out.got(setup.files.insert(to, bytes))?;
+    }
+    out.show(&paths.len());
+    out.put(" files");
+    Some(())
+}
+
 /// What the words of a line answer that asks for what the latest run left.
 pub fn answer(alloc: Global, setup: &mut Setup, words: &[&str], out: &mut Answer) -> Option<()> {
     match words {
@@ -68,6 +83,7 @@ pub fn answer(alloc: Global, setup: &mut Setup, words: &[&str], out: &mut Answer
         ["text", path] => text(setup, path, out),
         ["compare", path, placed] => compare(setup, path, placed, out),
         ["keep", path, to] => keep(alloc, setup, path, to, out),
+        ["keep-each", paths @ ..] => keep_each(alloc, setup, paths, out),
         words => out.unknown(words),
     }
 }

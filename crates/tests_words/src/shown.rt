@@ -1,6 +1,6 @@
 //! Commands, as they are printed.
 use jc_command_words::{
-    CheckWords, Command, CoverWords, FileWord, LinesWords, ReportWords, RunWords,
+    CheckWords, Command, CoverWords, FileWord, LinesWords, ReportWords, RunMode, RunWords,
 };
 use jc_rules::{CounterKind, Rule};
 use tests_lines::Answer;
@@ -43,11 +43,28 @@ fn put_report(words: &ReportWords<'_>, out: &mut Answer) {
     put_files(&words.files, out);
 }
 
+/// Puts how the cases are run.
+fn put_mode(mode: RunMode<'_>, out: &mut Answer) {
+    match mode {
+        RunMode::Plain { workers } => out.label(" workers ", &workers),
+        RunMode::Dumping {
+            dir,
+            every,
+            workers,
+        } => {
+            out.label(" dumps ", &dir);
+            out.label(" every ", &every);
+            out.label(" workers ", &workers);
+        }
+        RunMode::Monitored => out.put(" monitors"),
+    }
+}
+
 /// Puts what the words of `run` say.
 fn put_run(words: &RunWords<'_>, out: &mut Answer) {
     out.label("run plan ", &words.plan);
     out.label(" destfile ", &words.destfile);
-    out.label(" workers ", &words.workers);
+    put_mode(words.mode, out);
     put_files(&words.files, out);
 }
 

@@ -18,6 +18,6 @@ returns-then-not-all_known c =
 pub returns : goal.returns
 returns c =
     let words = c.args.words.now in
-    rw (c.once-once.ensures, c.values_are_plain-values.ensures, c.files_are_plain-files.ensures, c.is_empty.ensures, c.as_slice-uses.ensures.value)
+    rw (c.once-once.ensures, c.are_valued-values.ensures, c.files_are_plain-files.ensures, c.is_empty.ensures, c.as_slice-uses.ensures.value)
     (call_seen used_view (λ o. o.now) text_of_word words.uses.items c.options_of.result.now (options_of c.args.name) words.dash words.files.now c.options_of.ensures
     (rw (← c.as_slice-uses.ensures.value) (sym c.all_known.ensures ∙ c.if-not-all_known.false)))
