@@ -8,6 +8,7 @@ mod code;
 mod coverage;
 mod execution;
 mod machine;
+mod monitor;
 mod pool;
 mod workers;
 
@@ -17,5 +18,6 @@ pub use code::return_count;
 pub use coverage::counters_by;
 pub use execution::merged;
 pub use machine::{counts, text_of_case};
+pub use monitor::text_of_monitored_case;
 pub use pool::{CallPlaces, add_call};
 pub use workers::ends_and_hits;

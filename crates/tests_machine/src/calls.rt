@@ -4,6 +4,7 @@ ghost use Rattle.jc_machine_model.specs.Programs.{IsProgram};
 ghost use Rattle.jc_programs.specs.Turns.{IsRunPlan};
 
 use crate::cases::{NoEntry, counts, run_cases};
+use crate::monitor_cases::run_monitor_cases;
 use crate::shown::{put_hits, put_text};
 use jc_bytes::{Bytes, Fail};
 use jc_link::{LinkRefusal, PlanRefusal, link, read_plan};
@@ -14,6 +15,15 @@ use tests_lines::{Answer, Calls, bytes, lines};
 
 /// The most bytes of a class file here, and the most files.
 const MOST: usize = 1_000_000;
+
+/// What a line asks for of a run plan.
+#[derive(Clone, Copy)]
+struct Asked {
+    /// Whether its threads take locks.
+    has_locks: bool,
+    /// Whether it asks for the text of the cases, and not for their hits.
+    is_text: bool,
+}
 
 /// The class files that lines keep.
 #[derive(Drop)]
@@ -38,6 +48,18 @@ impl ClassFiles {
     }
 }
 
+/// What the name of a call on a run plan asks for.
+fn asked_by(name: &str) -> Option<Asked> {
+    let (has_locks, is_text) = match name {
+        "run" => (false, true),
+        "hits" => (false, false),
+        "monitors" => (true, true),
+        "monitor-hits" => (true, false),
+        _ => return None,
+    };
+    Some(Asked { has_locks, is_text })
+}
+
 impl Calls for ClassFiles {
     fn answer(&mut self, alloc: Global, words: &[&str], out: &mut Answer) -> Option<()> {
         match words {
@@ -46,9 +68,11 @@ impl Calls for ClassFiles {
                 self.keep(alloc, digits, out)
             }
             ["also", digits] => self.keep(alloc, digits, out),
-            ["run", words @ ..] => run(alloc, &self.files, words, true, out),
-            ["hits", words @ ..] => run(alloc, &self.files, words, false, out),
-            _ => out.wrong("no call"),
+            [name, words @ ..] => match asked_by(name) {
+                Some(asked) => run(alloc, &self.files, words, asked, out),
+                None => out.wrong("no call"),
+            },
+            [] => out.wrong("no call"),
         }
     }
 }
@@ -112,7 +136,7 @@ fn run_plan(
     alloc: Global,
     program: &Program,
     plan: &RunPlan,
-    is_text: bool,
+    asked: Asked,
     out: &mut Answer,
 ) -> Option<()>
     requires program { IsProgram program.now }
@@ -121,8 +145,13 @@ fn run_plan(
     let counts = out.got(counts(alloc, program))?;
     let mut sink = out.got(BitSink::new(alloc, &counts))?;
     let mut text = String::new(alloc);
-    match run_cases(alloc, program, plan, &mut sink, &mut text) {
-        Ok(()) if is_text => put_text(&text, out),
+    let ran = if asked.has_locks {
+        run_monitor_cases(alloc, program, plan, &mut sink, &mut text)
+    } else {
+        run_cases(alloc, program, plan, &mut sink, &mut text)
+    };
+    match ran {
+        Ok(()) if asked.is_text => put_text(&text, out),
         Ok(()) => put_hits(program, &counts, sink.bits(), out),
         Err(Fail::Said(NoEntry { line })) => out.label("no entry in line ", &line),
         Err(Fail::Memory) => return out.lose(),
@@ -135,10 +164,10 @@ fn run(
     alloc: Global,
     files: &[Bytes],
     words: &[&str],
-    is_text: bool,
+    asked: Asked,
     out: &mut Answer,
 ) -> Option<()> {
     let plan = planned(alloc, words, out)?;
     let program = linked(alloc, files, out)?;
-    run_plan(alloc, &program, &plan, is_text, out)
+    run_plan(alloc, &program, &plan, asked, out)
 }

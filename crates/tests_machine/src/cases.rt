@@ -51,7 +51,7 @@ pub fn counts(alloc: Global, program: &Program) -> Result<Vec<u32>, AllocError>
 
 /// The methods with which the threads begin.
 #[tactic(auto, using(crate::proofs::CaseLaws::one_entry_more))]
-fn entries(
+pub fn entries(
     alloc: Global,
     program: &Program,
     threads: &[ThreadLine],
@@ -70,7 +70,7 @@ fn entries(
 }
 
 /// Puts the text of a case.
-fn put_case(
+pub fn put_case(
     alloc: Global,
     program: &Program,
     number: u32,

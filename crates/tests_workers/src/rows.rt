@@ -7,7 +7,7 @@ use std::process::Abort;
 use std::test::Fail;
 
 /// The text of forty cases, each of which begins with x as 0, and adds 1.
-fn wanted_text(alloc: Global) -> Result<String, AllocError> {
+pub fn wanted_text(alloc: Global) -> Result<String, AllocError> {
     let mut text = String::new(alloc);
     for case in 1..41u32 {
         write!(&mut text, "case {case}\nthread 0 returned\nstatic C.x 1\n")?;

@@ -39,7 +39,7 @@ fn count_of(probes: Option<ProbeInit>) -> u32
 }
 
 /// How many probes each class has.
-fn counts(alloc: Global, program: &Program) -> Result<Vec<u32>, AllocError>
+pub fn counts(alloc: Global, program: &Program) -> Result<Vec<u32>, AllocError>
     ensures { IfOk result (λ counts. counts.items ≡ probe_counts program.now) }
 {
     let mut counts = Vec::new(alloc);

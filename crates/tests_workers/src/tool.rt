@@ -18,25 +18,42 @@ fn words(alloc: Global, line: &str) -> Result<Vec<String>, AllocError> {
     Ok(words)
 }
 
+/// The class and the run plan of forty cases, in files.
+pub fn forty_files(alloc: Global) -> Result<MemoryFiles, Fail> {
+    let mut files = MemoryFiles::new(alloc, &[])?;
+    files.with(alloc, "C.class", &class_file(alloc)?)?;
+    files.with(alloc, "p.txt", plan_text(alloc)?.as_bytes())?;
+    Ok(files)
+}
+
+/// Runs a command over files, and answers whether it was done.
+pub fn is_done<R: Threads + Sync>(
+    rt: &R,
+    alloc: Global,
+    files: &mut MemoryFiles,
+    gate: &Hold,
+    line: &str,
+) -> Result<bool, Fail> {
+    let mut out = MemorySink::new(alloc, &[])?;
+    let mut err = MemorySink::new(alloc, &[])?;
+    let words = words(alloc, line)?;
+    let status = run_tool(rt, alloc, &words, files, &mut out, &mut err, gate);
+    Ok(matches!(status, Status::Done))
+}
+
 /// Runs a command over the class and the run plan of forty cases, and answers whether it was done.
-fn is_done<R: Threads + Sync>(
+fn is_done_on_forty<R: Threads + Sync>(
     rt: &R,
     alloc: Global,
     gate: &Hold,
     line: &str,
 ) -> Result<bool, Fail> {
-    let mut files = MemoryFiles::new(alloc, &[])?;
-    files.with(alloc, "C.class", &class_file(alloc)?)?;
-    files.with(alloc, "p.txt", plan_text(alloc)?.as_bytes())?;
-    let mut out = MemorySink::new(alloc, &[])?;
-    let mut err = MemorySink::new(alloc, &[])?;
-    let words = words(alloc, line)?;
-    let status = run_tool(rt, alloc, &words, &mut files, &mut out, &mut err, gate);
-    Ok(matches!(status, Status::Done))
+    let mut files = forty_files(alloc)?;
+    is_done(rt, alloc, &mut files, gate, line)
 }
 
 /// Whether each of the forty cases passed once, the first behind all others.
-fn held_first(gate: &Hold) -> bool {
+pub fn held_first(gate: &Hold) -> bool {
     gate.each_once() && !gate.gave_up() && gate.passed_before() == 39
 }
 
@@ -45,7 +62,7 @@ fn held_first(gate: &Hold) -> bool {
 fn run_has_as_many_workers_as_its_words_say(rt: HostRuntime) -> Result<(), Fail> {
     let line = "run --plan p.txt --destfile o --workers 2 C.class";
     let gate = Hold::until(rt.alloc(), 40, 39)?;
-    assert!(rt; is_done(&rt, rt.alloc(), &gate, line)?);
+    assert!(rt; is_done_on_forty(&rt, rt.alloc(), &gate, line)?);
     assert!(rt; held_first(&gate));
     Ok(())
 }
@@ -54,7 +71,7 @@ fn run_has_as_many_workers_as_its_words_say(rt: HostRuntime) -> Result<(), Fail>
 fn cover_has_as_many_workers_as_its_words_say(rt: HostRuntime) -> Result<(), Fail> {
     let line = "cover --dest out --plan p.txt --destfile o --csv r --workers 2 C.class";
     let gate = Hold::until(rt.alloc(), 40, 39)?;
-    assert!(rt; is_done(&rt, rt.alloc(), &gate, line)?);
+    assert!(rt; is_done_on_forty(&rt, rt.alloc(), &gate, line)?);
     assert!(rt; held_first(&gate));
     Ok(())
 }
