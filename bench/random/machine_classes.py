@@ -6,6 +6,8 @@ class Program:
     """The classes of one program: their names, static fields and methods, and the lines of each. Where it is calm nothing
     is thrown."""
 
+    method_of = Method
+
     def __init__(self, random, name, size, calm=False):
         self.random = random
         self.names, self.calm = [name] + ([name + "B"] if random.random() < 0.4 else []), calm
@@ -42,7 +44,7 @@ class Program:
                 lines += self.far(owner)
             else:
                 size = self.random.randrange(self.sizes // 4, self.sizes)
-                lines += Method(self.random, owner, (name, desc, types, result), self, size).make()
+                lines += self.method_of(self.random, owner, (name, desc, types, result), self, size).make()
         return lines
 
     def first(self, name, desc):

@@ -9,6 +9,7 @@ The lines of machine-rows.txt:
 
     file NAME                       a class file; the indented lines below are those of class_bytes.py, parted by ` ; `
     FILES: CASE ;; CASE = TEXT ;; TEXT # HITS     a run of cases over these files
+    monitors FILES: ..              the same in worlds with locks
     # a comment                     goes into both files
 
 A case is its threads, joined by ` & `, and ` @ SCHEDULE`, without which it is `robin 100`. `22*0` in a schedule is 22
@@ -24,14 +25,15 @@ import subprocess
 import sys
 import tempfile
 
-sys.path.insert(0, os.path.join(os.path.dirname(os.path.abspath(__file__)), "..", "lib"))
+HERE = os.path.dirname(os.path.abspath(__file__))
+sys.path[:0] = [os.path.join(HERE, "..", "lib"), os.path.join(HERE, "..", "monitors")]
 
 import class_bytes
 import class_reader
 import slow_machine
+import slow_monitors
 import slow_programs
 
-HERE = os.path.dirname(os.path.abspath(__file__))
 CRATE = os.path.dirname(os.path.dirname(HERE)) + "/crates/tests_machine"
 ENDS = ("returned", "threw", "running", "stuck")
 
@@ -74,7 +76,8 @@ class Row:
         names, _, rest = line.partition(": ")
         cases, _, rest = rest.partition(" = ")
         text, _, hits = rest.partition(" # ")
-        self.line, self.names = line, names.split()
+        self.line, self.has_locks = line, names.startswith("monitors ")
+        self.names = names.split()[self.has_locks :]
         self.files = [files[name] for name in self.names]
         self.plan, self.text, self.hits = plan(cases), answer(text), hits
         self.words = plan(cases, "~{}*_{}~".format).replace(" ", "_").replace("\n", "|").replace("~~", " ").replace("~", " ")
@@ -91,11 +94,12 @@ class Row:
         lines = [line for case in cases for line in case.threads if not program.entry(line)]
         if lines:
             return "no entry in line %d" % lines[0].line, ""
-        hits = set().union(*(slow_machine.run(program, case, case.turns()).hits for case in cases))
+        world_of = slow_monitors.MonitorWorld if self.has_locks else slow_machine.World
+        hits = set().union(*(slow_machine.run(program, case, case.turns(), world_of).hits for case in cases))
         probed = [(k, linked) for k, linked in enumerate(program.classes) if linked.probes]
         bits = ["".join("01"[(k, i) in hits] for i in range(linked.probes[1])) for k, linked in probed]
         names = [linked.name for _, linked in probed]
-        return shortened(slow_machine.texts(program, cases)), " ".join("%s:%s" % pair for pair in zip(names, bits))
+        return shortened(slow_machine.texts(program, cases, world_of)), " ".join("%s:%s" % pair for pair in zip(names, bits))
 
 
 def spelled(line):
@@ -138,9 +142,9 @@ def rows(items):
             for number, (name, file) in enumerate(zip(item.names, item.files)):
                 yield "# " + name, None
                 yield ("also " if number else "only ") + file, str(number + 1)
-        yield "run " + item.words, item.text
+        yield ("monitors " if item.has_locks else "run ") + item.words, item.text
         if item.hits:
-            yield "hits " + item.words, item.hits
+            yield ("monitor-hits " if item.has_locks else "hits ") + item.words, item.hits
 
 
 # ---- the Java machine
@@ -149,7 +153,7 @@ def rows(items):
 def is_plain(row):
     """Whether a row has one case of one thread, which ends, over classes that aren't instrumented."""
     odd = re.search(r"stuck|running|no entry|^long|^same|^class", row.text)
-    return not odd and row.plan.count("thread") == 1 and not row.hits and not any(name.endswith("'") for name in row.names)
+    return not odd and not row.has_locks and row.plan.count("thread") == 1 and not row.hits and not any(name.endswith("'") for name in row.names)
 
 
 def by_java(harness, rows):

@@ -270,6 +270,8 @@ class Method:
 class Program:
     """The classes of one program, and their source. Where it is calm nothing is thrown."""
 
+    method_of = Method
+
     def __init__(self, random, name, size, calm=False):
         self.random, self.size, self.calm = random, size, calm
         self.names = [name] + ([name + "B"] if random.random() < 0.4 else [])
@@ -297,7 +299,7 @@ class Program:
                 lines.append("    static %s%s %s%s;" % ("final " if name == "K" else "", kind, name, value))
         for each, name, result, types in self.methods:
             if each == owner:
-                lines += Method(self.random, self, name, result, types).text(self.random.randrange(self.size // 3, self.size))
+                lines += self.method_of(self.random, self, name, result, types).text(self.random.randrange(self.size // 3, self.size))
         if owner == self.names[-1]:
             lines += ["    static int r(int n, long x) throws Throwable {", "        if (n <= 0) return (int) x;"]
             lines += ["        int y = %s.r(n - 1, x * 3 + n);" % owner, "        return y ^ n;", "    }"]

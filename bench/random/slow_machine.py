@@ -302,6 +302,10 @@ class World:
             values[place] = narrowed(desc, value) if isinstance(value, int) else value
         return self.go(frame)
 
+    def depth(self, thread):
+        """How many frames a thread has, those of `$jacocoInit` not counted."""
+        return sum(not self.program.is_init(each.method) for each in thread.frames)
+
     def call(self, thread, frame, member, stack):
         owner, name, desc = member
         if frame.body.name == INIT:
@@ -312,13 +316,17 @@ class World:
             raise Stuck
         if name == INIT and (frame.at != 0 or frame.method[0] != number or self.program.classes[number].given is not None):
             raise Stuck
-        counted = sum(not self.program.is_init(each.method) for each in thread.frames)
-        if name != INIT and counted >= MOST_FRAMES:
+        if name != INIT and self.depth(thread) >= MOST_FRAMES:
             raise Raised("StackOverflowError")
-        count = len(class_reader.parameters(desc)[0])
+        self.enter(thread, (number, place), stack)
+
+    def enter(self, thread, method, stack):
+        """A frame for a callee, which gets its arguments from the stack of its caller."""
+        body = self.program.body(method)
+        count = len(class_reader.parameters(body.desc)[0])
         values = stack[len(stack) - count :]
         del stack[len(stack) - count :]
-        thread.frames.append(Frame((number, place), self.program.body((number, place)), values))
+        thread.frames.append(Frame(method, body, values))
 
     def fetch(self, frame, member, stack):
         linked = self.program.classes[frame.method[0]]
@@ -428,6 +436,10 @@ class World:
 
     # -- ends
 
+    def locks(self):
+        """The locks that are held, which this machine has none of; bench/monitors has one with locks."""
+        return None
+
     def text(self):
         """What is printed of a case behind its number."""
         lines = ["thread %d %s\n" % (number, thread.end or "running") for number, thread in enumerate(self.threads)]
@@ -520,9 +532,9 @@ def calculated(name, stack):
 # ---- cases
 
 
-def run(program, case, turns):
+def run(program, case, turns, world_of=World):
     """The world that the turns of a case leave."""
-    world = World(program, case)
+    world = world_of(program, case)
     for number in turns:
         world.turn(number)
         if not any(thread.frames for thread in world.threads):
@@ -530,8 +542,8 @@ def run(program, case, turns):
     return world
 
 
-def texts(program, cases):
-    return "".join("case %d\n%s" % (k, run(program, case, case.turns()).text()) for k, case in enumerate(cases, 1))
+def texts(program, cases, world_of=World):
+    return "".join("case %d\n%s" % (k, run(program, case, case.turns(), world_of).text()) for k, case in enumerate(cases, 1))
 
 
 def contents(path):
@@ -539,18 +551,18 @@ def contents(path):
         return file.read()
 
 
-def put(plan, paths):
+def put(plan, paths, world_of):
     program = Program([contents(path) for path in paths])
-    sys.stdout.write(texts(program, plan_cases(contents(plan).decode())))
+    sys.stdout.write(texts(program, plan_cases(contents(plan).decode()), world_of))
 
 
-def main():
+def main(world_of=World):
     if len(sys.argv) > 2:
-        return put(sys.argv[1], sys.argv[2:])
+        return put(sys.argv[1], sys.argv[2:], world_of)
     for line in contents(sys.argv[1] + "/list").decode().splitlines():
         name, *files = line.split()
         sys.stdout.write("program %s\n" % name)
-        put("%s/%s.plan" % (sys.argv[1], name), ["%s/%s" % (sys.argv[1], file) for file in files])
+        put("%s/%s.plan" % (sys.argv[1], name), ["%s/%s" % (sys.argv[1], file) for file in files], world_of)
     return None
 
 

@@ -221,7 +221,9 @@ def twin_beside(owner, body, probes, found):
 
 
 class Pair:
-    """A program and its instrumented files."""
+    """A program and its instrumented files, whose worlds are of `world_of`."""
+
+    world_of = slow_machine.World
 
     def __init__(self, before, after):
         self.before, self.after, self.twins, self.probes, self.faults, self.made = before, after, {}, {}, [], 0
@@ -250,7 +252,7 @@ class Pair:
 
     def run(self, case, turns):
         """The world that turns of the instrumented files leave, the kept ones of them, and the most others in a row."""
-        world, kept, row, most = slow_machine.World(self.after, case), [], [0] * len(case.threads), 0
+        world, kept, row, most = self.world_of(self.after, case), [], [0] * len(case.threads), 0
         self.made = 0
         for t in turns:
             thread = world.threads[t]
@@ -265,9 +267,13 @@ class Pair:
                 break
         return world, kept, most
 
+    def original(self, case, turns):
+        """The world that turns of the original leave."""
+        return slow_machine.run(self.before, case, turns, self.world_of)
+
     def spread(self, case, turns):
         """Turns of the instrumented files that make these turns of the original."""
-        world, made = slow_machine.World(self.after, case), []
+        world, made = self.world_of(self.after, case), []
         for t in turns:
             thread = world.threads[t]
             while thread.end is None:
@@ -288,6 +294,8 @@ class Pair:
                 found.append(what)
         if [key(each) for each in old.heap] != [key(each) for each in new.heap]:
             found.append("heap")
+        if old.locks() != new.locks():
+            found.append("locks")
         for c, (ours, theirs) in enumerate(zip(old.statics, new.statics)):
             if [value_key(v) for v in ours] != [value_key(v) for v in theirs[: len(ours)]]:
                 found.append("statics of class %d" % c)
@@ -430,7 +438,7 @@ class Comparison:
         for number, case in enumerate(cases, 1):
             new, kept, most = pair.run(case, case.turns())
             made = pair.made
-            old = slow_machine.run(pair.before, case, kept)
+            old = pair.original(case, kept)
             pair.faults += ["case %d: %s" % (number, each) for each in pair.differences(old, new)]
             pair.faults += ["case %d: %d probe turns" % (number, most)] if most > 17 else []
             self.spread(pair, case, number)
@@ -457,10 +465,11 @@ class Comparison:
         turns = [self.random.randrange(len(case.threads)) for _ in range(self.random.choice([20, 200, 600]))]
         made = pair.spread(case, turns)
         _, kept, _ = pair.run(case, made)
-        one, other = slow_machine.run(pair.before, case, kept), slow_machine.run(pair.before, case, turns)
+        one, other = pair.original(case, kept), pair.original(case, turns)
         if len(made) > 18 * len(turns):
             pair.faults.append("case %d: too many turns" % number)
-        if one.text() != other.text() or [t.frames and frame_keys(t) for t in one.threads] != [t.frames and frame_keys(t) for t in other.threads]:
+        left = lambda world: (world.text(), world.locks(), [thread.frames and frame_keys(thread) for thread in world.threads])
+        if left(one) != left(other):
             pair.faults.append("case %d: spread" % number)
 
     def coverage(self, pair, covered, taken, reached, clean):

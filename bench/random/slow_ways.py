@@ -94,7 +94,7 @@ class Comparison:
     def case(self, pair, case, number, turns, all_by_constant):
         new, kept, most = pair.run(case, turns)
         made = pair.made
-        old = slow_machine.run(pair.before, case, kept)
+        old = pair.original(case, kept)
         pair.faults += ["case %d: %s" % (number, each) for each in pair.differences(old, new)]
         pair.faults += ["case %d: %d probe turns" % (number, most)] if most > (9 if all_by_constant else 17) else []
         slow_twin.Comparison.spread(self, pair, case, number)
