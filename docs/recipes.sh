@@ -10,7 +10,7 @@ if [ ! -x "$jcov" ]; then
     exit 2
 fi
 count=0
-for recipe in whole-tree try-check-coverage try-lcov-trace shards; do
+for recipe in whole-tree dumps try-check-coverage try-lcov-trace shards; do
     if [ $recipe = shards ] && ! command -v parallel > /dev/null; then
         echo "left out: shards, for want of GNU parallel"
         continue
