@@ -1,16 +1,24 @@
 -- Rows without those that end no later than one of the same frame that begins no later.
-use Rattle.std.proofs.Common.{◌≡◌, ◌⊎◌, ⊎_elim, ℕ, ◌+◌, ◌<◌, ◌≤◌, List, [], ◌∷◌, ◌++◌, length, take, get_or, set, sym, ◌∙◌, ap, subst, arith}
+use Rattle.std.proofs.Common.{◌≡◌, ◌⊎◌, ⊎_elim, ℕ, Bool, true, ◌+◌, ◌<◌, ◌≤◌, List, [], ◌∷◌, ◌++◌, length, take, get_or, set, sym, ◌∙◌, ap, subst, arith}
 use Rattle.std.specs.List.{All, Contains}
+use Rattle.std.specs.Cmp.Lexicographic.{pointwise, pointwise_decides}
 use Rattle.std.specs.List.Sorted.{IsNonDecreasingBy}
 use Rattle.std.proofs.lemmas.Bool.{cases_eq, cases_lt}
 use Rattle.std.proofs.lemmas.List.{take_more, take_all, get_or-set_same, get_or-set_other}
 use Rattle.std.proofs.lemmas.List.Elements.{Contains-get_or, Contains-append_left, Contains-push, Contains-push_cases}
 use Rattle.std.proofs.lemmas.List.Sorted.{IsNonDecreasingBy-short, IsNonDecreasingBy-push}
 use Rattle.jc_bytes.proofs.BooleanLaws.{none_in}
+use Rattle.std.specs.Bool.{Decides}
+use Rattle.jc_methods.specs.declared.kind.Kind.{Kind}
 use Rattle.jc_methods.specs.declared.body.Body.{Body}
 use Rattle.jc_refs_check.specs.declared.guards.Guard.{Guard}
 use Rattle.jc_refs_check.specs.Unguarded.{IsFrameFor, AreSortedGuards, IsGuardedBy, AreFurther, AreGuards}
 use Rattle.jc_refs_check.proofs.RowsLaws.{begins_before}
+
+-- ---- frames of the same types
+
+pub same_kinds : {E : Kind → Kind → Bool} (a b : List Kind) (r : Bool) → r ≡ pointwise E a b → ((x y : Kind) → Decides (E x y) (x ≡ y)) → r ≡ true → a ≡ b
+same_kinds {E} a b r is decides holds = let both = pointwise_decides decides a b in both.0 (sym is ∙ holds)
 
 -- ---- rows that guard more
 

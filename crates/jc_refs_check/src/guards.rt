@@ -1,5 +1,5 @@
 //! The rows of the exception table by where they begin, with the frames of their handlers.
-ghost use Rattle.std.specs.Prelude.{◌≡◌, ◌<◌, ◌≤◌, ◌∷◌, ◌++◌, [], length, slice_index, set, All, IfOk, OnOk};
+ghost use Rattle.std.specs.Prelude.{◌≡◌, ◌<◌, ◌≤◌, ◌∷◌, ◌++◌, [], length, slice_index, set, All, IfOk, OnOk, IsTrue};
 ghost use Rattle.std.specs.List.Sorted.{IsNonDecreasingBy};
 ghost use Rattle.jc_methods.specs.WellMade.{IsWellMade};
 ghost use Rattle.jc_refs_check.specs.Classes.{AreKnown};
@@ -10,7 +10,7 @@ use crate::classes::Classes;
 use crate::columns::class_at;
 use crate::frames::frame_number;
 use jc_bytes::Memory;
-use jc_methods::{Body, FrameAt, Handler};
+use jc_methods::{Body, FrameAt, Handler, State};
 use std::alloc::Global;
 
 /// A row of the exception table.
@@ -32,8 +32,15 @@ pub struct Guards<'a> {
     pub rows: &'a [Guard],
 }
 
+/// Whether the local variables of two frames have the same types.
+fn have_same_locals(one: &State, other: &State) -> bool
+    ensures { IsTrue result → one.now.locals ≡ other.now.locals }
+{
+    one.locals == other.locals
+}
+
 /// The number of a frame that wants what the one with a number does, by those in front of it: that of the one in front of it where the
-/// two have the same types, else its own.
+/// local variables of the two have the same types, else its own.
 fn alike_at(frames: &[FrameAt], numbers: &[usize], number: usize) -> usize
     requires within { number < length frames.now }
     requires numbers { AreAlike frames.now number numbers.now }
@@ -43,15 +50,14 @@ fn alike_at(frames: &[FrameAt], numbers: &[usize], number: usize) -> usize
     if number == 0 {
         return number;
     }
-    let before = &frames[number - 1].state;
-    if before.is_same(&frames[number].state) {
+    if have_same_locals(&frames[number - 1].state, &frames[number].state) {
         numbers[number - 1]
     } else {
         number
     }
 }
 
-/// For each frame the number of the first of those in front of it that have its types, one behind the other.
+/// For each frame the number of the first of those in front of it whose local variables have its types, one behind the other.
 fn alike_numbers(alloc: Global, frames: &[FrameAt]) -> Result<Vec<usize>, Memory>
     ensures { IfOk result (λ numbers. AreAlike frames.now (length frames.now) numbers.items) }
 {
@@ -136,7 +142,7 @@ fn further_guards(alloc: Global, guards: &[Guard], count: usize) -> Result<Vec<G
 }
 
 /// The rows by where they begin, without those that end no later than one that begins no later and whose handler's frame has the same
-/// types.
+/// local variables.
 ///
 /// # Errors
 ///
