@@ -13,7 +13,7 @@ docs/check.py          prints each name that isn't there, by page and line
 - docs/callers: the code behind the words `From FILE:`, FILE in backquotes, stands in that file word for word, and all Rust code
   of these pages is so.
 - The text that a must-fail edit changes stands once in its file.
-- No line of a definition or a proof has more than 220 characters, but for imports.
+- No line of a definition or a proof has more than 200 characters, but for imports.
 """
 import glob
 import os
@@ -229,10 +229,10 @@ def check_edits():
 
 
 def check_lines():
-    """Each line of a definition or a proof can be read without scrolling: no more than 220 characters, but for imports."""
+    """Each line of a definition or a proof can be read without scrolling: no more than 200 characters, but for imports."""
     for path in files("crates/*/specs/**/*.antt", "crates/*/proofs/**/*.antt"):
         for number, line in enumerate(read(path).split("\n"), 1):
-            if len(line) > 220 and not line.startswith(("use ", "pub use ")):
+            if len(line) > 200 and not line.startswith(("use ", "pub use ")):
                 wrong.append(f"{path}:{number}: {len(line)} characters")
 
 

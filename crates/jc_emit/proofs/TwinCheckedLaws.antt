@@ -293,7 +293,8 @@ module _ (names new_names : Names) (states : List State) (first : ℕ) (form : T
       let s : TypeState = record { locals = (S i).locals; stack = caught b g ∷ [] } in
       let before : state_of names b i ≡ Some (S i) = state_b names new_names states first form named b b' p i o.within in
       let fits : StateBy p.passes s (S g.target) =
-      there_fit p.passes (at_handler b g (state_of names b i)) (state_of names b g.target) s (S g.target) (ap (at_handler b g) before) (state_b names new_names states first form named b b' p g.target target)
+      there_fit p.passes (at_handler b g (state_of names b i)) (state_of names b g.target) s (S g.target)
+      (ap (at_handler b g) before) (state_b names new_names states first form named b b' p g.target target)
       (p.flows.handlers g i o.guards o.within) in
       let shifted_fits = state_shift p.flow (image_of b first form) b.arg_slots s (S g.target) fits in
       let all : StateBy p.passes (record { locals = w.0.before.locals; stack = caught b g ∷ [] }) (moved (S g.target)) = record {
@@ -304,7 +305,8 @@ module _ (names new_names : Names) (states : List State) (first : ℕ) (form : T
       ap (at_handler b' (moved_row (lead_of b first form) (land_of b first form) g)) w.0.state_is
       ∙ ap (λ (x : VerificationType). Some (record { locals = w.0.before.locals; stack = x ∷ [] })) (same_caught g o.row) in
       subst (λ (x : Handler). ThereBy p.passes (at_handler b' x (N q)) (N x.target)) (sym e)
-      (subst (λ o. ThereBy p.passes o (N (land g.target))) (sym mine) (fit_there p.passes (N (land g.target)) (record { locals = w.0.before.locals; stack = caught b g ∷ [] }) (moved (S g.target)) there all))
+      (subst (λ o. ThereBy p.passes o (N (land g.target))) (sym mine)
+      (fit_there p.passes (N (land g.target)) (record { locals = w.0.before.locals; stack = caught b g ∷ [] }) (moved (S g.target)) there all))
 
   -- ---- frames
 

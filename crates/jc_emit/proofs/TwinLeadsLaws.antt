@@ -103,7 +103,8 @@ module _ (names new_names : Names) (states : List State) (first : ℕ) (form : T
 
   pub fits_branch : (i j : ℕ) (lt : i < length b.code) → j < length b.code → LeadsTo b i j → StateBy p.passes (After i lt) (S j)
   fits_branch i j lt within leads =
-      there_fit p.passes (after_at names b i) (state_of names b j) (After i lt) (S j) (after_at_b names new_names states first form named b b' p i lt) (state_of_b j within) (p.flows.branches i j leads)
+      there_fit p.passes (after_at names b i) (state_of names b j) (After i lt) (S j)
+      (after_at_b names new_names states first form named b b' p i lt) (state_of_b j within) (p.flows.branches i j leads)
 
   falls_from : (i : ℕ) → i < length b.code → FallsThrough (old i) → GoesOnFrom b i
   falls_from i lt falls = record { insn = old i; stands = old_at names new_names states first form named b b' p i lt; falls = falls }

@@ -92,7 +92,8 @@ module _ (old names : Names) (b : Body) (states : List State) (rows : List Guard
           (inr (inl (h, there, refl))) e)
 
   -- what the handler's frame wants in a local variable
-  wanted_is : (h : Handler) (g : Guard) (f : State) (slot : ℕ) → IsFrameFor b.frames h.target g.frame → frame_in b.frames h.target ≡ Some f → wanted_at names b.frames g.frame slot ≡ wanted_of names (class_at slot f)
+  wanted_is : (h : Handler) (g : Guard) (f : State) (slot : ℕ) → IsFrameFor b.frames h.target g.frame
+      → frame_in b.frames h.target ≡ Some f → wanted_at names b.frames g.frame slot ≡ wanted_of names (class_at slot f)
   wanted_is h g f slot is at =
       let there = stands_there 0 b.code b.max_locals b.max_stack b.frames made.of_any_size.frames h.target is.count is.stands f at in
       is.alike names slot ∙ ap (option_and_then (λ (x : FrameAt). wanted_of names (class_at slot x.state))) there.1 ∙ ap (λ (s : State). wanted_of names (class_at slot s)) there.2
