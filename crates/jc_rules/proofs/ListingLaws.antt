@@ -1,8 +1,7 @@
 -- The lines from the least to the greatest, with their statuses.
-use Rattle.std.proofs.Common.{◌≡◌, ℕ, zero, suc, ◌+◌, ◌-◌, ◌<◌, ◌≤◌, Bool, List, [], ◌∷◌, ◌++◌, length, get_or, take, drop, map, Some, refl, sym, ◌∙◌, ap, ap₂, subst, arith}
+use Rattle.std.proofs.Common.{◌≡◌, ℕ, suc, ◌+◌, ◌-◌, ◌≤◌, List, [], ◌∷◌, ◌++◌, length, take, drop, map, Some, refl, sym, ◌∙◌, ap, ap₂, subst, arith}
 use Rattle.std.specs.Prelude.{Contains, slice_get}
 use Rattle.std.proofs.lemmas.List.{take_all, drop_all, append-nil}
-use Rattle.jc_bytes.specs.Least.{IsNowhere, IsLeast}
 use Rattle.jc_bytes.specs.PlainLists.{numbers_from}
 use Rattle.jc_bytes.proofs.BooleanLaws.{none_in}
 use Rattle.jc_bytes.proofs.ListLaws.{stands_at}

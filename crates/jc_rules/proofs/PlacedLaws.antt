@@ -1,6 +1,6 @@
 -- The instructions that have a line, in the list of lines of instructions.
-use Rattle.std.proofs.Common.{◌≡◌, ℕ, ◌+◌, Bool, List, [], ◌∷◌, Option, Some, None, refl, sym, ◌∙◌, ap, subst, zero-add}
-use Rattle.std.specs.Prelude.{Contains, option_map, option_to_list, slice_get}
+use Rattle.std.proofs.Common.{◌≡◌, ℕ, ◌+◌, Bool, List, [], Option, Some, None, refl, sym, ◌∙◌, ap, subst, zero-add}
+use Rattle.std.specs.Prelude.{Contains, option_map, option_to_list}
 use Rattle.jc_bytes.proofs.BooleanLaws.{first_in, none_in}
 use Rattle.jc_bytes.proofs.FirstSeenLaws.{contains_one}
 use Rattle.jc_bytes.proofs.ListLaws.{flat_cases, flat_in}

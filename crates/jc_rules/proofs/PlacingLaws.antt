@@ -1,8 +1,7 @@
 -- The lines of the instructions of methods, put into a list one by one.
-use Rattle.std.proofs.Common.{◌≡◌, ℕ, ◌+◌, ◌<◌, ◌≤◌, Bool, true, false, cond, List, [], ◌∷◌, ◌++◌, filter, length, get_or, take, drop, replicate, Option, Some, None, refl, sym, ◌∙◌, ap, ap₂, append_assoc, arith}
+use Rattle.std.proofs.Common.{◌≡◌, ℕ, ◌+◌, ◌<◌, ◌≤◌, Bool, true, false, cond, List, [], ◌∷◌, ◌++◌, length, get_or, take, drop, replicate, Option, None, refl, sym, ◌∙◌, ap, ap₂, append_assoc}
 use Rattle.std.specs.Prelude.{option_map, option_to_list}
-use Rattle.std.specs.List.{flat_map}
-use Rattle.std.proofs.lemmas.List.{take_all, drop_all, append-nil}
+use Rattle.std.proofs.lemmas.List.{drop_all, append-nil}
 use Rattle.jc_bytes.specs.PlainLists.{join_from}
 use Rattle.jc_bytes.proofs.AppendingLaws.{drop_is}
 use Rattle.jc_methods.specs.declared.body.Body.{Body}
@@ -12,9 +11,9 @@ use Rattle.jc_cover.specs.Counters.{Method, is_counted, line_of}
 use Rattle.jc_cover.specs.Lines.{with_lines, first_of}
 use Rattle.jc_cover.specs.Sums.{one_counted}
 use Rattle.jc_cover.proofs.ClassCountsLaws.{those}
-use Rattle.jc_cover.proofs.StartsLaws.{Carried, none_carried, line_carried, carried_on}
+use Rattle.jc_cover.proofs.StartsLaws.{Carried, line_carried, carried_on}
 use Rattle.jc_rules.specs.declared.status.LineStatus.{LineStatus}
-use Rattle.jc_rules.specs.Placed.{placed_at, insn_placed, insns_placed, method_placed, methods_placed}
+use Rattle.jc_rules.specs.Placed.{placed_at, insn_placed, method_placed, methods_placed}
 
 -- ---- the instructions of a method
 
@@ -22,9 +21,6 @@ use Rattle.jc_rules.specs.Placed.{placed_at, insn_placed, insns_placed, method_p
 pub record Lining (table : List LineAt) (insns : List (List Bool)) (at : ℕ) (front now : List LineStatus) (line : Option ℕ) : Type 0 where
   pub lined : now ≡ front ++ join_from (insn_placed table) 0 (take at insns)
   pub carried : Carried table at line
-
-pub lining_begun : (table : List LineAt) (insns : List (List Bool)) (front : List LineStatus) → Lining table insns 0 front front None
-lining_begun table insns front = record { lined = sym (append-nil front); carried = none_carried table }
 
 pub lining_more : (table : List LineAt) (insns : List (List Bool)) (at : ℕ) (values : List Bool) (front now next : List LineStatus) (start line line' : Option ℕ)
     → at < length insns → values ≡ get_or insns at values → start ≡ get_or (with_lines table (replicate (length insns) None)) at start → line' ≡ first_of start line
@@ -38,18 +34,6 @@ lining_more table insns at values front now next start line line' lt is read fir
           ∙ ap (λ (l : List LineStatus). front ++ l) (sym (join_from_more (insn_placed table) insns at values lt is));
       carried = carried_on table at line' e;
     }
-
-pub lining_done : (table : List LineAt) (insns : List (List Bool)) (at : ℕ) (front now : List LineStatus) (line : Option ℕ) → length insns ≤ at
-    → Lining table insns at front now line → now ≡ front ++ insns_placed table insns
-lining_done table insns at front now line le l = l.lined ∙ ap (λ (vs : List (List Bool)). front ++ join_from (insn_placed table) 0 vs) (take_all at insns le)
-
-pub method_put : (b : Body) (insns : List (List Bool)) → is_counted b ≡ true → insns_placed b.lines insns ≡ methods_placed (one_counted b insns)
-method_put b insns counts =
-    let m : Method = record { body = b; insns = insns } in
-    sym (append-nil (method_placed m)) ∙ sym (ap (λ (t : Bool). methods_placed (cond t (m ∷ []) [])) counts)
-
-pub method_passed : (b : Body) (insns : List (List Bool)) → is_counted b ≡ false → [] ≡ methods_placed (one_counted b insns)
-method_passed b insns counts = let m : Method = record { body = b; insns = insns } in sym (ap (λ (t : Bool). methods_placed (cond t (m ∷ []) [])) counts)
 
 -- ---- the methods of a class
 

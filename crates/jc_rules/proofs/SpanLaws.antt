@@ -1,8 +1,8 @@
 -- The least and the greatest line, one instruction more at a time.
-use Rattle.std.proofs.Common.{◌≡◌, ◌⊎◌, inl, inr, ⊎_elim, ℕ, ◌+◌, ◌<◌, ◌≤◌, min, max, List, [], ◌∷◌, ◌++◌, length, get_or, take, Option, Some, None, sym, ◌∙◌, ap, subst, arith}
+use Rattle.std.proofs.Common.{◌≡◌, ◌⊎◌, inl, inr, ⊎_elim, ℕ, ◌+◌, ◌<◌, List, [], ◌∷◌, ◌++◌, length, get_or, take, Option, Some, None, sym, ◌∙◌, ap, subst, arith}
 use Rattle.std.specs.Prelude.{Contains}
 use Rattle.std.proofs.lemmas.Bool.{cases_lt}
-use Rattle.std.proofs.lemmas.List.{take_more, take_all}
+use Rattle.std.proofs.lemmas.List.{take_more}
 use Rattle.std.proofs.lemmas.List.Elements.{Contains-append_left, Contains-push, Contains-push_cases}
 use Rattle.jc_bytes.proofs.BooleanLaws.{none_in}
 use Rattle.jc_rules.specs.declared.span.Span.{Span}
@@ -13,13 +13,13 @@ module _ (front : List LineStatus) (p : LineStatus) where
   abbrev more : List LineStatus
   more = front ++ p ∷ []
 
-  pub has_before : (number : ℕ) → Has front number → Has more number
+  has_before : (number : ℕ) → Has front number → Has more number
   has_before number (q, there, at) = (q, Contains-append_left front (p ∷ []) q there, at)
 
-  pub has_last : (number : ℕ) → p.line ≡ number → Has more number
+  has_last : (number : ℕ) → p.line ≡ number → Has more number
   has_last number at = (p, Contains-push front p, at)
 
-  pub has_cases : (number : ℕ) → Has more number → Has front number ⊎ (p.line ≡ number)
+  has_cases : (number : ℕ) → Has more number → Has front number ⊎ (p.line ≡ number)
   has_cases number (q, there, at) = ⊎_elim (λ before. inl (q, before, at)) (λ last. inr (ap (λ (r : LineStatus). r.line) last ∙ at)) (Contains-push_cases front p q there)
 
   span_begun : (new : Span) → front ≡ [] → IsWidened None p.line new → IsSpan more new
@@ -62,6 +62,3 @@ module _ (front : List LineStatus) (p : LineStatus) where
 pub span_more : (placed : List LineStatus) (k : ℕ) (d : LineStatus) (old : Option Span) (new : Span) → k < length placed
     → IsSpanOf (take k placed) old → IsWidened old (get_or placed k d).line new → IsSpanOf (take (k + 1) placed) (Some new)
 span_more placed k d old new lt s w = subst (λ (l : List LineStatus). IsSpan l new) (sym (take_more placed k d lt)) (span_put (take k placed) (get_or placed k d) old new s w)
-
-pub span_whole : (placed : List LineStatus) (k : ℕ) (lines : Option Span) → length placed ≤ k → IsSpanOf (take k placed) lines → IsSpanOf placed lines
-span_whole placed k lines le s = subst (λ (l : List LineStatus). IsSpanOf l lines) (take_all k placed le) s

@@ -1,5 +1,5 @@
 -- Totals put together class by class.
-use Rattle.std.specs.Prelude.{ℕ, ◌+◌, ◌≤◌, Bool, not, ◌&&◌, nat_lt}
+use Rattle.std.specs.Prelude.{ℕ, ◌+◌, ◌≤◌, not, ◌&&◌, nat_lt}
 use Rattle.jc_plan.specs.Entries.{one_if}
 use Rattle.jc_cover.specs.declared.coverage.Count.{Count}
 use Rattle.jc_cover.specs.declared.coverage.Counters.{Counters}

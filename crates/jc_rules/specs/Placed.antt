@@ -1,5 +1,5 @@
 -- The lines of the instructions of methods, each with the status that the instruction alone gives it.
-use Rattle.std.specs.Prelude.{◌≡◌, ⊤, ℕ, ◌<◌, ◌≤◌, Bool, true, false, List, option_map, option_to_list, slice_get, Some, if◌then◌else◌}
+use Rattle.std.specs.Prelude.{⊤, ℕ, Bool, true, false, List, option_map, option_to_list}
 use Rattle.std.specs.List.{list_any, list_all, flat_map}
 use Rattle.jc_bytes.specs.PlainLists.{join_from}
 use Rattle.jc_methods.specs.declared.body.LineAt.{LineAt}

@@ -1,5 +1,5 @@
 -- The least and the greatest line of instructions, and the lines between them with what is said of each.
-use Rattle.std.specs.Prelude.{◌≡◌, ℕ, ◌+◌, ◌-◌, ◌<◌, ◌≤◌, Bool, List, [], length, min, max, Option, Some, None, Contains, slice_get}
+use Rattle.std.specs.Prelude.{◌≡◌, ℕ, ◌+◌, ◌-◌, ◌<◌, ◌≤◌, Bool, List, [], min, max, Option, Some, None, Contains, slice_get}
 use Rattle.jc_rules.specs.declared.span.Span.{Span}
 use Rattle.jc_rules.specs.declared.status.LineState.TheVariants.{Empty}
 use Rattle.jc_rules.specs.declared.status.LineStatus.{LineStatus}

@@ -1,5 +1,5 @@
 -- What the counters of classes add up to, and a counter of the classes (JaCoCo's documentation on coverage counters).
-use Rattle.std.specs.Prelude.{ℕ, Bool, List, filter, nat_lt}
+use Rattle.std.specs.Prelude.{Bool, List, filter, nat_lt}
 use Rattle.std.specs.List.{sum_by}
 use Rattle.jc_cover.specs.declared.coverage.Count.{Count}
 use Rattle.jc_cover.specs.declared.coverage.Counters.{Counters}

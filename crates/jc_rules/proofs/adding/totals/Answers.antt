@@ -1,4 +1,4 @@
-use Rattle.std.proofs.Common.{◌*◌, ◌<◌, ◌≤◌, length, arith}
+use Rattle.std.proofs.Common.{◌*◌, arith}
 use Rattle.jc_cover.specs.declared.coverage.Count.{Count}
 use Rattle.jc_rules.specs.declared.total.Totalled.{Totalled}
 use Rattle.jc_rules.proofs.AddingLaws.{adds_none, adds_more, added_all, at_most_more}

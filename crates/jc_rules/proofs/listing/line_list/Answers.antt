@@ -1,7 +1,7 @@
-use Rattle.std.proofs.Common.{◌≡◌, ◌+◌, ◌-◌, ◌≤◌, ◌++◌, length, take, drop, sym, ap, ◌∙◌, subst, arith}
+use Rattle.std.proofs.Common.{◌≡◌, ◌+◌, ◌-◌, length, sym, ap, ◌∙◌, subst, arith}
 use Rattle.jc_cover.specs.Counters.{counted_methods}
 use Rattle.jc_rules.specs.LineList.{IsLineList}
-use Rattle.jc_rules.specs.Spans.{AreWithin, IsSpan, AreSaid}
+use Rattle.jc_rules.specs.Spans.{AreWithin, IsSpan}
 use Rattle.jc_rules.proofs.ListingLaws.{none_listed, listed, blank_sized, blank_again, all_within, all_written}
 use Rattle.jc_rules.proofs.listing.line_list.Goals as goal
 

@@ -1,4 +1,4 @@
-use Rattle.std.proofs.Common.{◌-◌, ◌<◌, ◌≤◌, length, get_or, refl, arith}
+use Rattle.std.proofs.Common.{◌-◌, ◌<◌, length, get_or, refl, arith}
 use Rattle.std.proofs.lemmas.List.Elements.{Contains-get_or}
 use Rattle.jc_rules.specs.declared.status.LineState.TheVariants.{Empty}
 use Rattle.jc_rules.specs.declared.status.LineStatus.{LineStatus}

@@ -1,4 +1,4 @@
-use Rattle.std.proofs.Common.{◌≡◌, ◌<◌, ◌≤◌, ◌++◌, Bool, List, length, get_or, ap, ◌∙◌, subst, sym, arith}
+use Rattle.std.proofs.Common.{◌≡◌, ◌<◌, ◌≤◌, Bool, List, length, get_or, ap, ◌∙◌, subst, sym, arith}
 use Rattle.std.specs.Prelude.{All}
 use Rattle.jc_methods.specs.WellMade.{IsLine}
 use Rattle.jc_methods.specs.declared.body.Body.{Body}
