@@ -1,1 +1,2 @@
 pub mod FitExampleLaws
+mod ProbedExampleLaws

@@ -1,4 +1,4 @@
-use Rattle.examples_machine.proofs.FitExampleLaws.{probed_is_program, probed_runs}
+use Rattle.examples_machine.proofs.ProbedExampleLaws.{probed_is_program, probed_runs}
 use Rattle.examples_machine.proofs.programs.worked_probed_programs.Goals as goal
 
 pub returns-clause-probed : goal.returns-clause-probed

@@ -1,4 +1,4 @@
-use Rattle.examples_machine.proofs.FitExampleLaws.{wide_is_program, wide_stack}
+use Rattle.examples_machine.proofs.ProbedExampleLaws.{wide_is_program, wide_stack}
 use Rattle.examples_machine.proofs.programs.worked_values_on_a_stack.Goals as goal
 
 pub returns-clause-wide : goal.returns-clause-wide
