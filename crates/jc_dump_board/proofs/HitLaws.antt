@@ -20,7 +20,8 @@ use Rattle.jc_dump_board.proofs.ViewLaws.{any_mine, any_more, any_less, any_stil
 more_cases : (l : List (ℕ × ℕ)) (c i d j : ℕ) → Contains (l ++ (c, i) ∷ []) (d, j) → Contains l (d, j) ⊎ ((d ≡ c) × (j ≡ i))
 more_cases l c i d j h = ⊎_elim (λ old. inl old) (λ new. let e = only (c, i) (d, j) new in inr (ap (λ (x : ℕ × ℕ). x.0) e, ap (λ (x : ℕ × ℕ). x.1) e)) (Contains-append_cases l ((c, i) ∷ []) (d, j) h)
 
-module _ (counts words : List ℕ) (views : List View) (id c i : ℕ) (v : View) (k : IsKept counts words views) (there : get_elem? views id ≡ some v) (part : 0 < v.part) (probe : IsProbe counts c i) where
+module _ (counts words : List ℕ) (views : List View) (id c i : ℕ) (v : View) (k : IsKept counts words views)
+    (there : get_elem? views id ≡ some v) (part : 0 < v.part) (probe : IsProbe counts c i) where
   abbrev after : List ℕ
   after = with_bit counts words k.enough c i probe.0
 

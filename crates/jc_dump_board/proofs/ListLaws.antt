@@ -47,7 +47,9 @@ kept_is P dec (x ∷ xs) y h = ⊎_elim
 
 pub is_kept : {A : Type 0} (P : A → Type 0) (dec : (x : A) → Dec (P x)) (l : List A) (y : A) → P y → Contains l y → Contains (keep P dec l) y
 is_kept P dec [] y p h = absurd (nothing y h)
-is_kept P dec (x ∷ xs) y p (zero, lt, e) = let is : x ≡ y = e in Contains-append_left (if_so (dec x) x) (keep P dec xs) y (subst (λ z. Contains (if_so (dec x) x) z) is (is_if_so (dec x) x (subst P (sym is) p)))
+is_kept P dec (x ∷ xs) y p (zero, lt, e) =
+    let is : x ≡ y = e in
+    Contains-append_left (if_so (dec x) x) (keep P dec xs) y (subst (λ z. Contains (if_so (dec x) x) z) is (is_if_so (dec x) x (subst P (sym is) p)))
 is_kept P dec (x ∷ xs) y p (suc k, lt, e) = Contains-append_right (if_so (dec x) x) (keep P dec xs) y (is_kept P dec xs y p (k, omega (arith, lt), e))
 
 -- ---- the probes of a word

@@ -26,11 +26,14 @@ module _ (bits class first below : ℕ) (was into now : List (List Bool)) (k : P
     k.0,
     λ c i. (
       (λ h. ⊎_elim (λ x. inl x) (λ t. inr (more c i t)) ((k.1 c i).0 h)),
-      (λ h. (k.1 c i).1 (⊎_elim (λ x. inl x) (λ t. let high = t.2 in let ne : i ≢ first + below = λ e. not (subst (λ j. bit_at bits (j % 64) ≡ 1) e t.3) in inr (t.0, t.1, omega (arith, high, ne), t.3)) h)),
+      (λ h. (k.1 c i).1 (⊎_elim (λ x. inl x) (λ t. let high = t.2 in
+          let ne : i ≢ first + below = λ e. not (subst (λ j. bit_at bits (j % 64) ≡ 1) e t.3) in
+          inr (t.0, t.1, omega (arith, high, ne), t.3)) h)),
     ),
   )
 
-  pub puts_set : now ≡ with_set into class (first + below) → bit_at bits ((first + below) % 64) ≡ 1 → class < length into → first + below < length (get_or into class []) → Puts bits class first (below + 1) was now
+  pub puts_set : now ≡ with_set into class (first + below) → bit_at bits ((first + below) % 64) ≡ 1 → class < length into
+      → first + below < length (get_or into class []) → Puts bits class first (below + 1) was now
   puts_set new it in_class in_row =
       let id = first + below in
       subst (Puts bits class first (below + 1) was) (sym new) (

@@ -134,8 +134,12 @@ pub in_word : (counts : List ℕ) (class nth : ℕ) → class < length counts �
     → IsIn counts (first_word counts class + nth) c i ↔ ((c ≡ class) × (nth * 64 ≤ i) × (i < nth * 64 + 64) × (i < slice_index counts class))
 in_word counts class nth in_class small in_row c i = (
   λ h.
-      let same = same_word counts c i class (nth * 64) h.0.0 (in_class, in_row) (omega (arith, h.1, div-add-mod' (nth * 64) 64)) in
-      (same.0, omega (arith, same.1, div-add-mod' (nth * 64) 64, div-add-mod' i 64), omega (arith, same.1, div-add-mod' (nth * 64) 64, div-add-mod' i 64), subst (λ d. i < slice_index counts d) same.0 h.0.0.1),
+      let same = same_word counts c i class (nth * 64) h.0.0 (in_class, in_row) (omega (arith, h.1, div-add-mod' (nth * 64) 64)) in (
+        same.0,
+        omega (arith, same.1, div-add-mod' (nth * 64) 64, div-add-mod' i 64),
+        omega (arith, same.1, div-add-mod' (nth * 64) 64, div-add-mod' i 64),
+        subst (λ d. i < slice_index counts d) same.0 h.0.0.1,
+      ),
   λ t.
       let low = t.1 in let high = t.2 in
       subst (λ d. IsIn counts (first_word counts class + nth) d i) (sym t.0) (((in_class, t.3), small), omega (arith, low, high, div-add-mod' i 64)),

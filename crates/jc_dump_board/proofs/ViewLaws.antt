@@ -89,5 +89,6 @@ pub only_mine : (list : View → List (ℕ × ℕ)) (views : List View) (id : �
     → ((j : ℕ) (u : View) → get_elem? views j ≡ some u → u.part ≡ 0 → list u ≡ []) → (d i : ℕ) → AnyHas list views d i → Contains (list v) (d, i)
 only_mine list views id v there sum all empty d i l = elim (ℕ_discrete l.0 id) as (λ _. Contains (list v) (d, i)) [
   | yes e ↦ subst (λ (u : View). Contains (list u) (d, i)) (same_view views id l.0 v l.1 e there l.2) l.3
-  | no ne ↦ absurd (let none : l.1.part ≡ 0 = omega (arith, parts_le views id l.0 v l.1 ne there l.2, all, sum) in nothing (d, i) (subst (λ (xs : List (ℕ × ℕ)). Contains xs (d, i)) (empty l.0 l.1 l.2 none) l.3))
+  | no ne ↦ absurd (let none : l.1.part ≡ 0 = omega (arith, parts_le views id l.0 v l.1 ne there l.2, all, sum) in
+      nothing (d, i) (subst (λ (xs : List (ℕ × ℕ)). Contains xs (d, i)) (empty l.0 l.1 l.2 none) l.3))
 ]

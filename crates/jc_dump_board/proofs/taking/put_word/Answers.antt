@@ -12,7 +12,14 @@ loop-offset-init c = puts_none c.args.bits c.args.class c.args.first c.args.into
 
 in_row : (c : In-loop-offset) → c.args.first + c.loop-offset.offset < length (get_or c.loop-offset.into c.args.class [])
 in_row c =
-    omega (arith, length_at c.loop-offset.into c.args.class, ap (λ l. get_or l c.args.class 0) c.loop-offset.invariant.0, length_at c.args.into.now c.args.class, c.requires.into.1, c.loop-offset-test.true)
+    omega (
+      arith,
+      length_at c.loop-offset.into c.args.class,
+      ap (λ l. get_or l c.args.class 0) c.loop-offset.invariant.0,
+      length_at c.args.into.now c.args.class,
+      c.requires.into.1,
+      c.loop-offset-test.true,
+    )
 
 pub set-requires-clause-id : goal.set-requires-clause-id
 set-requires-clause-id c = in_row (goal.at.set-requires-clause-id c).In-loop-offset
