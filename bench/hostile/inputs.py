@@ -63,6 +63,7 @@ COMMANDS = {
     "lines": ["lines", "A.class"],
     "check": ["check", "--min", "instruction=0/1", "A.class"],
     "instrument": ["instrument", "--dest", "out", "A.class"],
+    "instrument files": ["instrument", "--dest", "out", "d/"],
     "refs": ["refs", "A.class"],
     "run": [*RUN, "A.class"],
     "run files": [*RUN, "d/"],

@@ -109,6 +109,42 @@ def lines(count):
     return class_file(pool, [static_method(pool, "f", "()V", code_of(pool, 0, 1, NOP * 65534 + RETURN, tables=tables))])
 
 
+def variables(count):
+    """Entries of local variable tables of one body."""
+    pool, tables = Pool(), []
+    entry = u2(1) + u2(pool.utf8("x")) + u2(pool.utf8("I")) + u2(0)
+    for first in range(0, count, 60000):
+        entries = range(first, min(first + 60000, count))
+        text = b"".join(u2(k * 7919 % 65000) + entry for k in entries)
+        tables.append(attribute(pool, "LocalVariableTable", u2(len(entries)) + text))
+    return class_file(pool, [static_method(pool, "f", "()V", code_of(pool, 0, 1, NOP * 65534 + RETURN, tables=tables))])
+
+
+def attributes(count):
+    """Attributes without a byte, of a method and of its code."""
+    pool = Pool()
+    unknown = attribute(pool, "Z", b"")
+    body = code_of(pool, 0, 0, RETURN, tables=[unknown] * count)
+    return class_file(pool, [static_method(pool, "f", "()V", body, *[unknown] * (count - 1))])
+
+
+def returns(methods):
+    """Methods of 1,000 returns, each with a frame: a probe for each byte of code."""
+    pool = Pool()
+    table = attribute(pool, "StackMapTable", u2(999) + u1(1) + u1(0) * 998)
+    body = code_of(pool, 0, 0, RETURN * 1000, tables=[table])
+    return class_file(pool, [static_method(pool, "f%d" % k, "()V", body) for k in range(methods)])
+
+
+def small_files(count):
+    """A folder of class files of one method each."""
+    files = {}
+    for k in range(count):
+        pool, name = Pool(), "C%d" % k
+        files[f"d/{name}.class"] = class_file(pool, [static_method(pool, "f", "()V", code_of(pool, 0, 0, RETURN))], name=name)
+    return files
+
+
 def members(count):
     """Methods and fields of a few bytes."""
     pool = Pool()
@@ -146,5 +182,9 @@ INPUTS = [
     ("aaload of a long class, 8 methods", array_loads, (1,), ("classinfo",)),
     ("aaload of its 255 arrays, 8 methods", array_loads, (255,), ("classinfo",)),
     ("250,000 line entries", lines, (250000,), ("classinfo", "report", "lines")),
+    ("90,000 local variable entries", variables, (90000,), ("classinfo", "instrument")),
+    ("65,000 attributes", attributes, (65000,), ("classinfo", "instrument")),
+    ("32,000 returns", returns, (32,), ("classinfo", "report", "instrument")),
     ("65,000 methods and fields", members, (65000,), ("classinfo", "report")),
+    ("2,000 small class files", small_files, (2000,), ("report files", "instrument files")),
 ]
