@@ -6,8 +6,8 @@ docs/check.py          prints each name that isn't there, by page and line
 - A link leads to a file, and behind `#` to a heading of that page.
 - A link whose text is names in backquotes leads to a file that declares them, or in which they are clauses.
 - Each other name in backquotes stands somewhere in the repository; each name of a crate is that of one; each path is there.
-- README.md: the calls and clauses of the promises. ARCHITECTURE.md: their files too; and a row for each crate, under the headings and
-  in the order of crates.txt.
+- README.md: each promise leads to its row in RULES.md and to its calls, and names their clauses. ARCHITECTURE.md: the files, calls and
+  clauses of the promises; and a row for each crate, under the headings and in the order of crates.txt.
 - crates.txt names each folder of crates/, and for each crate only what a file of its code, definitions or proofs names.
 - No file that git tracks names a crate as it was called before.
 - docs/callers: the code behind the words `From FILE:`, FILE in backquotes, stands in that file word for word, and all Rust code
@@ -148,14 +148,19 @@ def check_promises(page):
 
 
 def check_readme():
-    """Calls are functions of some crate, and their clauses are clauses of their files, or definitions."""
-    specs = list(files("crates/*/specs/*.antt"))
-    for where, (_, calls, clauses) in list(rows("README.md", "## What is proved"))[1:]:
-        lasts = [name.split("::")[-1] for name in names_in(calls)]
-        sources = [path for path in files("crates/*/src/*.rt") if declared(path) & set(lasts)]
-        for name in lasts + names_in(clauses):
-            if not any(name in declared(path) for path in sources + specs):
-                wrong.append(f"{where}: `{name}` isn't declared")
+    """Each promise leads to a heading of RULES.md; each call leads to its file, and has a row in RULES.md; each clause without a link
+    is one of the calls' own."""
+    ruled = {name.split("::")[-1] for line in read("docs/RULES.md").split("\n") if line.startswith("| ") for name in names_in(line)}
+    link = r"\[([^][]*)\]\(([^()\s#]+)\)"
+    for where, (promise, calls, clauses) in list(rows("README.md", "## What is proved"))[1:]:
+        if "](docs/RULES.md#" not in promise:
+            wrong.append(f"{where}: the promise leads to no heading of RULES.md")
+        wrong.extend(f"{where}: `{name}` leads to no file" for name in names_in(re.sub(link, "", calls)))
+        called = [(name.split("::")[-1], read(path)) for told, path in re.findall(link, calls) if is_there(path) for name in names_in(told)]
+        wrong.extend(f"{where}: `{name}` has no row in RULES.md" for name, _ in called if name not in ruled)
+        found = [re.search(rf"\bfn {name}\b.*?(?=\n *(?:pub )?fn |\Z)", text, re.S) for name, text in called]
+        own = {name for each in found if each for name in re.findall(r"\bensures\*? (\w+) \{", each.group())}
+        wrong.extend(f"{where}: `{name}` is no clause of the calls" for name in names_in(re.sub(link, "", clauses)) if name not in own)
 
 
 def check_crates(page):
