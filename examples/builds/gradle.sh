@@ -56,7 +56,8 @@ GRADLE
 
 GRADLE_USER_HOME=$folder/gradle
 export GRADLE_USER_HOME
-gradle --offline --no-daemon --quiet -p project -Pruntime="$folder/runtime" coveredTest
+gradle --offline --no-daemon --quiet -p project -Pruntime="$folder/runtime" coveredTest > log 2>&1 || fail "$(cat log)"
+grep -E '^(instrumented|OK)' log
 cd project/build
-jcov report --csv report.csv --exec test.exec $(find classes -mindepth 1 -type d | sed 's,$,/,' | sort)
+jcov report --csv report.csv --exec test.exec $(find classes/java/main -mindepth 1 -type d | sed 's,$,/,' | sort)
 tail -n 1 report.csv
