@@ -16,7 +16,7 @@ use Rattle.jc_cover.specs.Covered.{branch_count, body_shape, TellsBranch, TellsC
 use Rattle.jc_cover.specs.Marking.{marks_of, covers, insn_values, values_by, class_values, coverage_of}
 use Rattle.jc_cover.proofs.MarkLaws.{marked_edge}
 
-insns_shaped : (b : Body) (first : ℕ) (hits marks : List Bool) (i : ℕ) (code : List Insn) → map length (map_from (insn_values b first hits marks) i code) ≡ map_from branch_count i code
+pub insns_shaped : (b : Body) (first : ℕ) (hits marks : List Bool) (i : ℕ) (code : List Insn) → map length (map_from (insn_values b first hits marks) i code) ≡ map_from branch_count i code
 insns_shaped b first hits marks i [] = refl
 insns_shaped b first hits marks i (insn ∷ code) = ap₂ (λ n ns. n ∷ ns) (length-map (branches_of i insn) (covers b first hits marks)) (insns_shaped b first hits marks (i + 1) code)
 

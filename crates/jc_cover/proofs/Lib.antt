@@ -16,3 +16,4 @@ pub mod DistinctLaws
 pub mod InsnLinesLaws
 pub mod StartsLaws
 pub mod ClassCountsLaws
+pub mod TallyLaws

@@ -5,3 +5,4 @@ pub mod Followed
 pub mod Planned
 pub mod Sums
 pub mod Lines
+pub mod Tally

@@ -25,7 +25,7 @@ fn is_counted(body: &Body) -> bool
 }
 
 /// Counts a method, if it counts.
-fn count_method(
+pub fn count_method(
     alloc: Global,
     sums: &mut Sums,
     lines: &mut Lines,

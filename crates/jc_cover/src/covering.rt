@@ -68,7 +68,7 @@ fn told_values(
 }
 
 /// The values of a body whose first id is `first`.
-fn body_values(
+pub fn body_values(
     alloc: Global,
     body: &Body,
     plan: &Plan,

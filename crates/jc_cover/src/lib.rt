@@ -10,6 +10,7 @@ mod lines;
 mod marking;
 mod planned;
 mod sums;
+mod tally;
 
 pub use counting::counters;
 pub use coverage::{Count, Counters, Coverage};
@@ -19,3 +20,4 @@ pub use laws::{
     each_counter_is_small, each_coverage_tells_what_is_covered, each_covered_edge_is_entered,
     each_line_is_found, each_mark_is_a_covered_instruction,
 };
+pub use tally::Tally;
