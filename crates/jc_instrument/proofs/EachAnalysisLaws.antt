@@ -35,7 +35,7 @@ use Rattle.jc_instrument.proofs.SomeBodiesLaws.{AllBodies, all_bodies}
 use Rattle.jc_instrument.proofs.TextSizesLaws.{class_size}
 
 -- the names of classes at places that have one
-names_at : (pool : PoolValue) (places : List ℕ) → AllByRecursion (HasClass pool) places
+pub names_at : (pool : PoolValue) (places : List ℕ) → AllByRecursion (HasClass pool) places
     → (names : List (List ℕ)) × (map Some names ≡ map (class_name_of pool) places)
 names_at pool [] all = ([], refl)
 names_at pool (place ∷ places) all =

@@ -74,3 +74,5 @@ pub mod BootstrapsLaws
 pub mod BootstrapsDecidedLaws
 pub mod LookedBodiesLaws
 pub mod LayoutsLaws
+pub mod KnownLaws
+pub mod ClassWalkLaws

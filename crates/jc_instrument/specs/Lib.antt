@@ -29,3 +29,5 @@ pub mod Writing
 pub mod Members
 pub mod InstrumentedFile
 pub mod Changing
+pub mod Known
+pub mod ClassWalk

@@ -38,7 +38,7 @@ fn check_one(
 }
 
 /// The first refusals once one more body is checked. Behind a missing frame nothing more is asked.
-fn check_next(
+pub fn check_next(
     alloc: Global,
     body: &Body,
     numbers: bool,

@@ -1,14 +1,17 @@
 //! What of a class file a report is made from.
-ghost use Rattle.std.specs.Prelude.{◌≡◌, ◌≤◌, Some, map, All, IfOk};
+ghost use Rattle.std.specs.Prelude.{◌≡◌, ◌≤◌, Some, List as Seq, map, All, IfOk};
 ghost use Rattle.jc_bytes.specs.Texts.{IsShortText};
 ghost use Rattle.jc_methods.specs.WellMade.{IsWellMade};
+ghost use Rattle.jc_methods.specs.declared.body.Body.{Body as MethodBody};
 ghost use Rattle.jc_class.specs.ClassFormat.{HasClass, HasSuper};
 ghost use Rattle.jc_class.specs.Writable.{IsClassFile};
 ghost use Rattle.jc_pool.specs.Lookup.{class_name_of};
 ghost use Rattle.jc_bytes.specs.Reader.{most_read};
 ghost use Rattle.jc_plan.specs.Analysed.{all_insns_and_arms, IsAnalysed};
 ghost use Rattle.jc_instrument.specs.Analysis.{super_name_of, Describes};
+ghost use Rattle.jc_instrument.specs.ClassWalk.{analysed_of};
 
+use crate::class_walk::ClassOutline;
 use crate::plans::{Planned, plans_of};
 use jc_bytes::{Bytes, List, Memory};
 use jc_class::{ClassFile, class_id};
@@ -51,6 +54,29 @@ fn class_names_at(alloc: Global, pool: &Pool, places: &[u16]) -> Result<List<Byt
     Ok(names)
 }
 
+/// The class but its bodies, with so many probes.
+pub fn outline(
+    alloc: Global,
+    bytes: &[u8],
+    class: &ClassFile,
+    probes: u32,
+) -> Result<ClassOutline, Memory>
+    requires class { IsClassFile class.now }
+    ensures described { (bodies : Seq MethodBody) → IfOk result (λ o. Describes bytes.now class.now (analysed_of o bodies)) }
+    ensures probes { IfOk result (λ o. o.probes ≡ probes) }
+{
+    let pool = &class.pool;
+    Ok(ClassOutline {
+        id: class_id(bytes),
+        name: class_name_at(alloc, pool, class.this_class)?,
+        version: class.major,
+        flags: class.flags,
+        super_name: super_name_of(alloc, pool, class.super_class)?,
+        interfaces: class_names_at(alloc, pool, &class.interfaces)?,
+        probes,
+    })
+}
+
 /// The class, with these bodies and their plans.
 pub fn described(
     alloc: Global,
@@ -65,15 +91,15 @@ pub fn described(
     ensures bodies { IfOk result (λ a. a.bodies ≡ bodies) }
     ensures analysed { IfOk result IsAnalysed }
 {
-    let pool = &class.pool;
     let Planned { plans, probes } = plans_of(alloc, &bodies)?;
+    let outline = outline(alloc, bytes, class, probes)?;
     Ok(Analysed {
-        id: class_id(bytes),
-        name: class_name_at(alloc, pool, class.this_class)?,
-        version: class.major,
-        flags: class.flags,
-        super_name: super_name_of(alloc, pool, class.super_class)?,
-        interfaces: class_names_at(alloc, pool, &class.interfaces)?,
+        id: outline.id,
+        name: outline.name,
+        version: outline.version,
+        flags: outline.flags,
+        super_name: outline.super_name,
+        interfaces: outline.interfaces,
         bodies,
         plans,
         probes,

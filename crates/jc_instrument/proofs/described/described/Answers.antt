@@ -1,10 +1,7 @@
-use Rattle.std.proofs.Common.{sym, subst}
-use Rattle.std.specs.Prelude.{All}
-use Rattle.std.proofs.lemmas.List.Elements.{All-from_recursion}
-use Rattle.jc_class.specs.ClassFormat.{HasClass}
+use Rattle.std.proofs.Common.{[]}
 use Rattle.jc_instrument.proofs.described.described.Goals as goal
 
-pub class_names_at-requires : goal.class_names_at-requires
-class_names_at-requires c =
-    let pool = c.args.class.now.pool in
-    subst (All (HasClass pool)) (sym c.deref-2.ensures) (All-from_recursion (HasClass pool) c.args.class.now.interfaces c.requires.class.interfaces.each)
+pub returns-clause-described : goal.returns-clause-described
+returns-clause-described c =
+    let d = c.in_ok-outline.ensures.described [] in
+    record { id = d.id; name = d.name; version = d.version; flags = d.flags; super_name = d.super_name; interfaces = d.interfaces }
