@@ -5,7 +5,8 @@ use Rattle.std.specs.Prelude.{bit_or}
 use Rattle.std.specs.Int.{bit_at}
 use Rattle.std.proofs.lemmas.Nat.Bits.{bit_at_or, bit_at-pow_same, bit_at-pow_other, bit_at-lt}
 use native.Mathlib.Decide.{ℕ_discrete}
-use Rattle.jc_programs.specs.Probes.{words_of, InRange, word_at}
+use Rattle.jc_programs.specs.Probes.{InRange}
+use Rattle.jc_board.specs.Places.{words_of, word_at}
 use Rattle.jc_board.specs.Rule.{IsSet}
 use Rattle.jc_board.proofs.PlaceLaws.{word_below, same_place}
 

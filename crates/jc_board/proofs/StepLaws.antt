@@ -10,7 +10,8 @@ use lib.ListN.{get_elem?}
 use Rattle.atomic_table.specs.Table.{State, Me, Act, keeps, Allows, Valid, carried_after}
 use Rattle.atomic_table.proofs.Lists.{at_set, set_here, set_else, set_again, at_longer, at_snoc}
 use Rattle.jc_board.specs.declared.seat.View.{View}
-use Rattle.jc_programs.specs.Probes.{InRange, word_at}
+use Rattle.jc_programs.specs.Probes.{InRange}
+use Rattle.jc_board.specs.Places.{word_at}
 use Rattle.jc_board.specs.Views.{whole, view, with_hit, joined, without_part, Peeks}
 use Rattle.jc_board.specs.Rule.{IsProbe, IsSet, AnyHas, sum_of_parts, IsKept}
 use Rattle.jc_board.proofs.BitLaws.{with_bit, bit_here, bit_more, bit_less}

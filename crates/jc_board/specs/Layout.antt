@@ -1,7 +1,7 @@
 -- Where the words of a board lie: 64 probes of one class in a word, and each class begins a new one.
 use Rattle.std.specs.Prelude.{◌≡◌, ℕ, ◌<◌, ◌≤◌, ◌^◌, List, length, slice_index}
 use Rattle.atomic_table.specs.Seated.{TableId}
-use Rattle.jc_programs.specs.Probes.{words_of, first_word}
+use Rattle.jc_board.specs.Places.{words_of, first_word}
 
 -- the first word of each class, among so many words
 pub record IsLayout (counts starts : List ℕ) (words : ℕ) : Type 0 where

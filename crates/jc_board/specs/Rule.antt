@@ -3,7 +3,8 @@ use Rattle.std.specs.Prelude.{◌≡◌, ℕ, ◌+◌, ◌/◌, ◌%◌, ◌^◌
 use mathlib.Core.Option.{some}
 use lib.ListN.{get_elem?}
 use Rattle.std.specs.Int.{bit_at}
-use Rattle.jc_programs.specs.Probes.{words_of, word_at, InRange}
+use Rattle.jc_programs.specs.Probes.{InRange}
+use Rattle.jc_board.specs.Places.{words_of, word_at}
 use Rattle.jc_board.specs.declared.seat.View.{View}
 use Rattle.jc_board.specs.Views.{whole}
 

@@ -1,6 +1,7 @@
 //! A board of probes, and the seats from which threads hit them.
 ghost use Rattle.std.specs.Prelude.{◌≡◌, ℕ, ◌+◌, ◌-◌, ◌<◌, ◌^◌, [], ◌∷◌, ◌++◌, true, false, Contains, IfOk};
-ghost use Rattle.jc_programs.specs.Probes.{counts_of, no_hits, word_at, InRange, IsHit};
+ghost use Rattle.jc_programs.specs.Probes.{counts_of, no_hits, InRange, IsHit};
+ghost use Rattle.jc_board.specs.Places.{word_at};
 ghost use Rattle.jc_board.specs.Views.{view, whole, with_hit, without_part, Peeks};
 
 use crate::closing::copy;
@@ -15,8 +16,8 @@ use std::marker::{Brand, Model};
 
 type Words = Shared<(), View, Vec<u32>, BoardRule>;
 
-/// A bit for each probe of each class, in words that threads share. Sixty-four probes of one class lie in a word, and each
-/// class begins a new word. There is at least one word.
+/// A bit for each probe of each class, in words that threads share. Sixty-four probes of one class lie in a word, and the words of
+/// two classes are so far apart that they share no cache line. There is at least one word.
 #[derive(Drop)]
 pub struct Board {
     table: Table<(), View, Vec<u32>, BoardRule, Global>,
@@ -148,6 +149,13 @@ impl Board {
         let closed = table.close_with(seat);
         copy(&closed, &starts, &counts, into);
         closed.free();
+    }
+
+    /// How many probes each class has.
+    pub fn counts(&self) -> &[u32]
+        ensures { result.now ≡ self.now.counts }
+    {
+        &self.counts
     }
 
     // The word of a probe.

@@ -3,10 +3,12 @@
 
 mod board;
 mod closing;
+mod known;
 mod layout;
 mod seat;
 mod steps;
 
 pub use board::{Board, Seat};
 pub use closing::copy;
-pub use layout::lay;
+pub use known::KnownHits;
+pub use layout::{lay, room_for};

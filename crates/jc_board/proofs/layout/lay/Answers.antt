@@ -1,7 +1,7 @@
-use Rattle.std.proofs.Common.{rules, ◌≡◌, ◌+◌, length, vec_len, arith, ap, get_or, refl, div-add-mod'}
+use Rattle.std.proofs.Common.{rules, ◌≡◌, ◌+◌, length, vec_len, arith, ap, refl}
 use Rattle.std.proofs.lemmas.Grind.{common_steps}
-use Rattle.jc_programs.specs.Probes.{first_word, words_of}
-use Rattle.jc_board.proofs.PlaceLaws.{first_word_more, first_word_first, first_word_last}
+use Rattle.jc_board.specs.Places.{first_word, words_of}
+use Rattle.jc_board.proofs.PlaceLaws.{class_in_front, first_word_more, first_word_first, first_word_last}
 use Rattle.jc_board.proofs.layout.lay.Goals as goal
 use Rattle.jc_board.proofs.layout.lay.Goals.{then-is_empty+in_ok-push-2, else-is_empty}
 
@@ -16,16 +16,7 @@ laying-preserved c =
     let counts = c.args.counts.now in (
       search rules,
       λ k h. let old = i.1 k in grind (arith, common_steps),
-      omega (
-        arith,
-        added.len,
-        more,
-        i.2,
-        c.div_ceil.ensures,
-        c.len-in-laying.ensures,
-        div-add-mod' (get_or counts c.laying.count-index 0) 64,
-        div-add-mod' (get_or counts c.laying.count-index 0 + 63) 64,
-      ),
+      omega (arith, added.len, more, i.2, c.room_for.ensures, c.len-in-laying.ensures),
       λ k. let old = i.3 k in let kept = added.by_index.0 k 0 in let zero = added.by_index.1 k 0 refl in let len = added.len in grind (arith, common_steps),
     )
 
@@ -49,3 +40,11 @@ returns-clause-layout c =
         begins = λ class h. i.1 class (omega (arith, h, all));
       }
     ]
+
+pub returns-clause-apart : goal.returns-clause-apart
+returns-clause-apart c =
+    let counts = c.args.counts.now in
+    let i = c.laying.invariant in
+    let all : c.laying.count-index ≡ length counts = omega arith in
+    λ a b front in_counts.
+    omega (arith, i.1 a (omega (arith, front, in_counts, all)), i.1 b (omega (arith, in_counts, all)), class_in_front counts a b front in_counts)

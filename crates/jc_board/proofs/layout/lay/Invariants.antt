@@ -1,5 +1,5 @@
 use Rattle.std.proofs.Common.{◌≡◌, ◌<◌, ℕ, length, slice_index}
-use Rattle.jc_programs.specs.Probes.{first_word}
+use Rattle.jc_board.specs.Places.{first_word}
 use Rattle.jc_board.proofs.layout.lay.Given as goal
 
 abbrev pub invariant-laying : goal.invariant-laying
