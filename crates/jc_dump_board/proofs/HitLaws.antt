@@ -6,7 +6,7 @@ use mathlib.Core.Option.{some}
 use lib.ListN.{get_elem?}
 use Rattle.atomic_table.specs.Table.{State, Me, keeps, Allows}
 use Rattle.atomic_table.proofs.Lists.{at_set}
-use Rattle.jc_programs.specs.Probes.{word_at}
+use Rattle.jc_board.specs.Places.{word_at}
 use Rattle.jc_board.specs.Rule.{IsProbe, IsSet}
 use Rattle.jc_board.proofs.BitLaws.{with_bit, bit_here, bit_more, bit_less}
 use Rattle.jc_dump_board.specs.declared.seat.View.{View}

@@ -4,7 +4,7 @@ use Rattle.std.specs.Prelude.{Contains, slice_index}
 use Rattle.std.specs.Int.{bit_at}
 use Rattle.std.proofs.lemmas.List.Elements.{Contains-append_left, Contains-append_right, Contains-append_cases}
 use native.Mathlib.Decide.{dec_lt, ℕ_discrete}
-use Rattle.jc_programs.specs.Probes.{word_at}
+use Rattle.jc_board.specs.Places.{word_at}
 use Rattle.jc_board.proofs.ViewLaws.{nothing}
 use Rattle.jc_dump_board.specs.Taking.{IsIn, Stands}
 

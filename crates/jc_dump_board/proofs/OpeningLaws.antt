@@ -5,7 +5,7 @@ use Rattle.std.specs.Int.{bit_at}
 use Rattle.std.proofs.lemmas.Nat.Bits.{bit_at-zero}
 use mathlib.Core.Option.{some, some-injective, some-ne-none}
 use lib.ListN.{get_elem?}
-use Rattle.jc_programs.specs.Probes.{words_of, word_at}
+use Rattle.jc_board.specs.Places.{words_of, word_at}
 use Rattle.jc_board.specs.Rule.{IsSet}
 use Rattle.jc_board.proofs.ViewLaws.{nothing}
 use Rattle.jc_dump_board.specs.declared.seat.View.{View}

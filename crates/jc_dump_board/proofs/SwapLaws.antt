@@ -10,7 +10,8 @@ use mathlib.Core.Option.{some}
 use lib.ListN.{get_elem?}
 use Rattle.atomic_table.specs.Table.{State, Me, keeps, Allows}
 use Rattle.atomic_table.proofs.Lists.{at_set, set_here}
-use Rattle.jc_programs.specs.Probes.{InRange, word_at}
+use Rattle.jc_programs.specs.Probes.{InRange}
+use Rattle.jc_board.specs.Places.{word_at}
 use Rattle.jc_board.specs.Rule.{IsProbe, IsSet}
 use Rattle.jc_board.proofs.PlaceLaws.{word_below}
 use Rattle.jc_board.proofs.ViewLaws.{at_length}

@@ -5,7 +5,8 @@ use Rattle.std.specs.Int.{bit_at}
 use Rattle.std.proofs.lemmas.List.Elements.{Contains-append_left, Contains-append_right, Contains-append_cases}
 use native.Mathlib.Decide.{dec_lt, ℕ_discrete}
 use Rattle.atomic_table.specs.Table.{Me}
-use Rattle.jc_programs.specs.Probes.{counts_of, words_of, first_word, word_at, IsHit}
+use Rattle.jc_programs.specs.Probes.{counts_of, IsHit}
+use Rattle.jc_board.specs.Places.{words_of, first_word, word_at}
 use Rattle.jc_board.specs.Rule.{IsProbe}
 use Rattle.jc_board.specs.Views.{whole}
 use Rattle.jc_board.proofs.PlaceLaws.{same_word, word_below}

@@ -2,7 +2,8 @@
 use Rattle.std.specs.Prelude.{◌≡◌, ℕ, ◌+◌, ◌≤◌, ◌⊎◌, List, [], ◌∷◌, length, Contains, true}
 use mathlib.Core.Option.{some}
 use lib.ListN.{get_elem?}
-use Rattle.jc_programs.specs.Probes.{words_of, InRange}
+use Rattle.jc_programs.specs.Probes.{InRange}
+use Rattle.jc_board.specs.Places.{words_of}
 use Rattle.jc_board.specs.Rule.{IsProbe, IsSet}
 use Rattle.jc_board.specs.Views.{whole}
 use Rattle.jc_dump_board.specs.declared.seat.View.{View}

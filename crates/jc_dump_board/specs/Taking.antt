@@ -2,7 +2,8 @@
 use Rattle.std.specs.Prelude.{◌≡◌, ℕ, ◌%◌, ◌<◌, ◌≤◌, ◌⊎◌, ◌↔◌, List, ◌++◌, Bool, true, Contains}
 use Rattle.std.specs.Int.{bit_at}
 use Rattle.atomic_table.specs.Table.{Me}
-use Rattle.jc_programs.specs.Probes.{counts_of, word_at, IsHit}
+use Rattle.jc_programs.specs.Probes.{counts_of, IsHit}
+use Rattle.jc_board.specs.Places.{word_at}
 use Rattle.jc_board.specs.Rule.{IsProbe}
 use Rattle.jc_board.specs.Views.{whole}
 use Rattle.jc_dump_board.specs.declared.seat.View.{View}

@@ -1,6 +1,7 @@
 //! A board of probes from which hits can be taken while threads hit, and the seats from which they hit and take.
 ghost use Rattle.std.specs.Prelude.{◌≡◌, ℕ, ◌+◌, ◌<◌, ◌^◌, ◌↔◌, ◌⊎◌, [], ◌∷◌, ◌++◌, List, true, false, Contains, IfOk};
-ghost use Rattle.jc_programs.specs.Probes.{counts_of, no_hits, word_at, InRange, IsHit};
+ghost use Rattle.jc_programs.specs.Probes.{counts_of, no_hits, InRange, IsHit};
+ghost use Rattle.jc_board.specs.Places.{word_at};
 ghost use Rattle.jc_board.specs.Views.{whole};
 ghost use Rattle.jc_dump_board.specs.Views.{new_view, with_hit, without_part};
 

@@ -1,7 +1,8 @@
 //! The hits of the words of a board, taken while threads hit.
 ghost use Rattle.std.specs.Prelude.{◌≡◌, ◌↔◌, ◌⊎◌, ℕ, ◌+◌, ◌%◌, ◌^◌, ◌<◌, ◌≤◌, [], length, slice_index, slice_index_or, List, Bool};
 ghost use Rattle.std.specs.Int.{bit_at};
-ghost use Rattle.jc_programs.specs.Probes.{counts_of, words_for, first_word, word_at, IsHit};
+ghost use Rattle.jc_programs.specs.Probes.{counts_of, IsHit};
+ghost use Rattle.jc_board.specs.Places.{room_for, first_word, word_at};
 ghost use Rattle.jc_board.specs.Layout.{IsLayout};
 ghost use Rattle.jc_board.specs.Rule.{IsProbe};
 ghost use Rattle.jc_dump_board.specs.declared.seat.View.{View};
@@ -10,6 +11,7 @@ ghost use Rattle.jc_dump_board.specs.Taking.{TakesWord, Taken};
 use crate::seat::View;
 use crate::steps::{DumpRule, Take, Word};
 use atomic_table::{Seat, Shared};
+use jc_board::room_for;
 use jc_programs::HitSet;
 use std::marker::Brand;
 
@@ -41,7 +43,7 @@ fn put_word(bits: u64, class: u32, first: u32, count: u32, into: &mut HitSet)
     }
 }
 
-// Takes the hits of the words of a class, which begin at `start`.
+// Takes the hits of the words of a class, which begin at `start`. Behind those of its probes none lies.
 fn take_class(
     words: &Words,
     seat: &mut Seat<(), View>,
@@ -51,7 +53,7 @@ fn take_class(
     into: &mut HitSet,
 )
     requires class { (class < length words.now.key.items) × (slice_index words.now.key.items class ≡ count) }
-    requires start { (start ≡ first_word words.now.key.items class) × (start + words_for count ≤ words.now.table_id.words) }
+    requires start { (start ≡ first_word words.now.key.items class) × (start + room_for count ≤ words.now.table_id.words) }
     requires few { words.now.table_id.words < 2 ^ 64 }
     requires table { seat.old.table_id ≡ words.now.table_id }
     requires part { 0 < seat.old.me.0.part }
@@ -60,19 +62,22 @@ fn take_class(
     ensures part { (seat.new.me.1 ≡ seat.old.me.1) × (seat.new.me.0.part ≡ seat.old.me.0.part) }
     ensures counts { counts_of into.new ≡ counts_of into.old }
     ensures taken { (was : View) (into_was : List (List Bool)) → Taken words.now.key.items start was seat.old.me.0 into_was into.old
-        → Taken words.now.key.items (start + words_for count) was seat.new.me.0 into_was into.new }
+        → Taken words.now.key.items (start + room_for count) was seat.new.me.0 into_was into.new }
 {
     let length = count.div_ceil(64);
     for nth in 0..length {
         let bits = take_word::<Brand>(words, seat, start + nth as usize);
         put_word(bits, class, nth * 64, count, into);
     }
+    let behind = start + length as usize;
+    let end = start + room_for(count);
+    take_rest(words, seat, behind, end);
 }
 
-// Takes the hits of the words behind those in which probes lie.
+// Takes the hits of words in which no probe lies.
 fn take_rest(words: &Words, seat: &mut Seat<(), View>, start: usize, end: usize)
-    requires start { (c i : ℕ) → IsProbe words.now.key.items c i → word_at words.now.key.items c i < start }
-    requires end { (start ≤ end) × (end ≡ words.now.table_id.words) }
+    requires none { (c i : ℕ) → IsProbe words.now.key.items c i → (word_at words.now.key.items c i < start) ⊎ (end ≤ word_at words.now.key.items c i) }
+    requires end { (start ≤ end) × (end ≤ words.now.table_id.words) }
     requires table { seat.old.table_id ≡ words.now.table_id }
     requires part { 0 < seat.old.me.0.part }
     ensures table { seat.new.table_id ≡ seat.old.table_id }
@@ -105,7 +110,7 @@ pub fn take_all(
 {
     let mut word = 0;
     for class in 0..counts.len().min(1 << 32) {
-        word = starts[class] + counts[class].div_ceil(64) as usize;
+        word = starts[class] + room_for(counts[class]);
         take_class(
             words,
             seat,

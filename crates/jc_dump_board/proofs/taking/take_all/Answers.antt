@@ -1,5 +1,5 @@
-use Rattle.std.proofs.Common.{ℕ, ◌≡◌, ◌+◌, List, length, get_or, slice_index_or, arith, ap, sym, refl, ◌∙◌, subst, div-add-mod'}
-use Rattle.jc_programs.specs.Probes.{first_word, word_at, words_for}
+use Rattle.std.proofs.Common.{ℕ, ◌+◌, List, get_or, slice_index_or, arith, inl, ap, sym, refl, ◌∙◌, subst}
+use Rattle.jc_board.specs.Places.{room_for, first_word, word_at}
 use Rattle.jc_board.specs.Rule.{IsProbe}
 use Rattle.jc_board.proofs.PlaceLaws.{first_word_more, first_word_first, first_word_le, class_below, word_in_front}
 use Rattle.jc_dump_board.specs.Taking.{Taken}
@@ -14,16 +14,7 @@ overflow_add-word c =
     let layout = c.requires.layout.0 in
     let class = c.loop-class.class in
     let counts = c.args.counts.now in
-    omega (
-      arith,
-      layout.begins class (omega arith),
-      class_below counts class (omega arith),
-      layout.enough,
-      c.requires.layout.1,
-      c.div_ceil.ensures,
-      div-add-mod' (get_or counts class 0) 64,
-      div-add-mod' (get_or counts class 0 + 63) 64,
-    )
+    omega (arith, layout.begins class (omega arith), class_below counts class (omega arith), layout.enough, c.requires.layout.1, c.room_for.ensures)
 
 pub take_class-requires-clause-start : goal.take_class-requires-clause-start
 take_class-requires-clause-start c =
@@ -43,39 +34,38 @@ loop-class-preserved c =
     let run = c.take_class.ensures in
     let same = c.requires.counts in
     let begins = layout.begins class (omega arith) in
-    let length : c.div_ceil.result ≡ words_for (get_or counts class 0) = omega (arith, c.div_ceil.ensures, div-add-mod' (get_or counts class 0) 64, div-add-mod' (get_or counts class 0 + 63) 64) in
     let was = c.args.seat.now.me.0 in
     let old = subst (λ (l : List ℕ). Taken l start was c.loop-class.seat.me.0 c.args.into.now c.loop-class.into) (sym same)
     (subst (λ n. Taken counts n was c.loop-class.seat.me.0 c.args.into.now c.loop-class.into) (i.0 ∙ sym begins) i.5) in (
-      omega (arith, begins, length, first_word_more counts class (omega arith)),
+      omega (arith, begins, c.room_for.ensures, first_word_more counts class (omega arith)),
       run.table ∙ i.1,
       run.part.0 ∙ i.2,
       run.part.1 ∙ i.3,
       run.counts ∙ i.4,
-      subst (λ n. Taken counts (start + n) was c.take_class.new.seat.me.0 c.args.into.now c.take_class.new.into) (sym length)
-          (subst (λ (l : List ℕ). Taken l (start + words_for (get_or counts class 0)) was c.take_class.new.seat.me.0 c.args.into.now c.take_class.new.into) same
+      subst (λ n. Taken counts (start + n) was c.take_class.new.seat.me.0 c.args.into.now c.take_class.new.into) (sym c.room_for.ensures)
+          (subst (λ (l : List ℕ). Taken l (start + room_for (get_or counts class 0)) was c.take_class.new.seat.me.0 c.args.into.now c.take_class.new.into) same
           (run.taken was c.args.into.now old)),
     )
 
-pub take_rest-requires-clause-start : goal.take_rest-requires-clause-start
-take_rest-requires-clause-start c =
+pub take_rest-requires-clause-none : goal.take_rest-requires-clause-none
+take_rest-requires-clause-none c =
     let counts = c.args.counts.now in
     let class = c.loop-class.class in
     λ d i p.
     let probe = subst (λ (l : List ℕ). IsProbe l d i) c.requires.counts p in
     let in_class = probe.0.0 in
     let small = probe.1 in
-    omega (
+    inl (omega (
       arith,
       word_in_front counts d i class probe.0 (omega (arith, in_class, small)) (omega arith),
       c.loop-class.invariant.0,
       ap (λ (l : List ℕ). word_at l d i) c.requires.counts,
-    )
+    ))
 
 pub take_rest-requires-clause-end : goal.take_rest-requires-clause-end
 take_rest-requires-clause-end c = (
   omega (arith, c.loop-class.invariant.0, first_word_le c.args.counts.now c.loop-class.class, c.requires.layout.0.enough, c.requires.layout.1),
-  c.requires.layout.1,
+  omega (arith, c.requires.layout.1),
 )
 
 pub returns-clause-taken : goal.returns-clause-taken

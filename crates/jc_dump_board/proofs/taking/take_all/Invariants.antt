@@ -1,5 +1,6 @@
 use Rattle.std.proofs.Common.{◌≡◌}
-use Rattle.jc_programs.specs.Probes.{counts_of, first_word}
+use Rattle.jc_programs.specs.Probes.{counts_of}
+use Rattle.jc_board.specs.Places.{first_word}
 use Rattle.jc_dump_board.specs.Taking.{Taken}
 use Rattle.jc_dump_board.proofs.taking.take_all.Given as goal
 

@@ -1,7 +1,8 @@
 use Rattle.std.proofs.Common.{ℕ, ◌≡◌, ◌<◌, ◌+◌, ◌/◌, arith, ap, sym, ◌∙◌, subst, List}
 use Rattle.std.proofs.lemmas.List.{get_or_read}
 use Rattle.jc_board.specs.Seen.{BoardSeen}
-use Rattle.jc_programs.specs.Probes.{word_at, InRange}
+use Rattle.jc_programs.specs.Probes.{InRange}
+use Rattle.jc_board.specs.Places.{word_at}
 use Rattle.jc_board.proofs.PlaceLaws.{word_below}
 use Rattle.jc_dump_board.proofs.board.DumpBoard.word_of.Goals as goal
 use Rattle.jc_dump_board.proofs.board.DumpBoard.word_of.Goals.{After-index}
