@@ -1,10 +1,11 @@
 //! Seats from which workers run cases.
 ghost use Rattle.std.specs.Prelude.{◌≡◌, ℕ, ◌+◌, ◌<◌, List, ◌∷◌, ◌++◌, [], Contains, IfOk};
+ghost use Rattle.jc_board.specs.Known.{Remembers};
 ghost use Rattle.jc_workers.specs.Ran.{HitsOf};
 
 use crate::runner::CaseRunner;
 use crate::{Gate, Place, SeatSink};
-use jc_board::{Board, Seat};
+use jc_board::{Board, KnownHits, Seat};
 use jc_bytes::Memory;
 use std::alloc::Global;
 use std::marker::Brand;
@@ -12,6 +13,7 @@ use std::marker::Brand;
 /// A seat at a board, from which cases hit probes, and which does what has to be done behind each case.
 pub trait CaseSeat<C: CaseRunner>: Drop {
     ghost use Rattle.std.specs.Prelude.{◌≡◌, ℕ, ◌+◌, ◌<◌, List, [], ◌∷◌, ◌++◌, IfOk};
+    ghost use Rattle.jc_board.specs.Known.{KnownSeen};
 
     /// What the seats of all workers share.
     type Board;
@@ -31,6 +33,14 @@ pub trait CaseSeat<C: CaseRunner>: Drop {
     /// The cases of the list ran from it, in this order, or from seats that it has taken in, and it knows what they hit.
     ghost ran: { Self → Self.Board → C → List ℕ → Type 0 };
 
+    /// A worker may keep the set of known hits from one case to the next.
+    ghost keeps: { Self → Self.Board → KnownSeen → Type 0 };
+
+    /// The set of known hits with which a worker begins. It is the only memory that the sinks of its cases take.
+    fn begin(&self, alloc: Global, board: &Self::Board) -> Result<KnownHits, Memory>
+        requires { at self.now board.now }
+        ensures { IfOk result (λ known. keeps self.now board.now known) };
+
     /// Runs a case, and does what has to be done behind it.
     fn run_case<G: Gate>(
         self,
@@ -40,7 +50,9 @@ pub trait CaseSeat<C: CaseRunner>: Drop {
         world: &mut C::World,
         gate: &G,
         case: usize,
-    ) -> Result<(C::End, Self), Memory>
+        known: KnownHits,
+    ) -> Result<(C::End, Self, KnownHits), Memory>
+        requires known { keeps self board.now known }
         requires board { at self board.now × (counts board.now ≡ C.counts runner.now) }
         requires case { C.runnable runner.now × (case < C.cases runner.now) }
         requires gate { G.passed gate.now (case + 1) }
@@ -48,6 +60,7 @@ pub trait CaseSeat<C: CaseRunner>: Drop {
         ensures world { C.fits runner.now world.new }
         ensures end { IfOk result (λ r. r.0 ≡ C.end_of runner.now case) }
         ensures seat { IfOk result (λ r. at r.1 board.now × (part r.1 ≡ part self) × (alone self → alone r.1)) }
+        ensures known { IfOk result (λ r. keeps r.1 board.now r.2) }
         ensures ran { IfOk result (λ r. (cases : List ℕ) → ran self board.now runner.now cases → ran r.1 board.now runner.now (cases ++ case ∷ [])) };
 
     /// A new seat of the board, from which no case ran. `amount` goes to it from the part of this seat.
@@ -76,7 +89,9 @@ fn run_from<P: Place, C: CaseRunner, G: Gate>(
     world: &mut C::World,
     gate: &G,
     case: usize,
-) -> Result<(C::End, Seat), Memory>
+    known: KnownHits,
+) -> Result<(C::End, Seat, KnownHits), Memory>
+    requires known { Remembers board.now.counts seat.hits known }
     requires place { (board.now.table ≡ P.table) × (seat.table ≡ P.table) × (seat.part ≡ P.part) }
     requires counts { board.now.counts ≡ C.counts runner.now }
     requires case { C.runnable runner.now × (case < C.cases runner.now) }
@@ -87,15 +102,17 @@ fn run_from<P: Place, C: CaseRunner, G: Gate>(
     ensures place { IfOk result (λ r. (r.1.table ≡ P.table) × (r.1.part ≡ P.part)) }
     ensures hits { IfOk result (λ r. (cases : List ℕ) → HitsOf (C.cases runner.now) (C.hits runner.now) (Contains cases) seat.hits
         → HitsOf (C.cases runner.now) (C.hits runner.now) (Contains (cases ++ case ∷ [])) r.1.hits) }
+    ensures known { IfOk result (λ r. Remembers board.now.counts r.1.hits r.2) }
 {
-    let mut sink: SeatSink<P> = SeatSink::new(seat, board);
+    let mut sink: SeatSink<P> = SeatSink::new(seat, board, known);
     let end = runner.run(alloc, world, gate, case, &mut sink)?;
-    let seat = sink.into_seat();
-    Ok((end, seat))
+    let (seat, known) = sink.into_parts();
+    Ok((end, seat, known))
 }
 
 impl<C: CaseRunner> CaseSeat<C> for Seat {
     ghost use Rattle.std.specs.Prelude.{◌≡◌, Contains};
+    ghost use Rattle.jc_board.specs.Known.{Remembers};
     ghost use Rattle.jc_workers.specs.Ran.{HitsOf};
 
     type Board = Board;
@@ -110,6 +127,12 @@ impl<C: CaseRunner> CaseSeat<C> for Seat {
 
     ghost ran = { λ seat board runner cases. HitsOf (C.cases runner) (C.hits runner) (Contains cases) seat.hits };
 
+    ghost keeps = { λ seat board known. Remembers board.counts seat.hits known };
+
+    fn begin(&self, alloc: Global, board: &Board) -> Result<KnownHits, Memory> {
+        KnownHits::new(alloc, board.counts())
+    }
+
     fn run_case<G: Gate>(
         self,
         alloc: Global,
@@ -118,8 +141,9 @@ impl<C: CaseRunner> CaseSeat<C> for Seat {
         world: &mut C::World,
         gate: &G,
         case: usize,
-    ) -> Result<(C::End, Seat), Memory> {
-        run_from::<Brand, C, G>(alloc, self, board, runner, world, gate, case)
+        known: KnownHits,
+    ) -> Result<(C::End, Seat, KnownHits), Memory> {
+        run_from::<Brand, C, G>(alloc, self, board, runner, world, gate, case, known)
     }
 
     fn split(&mut self, _alloc: Global, board: &Board, amount: u32) -> Seat {

@@ -33,7 +33,7 @@ pub struct Drew<E: Drop, S: Drop> {
     pub drawer: Drawer,
 }
 
-/// Draws cases and runs them, until there is none.
+/// Draws cases and runs them, until there is none. The worker has one world for all its cases, and one set of known hits.
 pub fn take_turn<S: CaseSeat<C>, C: CaseRunner, G: Gate>(
     alloc: Global,
     runner: &C,
@@ -60,6 +60,7 @@ where
     let cases = work.cases;
     let mut ends = Vec::new(alloc);
     let mut world = runner.begin(alloc)?;
+    let mut known = seat.begin(alloc, work.board)?;
     'drawing: for _ in 0..cases + 1 {
         let number = drawer.draw(work.claims);
         if number >= cases as u64 {
@@ -67,8 +68,11 @@ where
         }
         let case = number as usize;
         gate.pass(case as u32 + 1);
-        let (end, next) = seat.run_case(alloc, work.board, runner, &mut world, gate, case)?;
+        let (end, next, kept) = seat.run_case(
+            alloc, work.board, runner, &mut world, gate, case, known,
+        )?;
         seat = next;
+        known = kept;
         ends.push((case, end))?;
     }
     Ok(Drew { ends, seat, drawer })

@@ -28,6 +28,7 @@ drawing-init g c =
       λ k lt. absurd (omega (arith, lt, ap length i.3)),
       λ k lt h. absurd (none k h),
       c.in_ok-world.ensures,
+      c.in_ok-known.ensures,
     )
 
 pub drawing-preserved : goal.drawing-preserved
@@ -64,6 +65,7 @@ drawing-preserved g c =
           (λ n low h. ⊎_elim (λ old. i.10 n low old) (λ e. subst (λ m. g.G.Gate.passed c.args.gate.now (m + 1)) (sym e) (search rules))
           (has_one numbers k n h)),
       run.world,
+      run.known,
     )
 
 -- the last number is no case
