@@ -1,5 +1,6 @@
 mod DueLaws
 mod DumpLaws
+mod KnownLaws
 mod OrderLaws
 mod RunLaws
 mod SinceLaws

@@ -4,6 +4,7 @@ ghost use Rattle.jc_dump.specs.Since.{HitsSince};
 ghost use Rattle.jc_dump.specs.HasRun.{GainsHits, TakesDue};
 
 use crate::{DumpSink, Origin};
+use jc_board::KnownHits;
 use jc_bytes::Memory;
 use jc_dump_board::{DumpBoard, DumpSeat};
 use jc_programs::HitSet;
@@ -27,7 +28,9 @@ pub struct DumpingSeat {
     pub dumps: Vec<(usize, HitSet)>,
 }
 
-// Runs a case whose probes are hit from the seat.
+// Runs a case whose probes are hit from the seat. Nothing is remembered of the cases before, since what they hit may have been
+// taken: a probe that is hit again is set again.
+#[tactic(auto, using(crate::proofs::KnownLaws::known_hits))]
 fn run_from<O: Origin, C: CaseRunner, G: Gate>(
     alloc: Global,
     seat: DumpSeat,
@@ -36,7 +39,9 @@ fn run_from<O: Origin, C: CaseRunner, G: Gate>(
     world: &mut C::World,
     gate: &G,
     case: usize,
-) -> Result<(C::End, DumpSeat), Memory>
+    mut known: KnownHits,
+) -> Result<(C::End, DumpSeat, KnownHits), Memory>
+    requires known { known.counts ≡ board.now.counts }
     requires origin { (seat ≡ O.was) × (board.now.table ≡ O.was.table) }
     requires counts { board.now.counts ≡ C.counts runner.now }
     requires case { C.runnable runner.now × (case < C.cases runner.now) }
@@ -46,11 +51,13 @@ fn run_from<O: Origin, C: CaseRunner, G: Gate>(
     ensures end { IfOk result (λ r. r.0 ≡ C.end_of runner.now case) }
     ensures since { IfOk result (λ r. HitsSince O.was r.1) }
     ensures gained { IfOk result (λ r. GainsHits (C.hits runner.now case) seat.pending r.1.pending) }
+    ensures known { IfOk result (λ r. r.2.counts ≡ board.now.counts) }
 {
-    let mut sink: DumpSink<O> = DumpSink::new(seat, board);
+    known.forget();
+    let mut sink: DumpSink<O> = DumpSink::new(seat, board, known);
     let end = runner.run(alloc, world, gate, case, &mut sink)?;
-    let seat = sink.into_seat();
-    Ok((end, seat))
+    let (seat, known) = sink.into_parts();
+    Ok((end, seat, known))
 }
 
 // Takes a dump where one is due behind the case.
@@ -95,6 +102,12 @@ where
 
     ghost ran = { λ seat dumping runner cases. HasRun dumping.every dumping.board.counts (C.hits runner) cases seat.seat seat.dumps.items };
 
+    ghost keeps = { λ seat dumping known. known.counts ≡ dumping.board.counts };
+
+    fn begin(&self, alloc: Global, board: &Dumping) -> Result<KnownHits, Memory> {
+        KnownHits::new(alloc, &board.counts)
+    }
+
     fn run_case<G: Gate>(
         self,
         alloc: Global,
@@ -103,9 +116,10 @@ where
         world: &mut C::World,
         gate: &G,
         case: usize,
-    ) -> Result<(C::End, DumpingSeat), Memory> {
+        known: KnownHits,
+    ) -> Result<(C::End, DumpingSeat, KnownHits), Memory> {
         let DumpingSeat { seat, mut dumps } = self;
-        let (end, mut seat) = run_from::<Brand, C, G>(
+        let (end, mut seat, known) = run_from::<Brand, C, G>(
             alloc,
             seat,
             &board.board,
@@ -113,9 +127,10 @@ where
             world,
             gate,
             case,
+            known,
         )?;
         take_due(alloc, board, &mut seat, &mut dumps, case)?;
-        Ok((end, DumpingSeat { seat, dumps }))
+        Ok((end, DumpingSeat { seat, dumps }, known))
     }
 
     fn split(&mut self, alloc: Global, board: &Dumping, amount: u32) -> DumpingSeat {
