@@ -1,8 +1,9 @@
 #!/bin/sh
 # How much sooner `jcov run` ends on more workers: a plan of 256 cases of a million turns, of which each eighth hits a probe.
 # usage: bench/speed/workers.sh [JCOV]      JCOV: the built program; else the one of crates/jcov/out
-# WORKERS names the numbers of workers (1 2 4), CASES and TURNS say how many cases and turns of a case there are, and ROUNDS how
-# often each is run (3). The machine should have nothing else to do: the load of the last minute is printed before and after.
+# WORKERS names the numbers of workers (1 2 4), CASES and TURNS say how many cases and turns of a case there are, CLASSES how many
+# classes they run in turn (1, so that all cases hit one word), and ROUNDS how often each is run (3). EVERY says behind how many
+# cases a dump is taken (none). The machine should have nothing else to do: the load of the last minute is printed before and after.
 set -e
 here=$(cd "$(dirname "$0")" && pwd)
 lib=$here/../lib
@@ -12,8 +13,10 @@ trap 'rm -rf "$folder"' EXIT
 cd "$folder"
 
 # A method that counts down to 0: `iload_0`, `ifeq`, `iinc`, and the probe of the `goto` back.
-python3 "$lib/class_bytes.py" > digits <<'CLASS'
-class A 52
+classes=$(seq -f 'C%g' "${CLASSES:-1}")
+for class in $classes; do
+python3 "$lib/class_bytes.py" > "$class.digits" <<CLASS
+class $class 52
 method 0x9 f (I)V 1 1
 iload_0
 ifeq 4
@@ -23,34 +26,39 @@ return
 frame 0 int |
 frame 4 int |
 CLASS
-python3 - "${CASES:-256}" "${TURNS:-1000000}" <<'PY'
+done
+python3 - "${CASES:-256}" "${TURNS:-1000000}" $classes <<'PY'
 import sys
 
-cases, turns = int(sys.argv[1]), int(sys.argv[2])
-with open("digits") as digits, open("A.class", "wb") as file:
-    file.write(bytes.fromhex(digits.read()))
+cases, turns, classes = int(sys.argv[1]), int(sys.argv[2]), sys.argv[3:]
+for name in classes:
+    with open(name + ".digits") as digits, open(name + ".class", "wb") as file:
+        file.write(bytes.fromhex(digits.read()))
 with open("p.txt", "w") as file:
-    file.write("case\nthread A.f 2147483647\nschedule robin %d\n" % turns * cases)
+    for case in range(cases):
+        file.write("case\nthread %s.f 2147483647\nschedule robin %d\n" % (classes[case % len(classes)], turns))
 PY
-"$jcov" instrument --dest out A.class
+"$jcov" instrument --dest out C*.class
 
 # The best of the rounds by the clock, with its processor time; and whether all left the same bytes.
 cat > measure.py <<'PY'
-import os, subprocess, sys, time
+import glob, os, subprocess, sys, time
 
-jcov, turns, rounds, numbers = sys.argv[1], int(sys.argv[2]), int(sys.argv[3]), sys.argv[4:]
+jcov, turns, rounds, every = sys.argv[1], int(sys.argv[2]), int(sys.argv[3]), sys.argv[4]
+numbers, files = sys.argv[5].split(), sorted(glob.glob("out/*.class"))
+dumps = ["--dumps", "d", "--every", every] if every else []
 first, wanted = None, None
 for workers in numbers:
     best = None
     for _ in range(rounds):
         with open("text", "wb") as text:
             begin = time.monotonic()
-            run = subprocess.Popen([jcov, "run", "--plan", "p.txt", "--destfile", "o", "--workers", workers, "out/A.class"], stdout=text)
+            run = subprocess.Popen([jcov, "run", "--plan", "p.txt", "--destfile", "o", *dumps, "--workers", workers, *files], stdout=text)
             _, status, usage = os.wait4(run.pid, 0)
             clock = time.monotonic() - begin
         if status != 0:
             sys.exit("jcov ended with wait status %d" % status)
-        left = open("text", "rb").read() + open("o", "rb").read()
+        left = open("text", "rb").read() + (b"" if dumps else open("o", "rb").read())
         wanted = left if wanted is None else wanted
         if left != wanted:
             sys.exit("%s workers leave other bytes" % workers)
@@ -62,5 +70,5 @@ for workers in numbers:
 print("all left the same bytes")
 PY
 echo "best of the rounds; MB is 1,000,000 bytes; load before: $(cut -d' ' -f1 /proc/loadavg); processors: $(nproc)"
-python3 measure.py "$jcov" $((${CASES:-256} * ${TURNS:-1000000})) "${ROUNDS:-3}" ${WORKERS:-1 2 4}
+python3 measure.py "$jcov" $((${CASES:-256} * ${TURNS:-1000000})) "${ROUNDS:-3}" "${EVERY:-}" "${WORKERS:-1 2 4}"
 echo "load after: $(cut -d' ' -f1 /proc/loadavg)"
