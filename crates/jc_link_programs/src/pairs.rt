@@ -2,10 +2,10 @@
 ghost use Rattle.std.specs.Prelude.{◌<◌, ◌^◌, length, IfOk, MatchOption};
 ghost use Rattle.jc_link_programs.specs.Pairs.{HaveOneId, HaveOneName, IsFirstPair, NoPair};
 
-use indexmap::IndexMap;
 use jc_bytes::{Memory, Names};
 use jc_programs::Linked;
 use std::alloc::Global;
+use std::collections::BTreeMap;
 
 /// The numbers of two classes.
 #[derive(Clone, Copy, Debug, PartialEq, Eq)]
@@ -41,7 +41,7 @@ pub fn first_of_one_id(alloc: Global, classes: &[Linked]) -> Result<Option<Pair>
     ensures { IfOk result (λ found. MatchOption found (NoPair (HaveOneId classes.now))
         (λ pair. IsFirstPair (HaveOneId classes.now) pair.first pair.second)) }
 {
-    let mut owners = IndexMap::new(alloc);
+    let mut owners = BTreeMap::new(alloc);
     'owning: for (second, class) in classes.iter().enumerate() {
         if let Some(init) = class.probes {
             match owners.get(&init.id) {
