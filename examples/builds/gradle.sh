@@ -33,22 +33,23 @@ dependencies {
 def original = sourceSets.main.output.classesDirs.singleFile
 def instrumented = new File(buildDir, 'instrumented')
 
-// A FILE is relative: the paths are those below the folder of the original classes, and so are those below `instrumented`.
+// A FILE is a relative path: each folder of the original classes by its path from the folder around them.
 task instrument(type: Exec, dependsOn: classes) {
-    def folders = []
     inputs.dir original
     outputs.dir instrumented
-    workingDir original
+    workingDir original.parentFile
     doFirst {
         delete instrumented
-        original.eachDirRecurse { folders << original.toPath().relativize(it.toPath()).toString() + '/' }
-        commandLine = ['jcov', 'instrument', '--dest', instrumented.path] + folders.sort()
+        def folders = [original]
+        original.eachDirRecurse { folders << it }
+        def words = folders.collect { original.parentFile.toPath().relativize(it.toPath()).toString() + '/' }
+        commandLine = ['jcov', 'instrument', '--dest', instrumented.path] + words.sort()
     }
 }
 
 // The instrumented classes stand in front of the originals, and RunCovered starts JUnit's own starter.
 task coveredTest(type: JavaExec, dependsOn: [instrument, testClasses]) {
-    classpath = files(instrumented) + sourceSets.test.runtimeClasspath + files(runtime)
+    classpath = files(new File(instrumented, original.name)) + sourceSets.test.runtimeClasspath + files(runtime)
     main = 'RunCovered'
     args "$buildDir/test.exec", 'org.junit.runner.JUnitCore', 'shop.PriceTest'
 }
@@ -59,5 +60,5 @@ export GRADLE_USER_HOME
 gradle --offline --no-daemon --quiet -p project -Pruntime="$folder/runtime" coveredTest > log 2>&1 || fail "$(cat log)"
 grep -E '^(instrumented|OK)' log
 cd project/build
-jcov report --csv report.csv --exec test.exec $(find classes/java/main -mindepth 1 -type d | sed 's,$,/,' | sort)
+jcov report --csv report.csv --exec test.exec $(find classes/java/main -type d | sed 's,$,/,' | sort)
 tail -n 1 report.csv
