@@ -13,7 +13,7 @@ ListenAddress 127.0.0.1
 Port $port
 HostKey $folder/ssh/host
 AuthorizedKeysFile $folder/ssh/key.pub
-PidFile $folder/ssh/pid
+PidFile none
 StrictModes no
 PasswordAuthentication no
 KbdInteractiveAuthentication no
@@ -32,8 +32,9 @@ Host second
 CONFIG
 # A server that root starts wants this folder.
 [ -d /run/sshd ] || [ "$(id -u)" -ne 0 ] || mkdir /run/sshd
-/usr/sbin/sshd -f "$folder/ssh/server" -E "$folder/ssh/log"
-trap 'kill "$(cat "$folder/ssh/pid")"; rm -rf "$folder"' EXIT
+/usr/sbin/sshd -D -f "$folder/ssh/server" -E "$folder/ssh/log" > said 2>&1 &
+server=$!
+trap 'kill $server || :; rm -rf "$folder"' EXIT
 for wait in 1 2 3 4 5 6 7 8 9 10; do
     ! ssh -F ssh/config second true 2> complaint || break
     [ "$wait" -lt 10 ] || fail "the ssh server doesn't answer: $(cat complaint ssh/log)"
